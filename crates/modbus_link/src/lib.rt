@@ -1,0 +1,16 @@
+//! The outside of a Modbus program: where its bytes come from and go to.
+//!
+//! A `Source` gives bytes and a `Sink` takes them; both are described by what they mean, so that a contract above can say which
+//! bytes a call read and wrote, in which pieces, and what failed. There are sources and sinks in memory, which tell all that, and
+//! adapters over the readers and writers of std, which tell only how often they failed.
+#![tactic(auto)]
+
+mod both;
+mod memory;
+mod outside;
+mod real;
+
+pub use both::Both;
+pub use memory::{MemorySink, MemorySource};
+pub use outside::{Ends, Failed, Sink, Source};
+pub use real::{ReadSource, WriteSink};

@@ -1,0 +1,255 @@
+//! A source and a sink in memory, for tests and for programs over bytes that they hold.
+ghost use Rattle.std.specs.Prelude.{[], ◌≡◌, ◌↔◌, ℕ, ◌+◌, ◌<◌, ◌≤◌, length, All, Contains, IsTrue, IfOk, OnErr, IsErr, vec_len, vec_capacity, slice_index};
+ghost use Rattle.std.specs.Io.{ReadsAtMost, WritesAtMost};
+ghost use Rattle.modbus_link.specs.Outside.{Rose, Advances, Extends, bytes_appended, ReadIsTold, front_of, untold_input, untold_output};
+ghost use Rattle.modbus_link.specs.Memory.{SourceState, SinkState, source_input, sink_output, source_at_start, sink_at_start, FailsNow, GivesMost, KeepsSource, FailsToTake, taken_of, KeepsSink};
+
+use crate::outside::{Ends, Failed, Sink, Source};
+use std::alloc::{AllocError, Global};
+use std::marker::Model;
+
+/// The end of a read that may go up to `end`: the first stop above `given`, or `end`.
+fn next_end(stops: &[usize], given: usize, end: usize) -> usize
+    requires { given < end }
+    ensures above { given < result }
+    ensures at_most { result ≤ end }
+    ensures passes_none { All (λ stop. given < stop → result ≤ stop) stops.now }
+    ensures most { result < end → Contains stops.now result }
+{
+    let mut first = end;
+    for stop in stops {
+        if given < *stop && *stop < first {
+            first = *stop;
+        }
+    }
+    first
+}
+
+/// A source over bytes in memory, which tells all of its content.
+///
+/// No read passes one of the given totals, and the reads of the given numbers (counted from 0) fail; otherwise a read gives as
+/// much as fits.
+#[derive(Drop)]
+pub struct MemorySource {
+    input: Vec<u8>,
+    stops: Vec<usize>,
+    fails: Vec<u64>,
+    rooms: Vec<usize>,
+    given: usize,
+    calls: u64,
+    faults: u64,
+}
+
+impl Model for MemorySource {
+    ghost use Rattle.std.specs.Prelude.{◌≡◌, ℕ, ◌≤◌, vec_len, slice_index};
+    ghost use Rattle.modbus_link.specs.Memory.{SourceState};
+
+    ghost Value = { SourceState };
+
+    ghost view = { λ s. record { bytes = s.input.items; stops = s.stops.items; fails = s.fails.items; rooms = s.rooms.items; given = s.given; calls = s.calls; faults = s.faults } };
+
+    ghost invariant = { λ s. record {
+      within : s.given ≤ vec_len s.input;
+      rooms_for_all : vec_len s.rooms ≡ vec_len s.input;
+      none_yet : (k : ℕ) → s.given ≤ k → slice_index s.rooms.items k ≡ 0;
+    } };
+}
+
+impl MemorySource {
+    /// A source that gives `input`. No read of it passes a total in `stops`, and a read fails exactly where its number, from
+    /// 0, is in `fails`.
+    ///
+    /// # Errors
+    /// `AllocError` where memory is refused.
+    pub fn new(
+        alloc: Global,
+        input: &[u8],
+        stops: &[usize],
+        fails: &[u64],
+    ) -> Result<MemorySource, AllocError>
+        ensures start { IfOk result (λ source. source ≡ source_at_start input.now stops.now fails.now) }
+        ensures no_cuts { IfOk result (λ source. (source_input source).cuts ≡ []) }
+    {
+        Ok(MemorySource {
+            input: Vec::from_slice(alloc, input)?,
+            stops: Vec::from_slice(alloc, stops)?,
+            fails: Vec::from_slice(alloc, fails)?,
+            rooms: Vec::from_elem(alloc, 0usize, input.len())?,
+            given: 0,
+            calls: 0,
+            faults: 0,
+        })
+    }
+
+    /// How many bytes were given.
+    pub fn given(&self) -> usize
+        ensures { result ≡ self.now.given }
+    {
+        self.given
+    }
+}
+
+impl Ends for MemorySource {
+    ghost input = { source_input };
+}
+
+impl Source for MemorySource {
+    fn read(&mut self, room: &mut [u8]) -> Result<usize, Failed>
+        requires { 0 < length room.old }
+        ensures bound { ReadsAtMost result room.new }
+        ensures source { Advances (source_input self.old) (source_input self.new) }
+        ensures told { IsTrue (source_input self.old).told → ReadIsTold (source_input self.old) (source_input self.new) room.old room.new result }
+        ensures cause { OnErr result (Rose (source_input self.old).faults (source_input self.new).faults) }
+        ensures sink { untold_output 0 ≡ untold_output 0 }
+
+        ensures fails { IsErr result ↔ FailsNow self.old.fails self.old.calls }
+        ensures most { IfOk result (GivesMost self.old (length room.old)) }
+        ensures keeps { KeepsSource self.old self.new }
+    {
+        let call = self.calls;
+        self.calls = call.saturating_add(1);
+        if self.fails.contains(&call) {
+            self.faults = self.faults.saturating_add(1);
+            return Err(Failed);
+        }
+        let left = self.input.len() - self.given;
+        if left == 0 {
+            return Ok(0);
+        }
+        let size = room.len();
+        let end = self.given + size.min(left);
+        let end = next_end(&self.stops, self.given, end);
+        let count = end - self.given;
+        room[..count].copy_from_slice(&self.input[self.given..end]);
+        self.rooms[end - 1] = size;
+        self.given = end;
+        Ok(count)
+    }
+}
+
+/// A sink into memory of a fixed capacity, which tells all that was appended.
+///
+/// A write takes at most a given number of bytes and what is free. The writes of the given numbers (counted from 0) fail, and
+/// so does a write of some bytes into a full sink.
+#[derive(Drop)]
+pub struct MemorySink {
+    bytes: Vec<u8>,
+    capacity: usize,
+    most: usize,
+    fails: Vec<u64>,
+    calls: u64,
+    faults: u64,
+}
+
+impl Model for MemorySink {
+    ghost use Rattle.std.specs.Prelude.{◌<◌, ◌≤◌, vec_len, vec_capacity};
+    ghost use Rattle.modbus_link.specs.Memory.{SinkState};
+
+    ghost Value = { SinkState };
+
+    ghost view = { λ s. record { bytes = s.bytes.items; capacity = s.capacity; most = s.most; fails = s.fails.items; calls = s.calls; faults = s.faults } };
+
+    ghost invariant = { λ s. record {
+      some : 0 < s.most;
+      within : vec_len s.bytes ≤ s.capacity;
+      reserved : s.capacity ≤ vec_capacity s.bytes;
+    } };
+}
+
+impl MemorySink {
+    /// A sink that holds at most `capacity` bytes and takes at most `most` at a write; a write fails exactly where its number,
+    /// from 0, is in `fails`, or the sink is full and there is something to write.
+    ///
+    /// # Errors
+    /// `AllocError` where memory is refused.
+    pub fn new(
+        alloc: Global,
+        capacity: usize,
+        most: usize,
+        fails: &[u64],
+    ) -> Result<MemorySink, AllocError>
+        requires { 0 < most }
+        ensures { IfOk result (λ sink. sink ≡ sink_at_start capacity most fails.now) }
+    {
+        Ok(MemorySink {
+            bytes: Vec::with_capacity(alloc, capacity)?,
+            capacity,
+            most,
+            fails: Vec::from_slice(alloc, fails)?,
+            calls: 0,
+            faults: 0,
+        })
+    }
+
+    /// What was appended.
+    pub fn bytes(&self) -> &[u8]
+        ensures { result.now ≡ self.now.bytes }
+    {
+        self.bytes.as_slice()
+    }
+}
+
+impl Ends for MemorySink {
+    ghost output = { sink_output };
+}
+
+impl Sink for MemorySink {
+    fn write(&mut self, piece: &[u8]) -> Result<usize, Failed>
+        ensures bound { WritesAtMost result piece.now }
+        ensures some { IfOk result (λ count. 0 < length piece.now → 0 < count) }
+        ensures sink { Extends (sink_output self.old) (sink_output self.new) }
+        ensures told { IsTrue (sink_output self.old).told → bytes_appended (sink_output self.old) (sink_output self.new) ≡ front_of result piece.now }
+        ensures cause { OnErr result (Rose (sink_output self.old).faults (sink_output self.new).faults) }
+        ensures source { untold_input 0 ≡ untold_input 0 }
+
+        ensures fails { IsErr result ↔ FailsToTake self.old (length piece.now) }
+        ensures takes { IfOk result (λ count. count ≡ taken_of self.old (length piece.now)) }
+        ensures keeps { KeepsSink self.old self.new }
+    {
+        let call = self.calls;
+        self.calls = call.saturating_add(1);
+        let free = self.capacity - self.bytes.len();
+        if self.fails.contains(&call) || (free == 0 && !piece.is_empty()) {
+            self.faults = self.faults.saturating_add(1);
+            return Err(Failed);
+        }
+        let count = piece.len().min(self.most.min(free));
+        match self.bytes.extend_from_slice(&piece[..count]) {
+            Ok(()) => Ok(count),
+            Err(_) => unreachable!(),
+        }
+    }
+}
+
+#[cfg(test)]
+mod tests {
+    use super::*;
+    use std::test::Fail;
+
+    #[test]
+    fn reads_stop_at_stops_and_fail_by_number(rt: HostRuntime) -> Result<(), Fail> {
+        let mut source = MemorySource::new(rt.alloc(), b"abcdef", &[2, 9], &[1])?;
+        let mut room = [0u8; 3];
+        assert_eq!(rt; source.read(&mut room), Ok(2));
+        assert_eq!(rt; room, *b"ab\0");
+        assert_eq!(rt; source.read(&mut room), Err(Failed));
+        assert_eq!(rt; source.read(&mut room), Ok(3));
+        assert_eq!(rt; room, *b"cde");
+        assert_eq!(rt; source.given(), 5);
+        assert_eq!(rt; source.read(&mut room), Ok(1));
+        assert_eq!(rt; source.read(&mut room), Ok(0));
+        Ok(())
+    }
+
+    #[test]
+    fn writes_take_what_is_free_and_fail_by_number(rt: HostRuntime) -> Result<(), Fail> {
+        let mut sink = MemorySink::new(rt.alloc(), 5, 3, &[1])?;
+        assert_eq!(rt; sink.write(b"abcd"), Ok(3));
+        assert_eq!(rt; sink.write(b"d"), Err(Failed));
+        assert_eq!(rt; sink.write(b"defg"), Ok(2));
+        assert_eq!(rt; sink.write(b"f"), Err(Failed));
+        assert_eq!(rt; sink.write(b""), Ok(0));
+        assert_eq!(rt; sink.bytes(), b"abcde".as_slice());
+        Ok(())
+    }
+}
