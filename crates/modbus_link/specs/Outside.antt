@@ -83,6 +83,10 @@ pub record Extends (old new : Output) : Type 0 where
   pub no_fault : IsTrue old.told → length new.bytes < old.sure_below → new.faults ≡ old.faults
   pub content : IsTrue old.told → new.bytes ≡ old.bytes ++ bytes_appended old new
 
+-- these bytes are a front of those
+abbrev pub IsFront : List ℕ → List ℕ → Type 0
+IsFront front whole = (rest : List ℕ) × (whole ≡ front ++ rest)
+
 -- what a source means that tells nothing but how often it failed
 abbrev pub untold_input : ℕ → Input
 untold_input faults = record { told = false; left = []; given = 0; cuts = []; faults = faults; sure = false; names = [] }

@@ -9,8 +9,10 @@ mod both;
 mod memory;
 mod outside;
 mod real;
+mod write;
 
 pub use both::Both;
 pub use memory::{MemorySink, MemorySource};
 pub use outside::{Ends, Failed, Sink, Source};
 pub use real::{ReadSource, WriteSink};
+pub use write::write_all;

@@ -1,0 +1,4 @@
+pub mod Same
+pub mod SameAnswer
+pub mod SameFrame
+pub mod SameRequest

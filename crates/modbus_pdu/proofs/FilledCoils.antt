@@ -1,0 +1,31 @@
+-- Packed coils, eight of each byte read, are the coils and those that fill the last byte.
+use Rattle.std.proofs.Common.{◌≡◌, ℕ, ◌+◌, ◌-◌, ◌*◌, ◌/◌, ◌%◌, ◌<◌, Bool, true, false, List, ◌++◌, length, get_or, refl, sym, ◌∙◌, arith, eqb, inl, inr, length-append}
+use Rattle.std.proofs.lemmas.List.{get_or_append_left, get_or-append_right, get_or-replicate, get_or_past, length-replicate}
+use Rattle.std.proofs.lemmas.List.FromFn.{fill_by_all, get_or-map-range_with_len}
+use Rattle.std.proofs.lemmas.Bool.{cases_lt}
+use Rattle.std.proofs.Math.ListN.{replicate}
+use Rattle.modbus_pdu.specs.Fields.{bit_of, bits_at, coil_at, coils_of, packed, packed_size}
+use Rattle.modbus_pdu.specs.ResponseLaws.{filled}
+use Rattle.modbus_pdu.proofs.Unpacked.{packed_bit}
+
+-- so many false ones after the coils change none of them
+same_coil : (coils : List Bool) (more k : ℕ) → k < length coils + more → get_or (coils ++ replicate more false) k false ≡ get_or coils k false
+same_coil coils more k h =
+    elim (cases_lt k (length coils)) [
+      | inl lt ↦ get_or_append_left coils (replicate more false) false k lt
+      | inr le ↦
+          get_or-append_right coils (replicate more false) (length coils) k false refl le
+          ∙ get_or-replicate more (k - length coils) false false (omega arith)
+          ∙ sym (get_or_past coils k false le)
+    ]
+
+length_filled : (coils : List Bool) → length (filled coils) ≡ 8 * packed_size (length coils)
+length_filled coils =
+    let more = 8 * packed_size (length coils) - length coils in
+    omega (arith, length-append coils (replicate more false), length-replicate more false)
+
+pub filled_back : (coils : List Bool) → coils_of (packed coils) (8 * packed_size (length coils)) ≡ filled coils
+filled_back coils =
+    let more = 8 * packed_size (length coils) - length coils in
+    sym (fill_by_all (coil_at (packed coils)) (filled coils) (8 * packed_size (length coils)) false (length_filled coils)
+    (λ k h. same_coil coils more k (omega arith) ∙ sym (packed_bit coils k h)))

@@ -1,0 +1,11 @@
+pub mod Sizes
+pub mod Bits
+pub mod Again
+pub mod First
+pub mod Unpacked
+pub mod Registers
+pub mod FilledCoils
+pub mod ObjectsBack
+pub mod ReadObjects
+pub mod ResponsesBack
+pub mod WriteObjects

@@ -1,0 +1,35 @@
+-- How long what is written is.
+use Rattle.std.proofs.Common.{◌≡◌, ℕ, ◌*◌, Bool, List, [], ◌∷◌, length, refl, arith, length-append}
+use Rattle.std.proofs.lemmas.List.FromFn.{length-map-range_with_len}
+use Rattle.modbus_pdu.specs.Fields.{bits_at, packed, packed_size}
+use Rattle.modbus_frame.specs.Meaning.{Asked, ReadCoils, ReadDiscreteInputs, WriteSingleCoil, WriteMultipleCoils, ReadInputRegisters, ReadHoldingRegisters, WriteSingleRegister, WriteMultipleRegisters, ReportServerId, MaskWriteRegister, ReadWriteMultipleRegisters, ReadDeviceIdentification, Custom}
+use Rattle.modbus_pdu.specs.Laws.{request_size}
+use Rattle.modbus_pdu.specs.RequestPdu.{request_pdu}
+use Rattle.modbus_pdu.specs.Writing.{word, words}
+
+pub words_length : (ns : List ℕ) → length (words ns) ≡ 2 * length ns
+unfolding words
+words_length [] = refl
+words_length (n ∷ ns) = omega (arith, length-append (word n) (words ns), words_length ns)
+
+pub packed_length : (coils : List Bool) → length (packed coils) ≡ packed_size (length coils)
+unfolding packed
+packed_length coils = length-map-range_with_len (λ (k : ℕ). bits_at coils (8 * k) 8) 0 (packed_size (length coils))
+
+pub request_length : (r : Asked) → length (request_pdu r) ≡ request_size r
+unfolding request_pdu
+request_length (ReadCoils address quantity) = refl
+request_length (ReadDiscreteInputs address quantity) = refl
+request_length (ReadHoldingRegisters address quantity) = refl
+request_length (ReadInputRegisters address quantity) = refl
+request_length (WriteSingleCoil address coil) = refl
+request_length (WriteSingleRegister address word) = refl
+request_length (WriteMultipleCoils address coils) = omega (arith, packed_length coils)
+request_length (WriteMultipleRegisters address registers) = omega (arith, words_length registers)
+request_length ReportServerId = refl
+request_length (MaskWriteRegister address and_mask or_mask) = refl
+request_length (ReadWriteMultipleRegisters read_address quantity write_address registers) = omega (arith, words_length registers)
+request_length (ReadDeviceIdentification code id) = refl
+request_length (Custom code bytes) = omega arith
+
+pub ruleset sizes = (words_length, packed_length)

@@ -1,0 +1,9 @@
+pub mod Fields
+pub mod Laws
+pub mod Reading
+pub mod RequestOf
+pub mod RequestPdu
+pub mod Writing
+pub mod ResponseLaws
+pub mod ResponseOf
+pub mod ResponsePdu

@@ -1,0 +1,53 @@
+-- The responses that are read back from their PDUs, and as what.
+use Rattle.std.specs.Prelude.{◌≡◌, ◌-◌, ◌*◌, ◌<◌, ◌≤◌, Bool, false, List, ◌++◌, length, replicate, Ok, Err, ⊤}
+use Rattle.std.specs.List.{AllByRecursion}
+use Rattle.modbus_frame.specs.Answered.{function_answered}
+use Rattle.modbus_frame.specs.Codes.{function_number, function_of, exception_number, exception_of}
+use Rattle.modbus_frame.specs.declared.response.Response.{Response}
+use Rattle.modbus_frame.specs.declared.response.Response.TheVariants as response
+use Rattle.modbus_frame.specs.declared.response.ExceptionResponse.{ExceptionResponse}
+use Rattle.modbus_pdu.specs.Fields.{packed_size}
+use Rattle.modbus_pdu.specs.Laws.{IsWord}
+use Rattle.modbus_pdu.specs.RequestOf.{IsModelled}
+use Rattle.modbus_pdu.specs.ResponseOf.{response_of, response_result_of}
+use Rattle.modbus_pdu.specs.ResponsePdu.{response_pdu, exception_pdu}
+
+-- each address, quantity and word is below 2^16, and the code of a `Custom` stands for no other kind
+abbrev pub IsResponse : Response → Type 0
+IsResponse (response.ReadCoils coils) = ⊤
+IsResponse (response.ReadDiscreteInputs coils) = ⊤
+IsResponse (response.WriteSingleCoil address coil) = IsWord address
+IsResponse (response.WriteMultipleCoils address quantity) = IsWord address × IsWord quantity
+IsResponse (response.ReadInputRegisters words) = AllByRecursion IsWord words
+IsResponse (response.ReadHoldingRegisters words) = AllByRecursion IsWord words
+IsResponse (response.WriteSingleRegister address word) = IsWord address × IsWord word
+IsResponse (response.WriteMultipleRegisters address quantity) = IsWord address × IsWord quantity
+IsResponse (response.ReportServerId id run extra) = ⊤
+IsResponse (response.MaskWriteRegister address and_mask or_mask) = IsWord address × IsWord and_mask × IsWord or_mask
+IsResponse (response.ReadWriteMultipleRegisters words) = AllByRecursion IsWord words
+IsResponse (response.ReadDeviceIdentification found) = ⊤
+IsResponse (response.Custom code bytes) = IsModelled code → ⊥
+
+-- the coils, and after them as many that are false as fill the last byte
+abbrev pub filled : List Bool → List Bool
+filled coils = coils ++ replicate (8 * packed_size (length coils) - length coils) false
+
+-- the response, with its coils filled: a PDU tells how many bytes of coils it has, and not how many
+-- of them were asked for (MODBUS Application Protocol V1.1b3, section 6.1)
+abbrev pub with_filled_coils : Response → Response
+with_filled_coils (response.ReadCoils coils) = response.ReadCoils (filled coils)
+with_filled_coils (response.ReadDiscreteInputs coils) = response.ReadDiscreteInputs (filled coils)
+with_filled_coils other = other
+
+-- what is written is read again, but for the coils that fill the last byte
+abbrev pub ResponseReadsBack : Response → Type 0
+ResponseReadsBack r = IsResponse r → length (response_pdu r) ≤ 253 → response_of (response_pdu r) ≡ Ok (with_filled_coils r)
+
+-- the same of what a server's PDU stands for, where the function code is below 80
+abbrev pub ResultReadsBack : Response → Type 0
+ResultReadsBack r = IsResponse r → function_number (function_answered r) < 0x80 → length (response_pdu r) ≤ 253 → response_result_of (response_pdu r) ≡ Ok (Ok (with_filled_coils r))
+
+-- what is written of an exception is read again, as the codes that its two numbers stand for: a
+-- `Custom` with the number of a named code is read as that one
+abbrev pub ExceptionReadsBack : ExceptionResponse → Type 0
+ExceptionReadsBack e = function_number e.function < 0x80 → response_result_of (exception_pdu e) ≡ Ok (Err (record { function = function_of (function_number e.function); exception = exception_of (exception_number e.exception) }))

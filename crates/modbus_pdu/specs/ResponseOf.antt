@@ -1,0 +1,147 @@
+-- The response that a PDU stands for, or the reason why it stands for none, by places of the whole
+-- PDU. Place 0 is the function code. Of several reasons it is the first one of the kind's list. Codes
+-- and bytes are hexadecimal.
+-- (MODBUS Application Protocol V1.1b3, sections 4.1, 6 and 7)
+use Rattle.std.specs.Prelude.{ℕ, zero, suc, ◌+◌, ◌-◌, ◌*◌, ◌/◌, ◌%◌, Bool, true, false, List, [], ◌∷◌, length, take, drop, slice_index, ◌==◌, nat_lt, Some, None, Result, Ok, Err, if◌then◌else◌}
+use Rattle.modbus_frame.specs.declared.fault.Reason.{Reason}
+use Rattle.modbus_frame.specs.declared.fault.Reason.TheVariants as reason
+use Rattle.modbus_frame.specs.declared.code.ConformityLevel.{ConformityLevel}
+use Rattle.modbus_frame.specs.declared.identification.DeviceIdObject.{DeviceIdObject}
+use Rattle.modbus_frame.specs.declared.identification.ReadDeviceIdentificationResponse.{ReadDeviceIdentificationResponse}
+use Rattle.modbus_frame.specs.declared.response.Response.{Response}
+use Rattle.modbus_frame.specs.declared.response.Response.TheVariants as response
+use Rattle.modbus_frame.specs.declared.response.ExceptionResponse.{ExceptionResponse}
+use Rattle.modbus_frame.specs.Codes.{function_of, exception_of, level_of}
+use Rattle.modbus_pdu.specs.Fields.{words_of, coils_of}
+use Rattle.modbus_pdu.specs.Reading.{◌>>=◌, read_code_or}
+use Rattle.modbus_pdu.specs.RequestOf.{two_words_of, single_coil_of, three_words_of}
+
+-- 01, 02: at most 253 bytes; the byte count at place 1, and exactly so many bytes of packed coils,
+-- eight in each (sections 6.1, 6.2)
+unfoldable pub coils_read_of : List ℕ → Result (List Bool) Reason
+coils_read_of pdu =
+    let count = slice_index pdu 1 in
+    if nat_lt 253 (length pdu) then Err reason.SizeExceeded
+    else if nat_lt (length pdu) 2 then Err reason.UnexpectedEnd
+    else if nat_lt (length pdu) (2 + count) then Err reason.TooShort
+    else if nat_lt (2 + count) (length pdu) then Err reason.UndecodedData
+    else Ok (coils_of (drop 2 pdu) (8 * count))
+
+-- 03, 04, 17: at most 253 bytes; the byte count at place 1, which is even, and exactly so many
+-- bytes of words (sections 6.3, 6.4, 6.17)
+unfoldable pub words_read_of : List ℕ → Result (List ℕ) Reason
+words_read_of pdu =
+    let count = slice_index pdu 1 in
+    if nat_lt 253 (length pdu) then Err reason.SizeExceeded
+    else if nat_lt (length pdu) 2 then Err reason.UnexpectedEnd
+    else if count % 2 == 1 then Err reason.InvalidQuantity
+    else if nat_lt (length pdu) (2 + count) then Err reason.UnexpectedEnd
+    else if nat_lt (2 + count) (length pdu) then Err reason.UndecodedData
+    else Ok (words_of (drop 2 pdu) (count / 2))
+
+-- the run indicator: FF is on, 00 is off (section 6.13)
+abbrev pub run_status_of : ℕ → Result Bool Reason
+run_status_of status =
+    if status == 0xFF then Ok true
+    else if status == 0x00 then Ok false
+    else Err (reason.InvalidRunStatus status)
+
+-- 11: at most 253 bytes; the byte count at place 1, which counts the server's id at place 2, its
+-- run indicator at place 3, and the data after these (section 6.13)
+unfoldable pub server_id_of : List ℕ → Result (ℕ × Bool × List ℕ) Reason
+server_id_of pdu =
+    let count = slice_index pdu 1 in
+    if nat_lt 253 (length pdu) then Err reason.SizeExceeded
+    else if nat_lt (length pdu) 2 then Err reason.UnexpectedEnd
+    else if nat_lt count 2 then Err reason.TooShort
+    else if nat_lt (length pdu) 4 then Err reason.UnexpectedEnd
+    else (run_status_of (slice_index pdu 3) >>= λ run.
+    if nat_lt (length pdu) (2 + count) then Err reason.UnexpectedEnd
+    else if nat_lt (2 + count) (length pdu) then Err reason.UndecodedData
+    else Ok (slice_index pdu 2, run, drop 4 pdu))
+
+-- the value of the object at a place: so many bytes as the byte after its id tells
+abbrev pub value_at : List ℕ → ℕ → List ℕ
+value_at pdu place = take (slice_index pdu (place + 1)) (drop (place + 2) pdu)
+
+-- the place after the object at a place
+abbrev pub after_object : List ℕ → ℕ → ℕ
+after_object pdu place = place + 2 + slice_index pdu (place + 1)
+
+-- the object at a place, and the place after it: its id, its length and its value (section 6.21)
+unfoldable pub object_at : ℕ → List ℕ → Result (DeviceIdObject × ℕ) Reason
+object_at place pdu =
+    if nat_lt (length pdu) (place + 2) then Err reason.UnexpectedEnd
+    else if nat_lt (length pdu) (after_object pdu place) then Err reason.InvalidObjectLength
+    else Ok (record { id = slice_index pdu place; value = value_at pdu place }, after_object pdu place)
+
+-- so many objects from a place on, one after another, and the place after the last of them
+unfoldable pub objects_at : ℕ → ℕ → List ℕ → Result (List DeviceIdObject × ℕ) Reason
+objects_at zero place pdu = Ok ([], place)
+objects_at (suc n) place pdu =
+    object_at place pdu >>= λ first.
+    objects_at n first.1 pdu >>= λ others. Ok (first.0 ∷ others.0, others.1)
+
+-- the conformity level of a number, or its refusal
+abbrev pub level_or : ℕ → Result ConformityLevel Reason
+level_or number = elim (level_of number) [ None ↦ Err (reason.InvalidConformity number) | Some level ↦ Ok level ]
+
+-- 2B: the MEI type 0E at place 1; at most 253 bytes; the read code, the conformity level, FF where
+-- more follows, the next object's id, the number of objects, and these from place 7 to the end
+-- (sections 6.19, 6.21)
+unfoldable pub device_identification_of : List ℕ → Result ReadDeviceIdentificationResponse Reason
+device_identification_of pdu =
+    if nat_lt (length pdu) 2 then Err reason.UnexpectedEnd
+    else if slice_index pdu 1 == 0x0E then
+    (if nat_lt 253 (length pdu) then Err reason.SizeExceeded
+    else if nat_lt (length pdu) 3 then Err reason.UnexpectedEnd
+    else (read_code_or (slice_index pdu 2) >>= λ code.
+    if nat_lt (length pdu) 4 then Err reason.UnexpectedEnd
+    else (level_or (slice_index pdu 3) >>= λ level.
+    if nat_lt (length pdu) 7 then Err reason.UnexpectedEnd
+    else (objects_at (slice_index pdu 6) 7 pdu >>= λ found.
+    if nat_lt found.1 (length pdu) then Err reason.UndecodedData
+    else Ok (record { read_code = code; conformity_level = level; more_follows = slice_index pdu 4 == 0xFF; next_object_id = slice_index pdu 5; device_id_objects = found.0 })))))
+    else Err (reason.UnsupportedMei (slice_index pdu 1))
+
+-- the response of a PDU with this function code. 05, 06, 0F, 10 and 16 are spelled as requests are
+-- whose fields they repeat (sections 6.5, 6.6, 6.11, 6.12, 6.16); a code that has no kind of its own
+-- is `Custom` with the bytes after it, also one of 80 or above
+unfoldable pub answered_by : ℕ → List ℕ → Result Response Reason
+answered_by code pdu =
+    if code == 0x01 then (coils_read_of pdu >>= λ coils. Ok (response.ReadCoils coils))
+    else if code == 0x02 then (coils_read_of pdu >>= λ coils. Ok (response.ReadDiscreteInputs coils))
+    else if code == 0x03 then (words_read_of pdu >>= λ words. Ok (response.ReadHoldingRegisters words))
+    else if code == 0x04 then (words_read_of pdu >>= λ words. Ok (response.ReadInputRegisters words))
+    else if code == 0x05 then (single_coil_of pdu >>= λ x. Ok (response.WriteSingleCoil x.0 x.1))
+    else if code == 0x06 then (two_words_of pdu >>= λ x. Ok (response.WriteSingleRegister x.0 x.1))
+    else if code == 0x0F then (two_words_of pdu >>= λ x. Ok (response.WriteMultipleCoils x.0 x.1))
+    else if code == 0x10 then (two_words_of pdu >>= λ x. Ok (response.WriteMultipleRegisters x.0 x.1))
+    else if code == 0x11 then (server_id_of pdu >>= λ x. Ok (response.ReportServerId x.0 x.1 x.2))
+    else if code == 0x16 then (three_words_of pdu >>= λ x. Ok (response.MaskWriteRegister x.0 x.1 x.2))
+    else if code == 0x17 then (words_read_of pdu >>= λ words. Ok (response.ReadWriteMultipleRegisters words))
+    else if code == 0x2B then (device_identification_of pdu >>= λ found. Ok (response.ReadDeviceIdentification found))
+    else Ok (response.Custom code (drop 1 pdu))
+
+-- the response of a PDU, by its function code (section 6)
+unfoldable pub response_of : List ℕ → Result Response Reason
+response_of pdu =
+    if nat_lt (length pdu) 1 then Err reason.UnexpectedEnd
+    else answered_by (slice_index pdu 0) pdu
+
+-- the exception of a PDU: the function code plus 80, then the exception code. What follows them
+-- is not looked at (section 7)
+unfoldable pub exception_response_of : List ℕ → Result ExceptionResponse Reason
+exception_response_of pdu =
+    if nat_lt (length pdu) 1 then Err reason.UnexpectedEnd
+    else if nat_lt (slice_index pdu 0) 0x80 then Err (reason.InvalidFunction (slice_index pdu 0))
+    else if nat_lt (length pdu) 2 then Err reason.UnexpectedEnd
+    else Ok (record { function = function_of (slice_index pdu 0 - 0x80); exception = exception_of (slice_index pdu 1) })
+
+-- what a server's PDU stands for: a response, or from the function code 80 on an exception
+-- (section 7)
+unfoldable pub response_result_of : List ℕ → Result (Result Response ExceptionResponse) Reason
+response_result_of pdu =
+    if nat_lt (length pdu) 1 then Err reason.UnexpectedEnd
+    else if nat_lt (slice_index pdu 0) 0x80 then (response_of pdu >>= λ answer. Ok (Ok answer))
+    else (exception_response_of pdu >>= λ refusal. Ok (Err refusal))

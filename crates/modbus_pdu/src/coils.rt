@@ -1,0 +1,112 @@
+//! Coils as words, and packed eight a byte (V1.1b3, sections 6.1, 6.5 and 6.11).
+ghost use Rattle.std.specs.Prelude.{◌≡◌, ◌+◌, ◌*◌, ◌≤◌, ◌++◌, length, slice_index_or, false, OnErr, OnOk, IfOk};
+ghost use Rattle.bytes.specs.Filled.{UsesSpare};
+ghost use Rattle.modbus_pdu.specs.Fields.{bits_at, coil_of, coil_word, coils_of, packed, packed_size};
+
+use bytes::BytesMut;
+use modbus_frame::{Coil, Coils, Reason};
+use std::alloc::{AllocError, Global};
+
+const ON: u16 = 0xFF00;
+
+const OFF: u16 = 0x0000;
+
+/// The word that stands for a coil's state in a write of one coil: 0xFF00 for on, 0x0000 for off
+/// (V1.1b3, section 6.5).
+pub fn bool_to_coil(state: bool) -> u16
+    ensures { result ≡ coil_word state }
+{
+    if state { ON } else { OFF }
+}
+
+/// The coil's state that a word stands for (V1.1b3, section 6.5).
+///
+/// `InvalidCoil` holds a word that is neither 0xFF00 nor 0x0000.
+pub fn coil_to_bool(coil: u16) -> Result<bool, Reason>
+    ensures { result ≡ coil_of coil }
+{
+    match coil {
+        ON => Ok(true),
+        OFF => Ok(false),
+        _ => Err(Reason::InvalidCoil(coil)),
+    }
+}
+
+/// How many bytes the coils take when they are packed, eight a byte (V1.1b3, section 6.11).
+pub fn packed_coils_size(coils: &[Coil]) -> usize
+    ensures { result ≡ packed_size (length coils.now) }
+{
+    coils.len().div_ceil(8)
+}
+
+/// The first `count` coils of packed bytes, where coil i is bit `i % 8` of byte `i / 8`
+/// (V1.1b3, section 6.1).
+///
+/// Further bits and bytes are ignored. The one error is want of memory.
+pub fn decode_packed_coils(alloc: Global, bytes: &[u8], count: u16) -> Result<Coils, AllocError>
+    requires { count ≤ 8 * length bytes.now }
+    ensures { IfOk result (λ coils. coils ≡ coils_of bytes.now count) }
+{
+    let mut coils = Vec::with_capacity(alloc, count as usize)?;
+    for i in 0..count as usize {
+        coils.push((bytes[i / 8] >> (i % 8)) % 2 == 1)?;
+    }
+    Ok(Coils::new(coils))
+}
+
+/// Appends the coils packed, where coil i is bit `i % 8` of byte `i / 8` and unused bits are 0
+/// (V1.1b3, section 6.11), and answers how many bytes these are.
+///
+/// The one error is want of memory, which leaves the bytes of the buffer as they were and comes
+/// only where the buffer had no room for all of them.
+#[tactic(auto, using(crate::proofs::Sizes::sizes))]
+pub fn encode_packed_coils(
+    _alloc: Global,
+    buf: &mut BytesMut,
+    coils: &[Coil],
+) -> Result<usize, AllocError>
+    ensures ok { OnOk result (buf.new.items ≡ buf.old.items ++ packed coils.now) }
+    ensures size { IfOk result (λ size. size ≡ length (packed coils.now)) }
+    ensures err { OnErr result (buf.new.items ≡ buf.old.items) }
+    ensures spare { UsesSpare result buf.old.spare buf.new.spare (length (packed coils.now)) }
+{
+    let size = packed_coils_size(coils);
+    buf.reserve(size)?;
+    put_packed_coils(buf, coils);
+    Ok(size)
+}
+
+/// Appends the coils packed, where the buffer has room for them.
+#[tactic(auto, unfolding(crate::specs::Fields::packed))]
+pub(crate) fn put_packed_coils(buf: &mut BytesMut, coils: &[Coil])
+    requires { packed_size (length coils.now) ≤ buf.old.spare }
+    ensures items { buf.new.items ≡ buf.old.items ++ packed coils.now }
+    ensures spare { buf.new.spare + packed_size (length coils.now) ≡ buf.old.spare }
+{
+    for k in 0..packed_coils_size(coils) {
+        buf.extend_reserved(&[packed_byte(coils, 8 * k)]);
+    }
+}
+
+/// The eight coils from a place on, the first in the lowest bit. Those past the end are off.
+#[tactic(auto, unfolding(crate::specs::Fields::bits_at))]
+fn packed_byte(coils: &[Coil], place: usize) -> u8
+    requires { place ≤ length coils.now }
+    ensures { result ≡ bits_at coils.now place 8 }
+{
+    let mut byte = 0u8;
+    for i in 0..8 {
+        let is_on = coil_or_off(coils, place + i);
+        if is_on {
+            byte += 1 << i;
+        }
+    }
+    byte
+}
+
+/// The coil at a place, or off past the end.
+fn coil_or_off(coils: &[Coil], place: usize) -> bool
+    ensures { result ≡ slice_index_or coils.now place false }
+{
+    coils.get(place).copied().unwrap_or(false)
+}

@@ -1,0 +1,54 @@
+//! Exception responses, read from PDUs and written.
+//!
+//! A server that refuses a request answers with the request's function code plus 0x80, and the
+//! exception code (MODBUS Application Protocol V1.1b3, section 7).
+ghost use Rattle.std.specs.Prelude.{◌≡◌, ◌<◌, ◌++◌, OnOk, OnErr};
+ghost use Rattle.modbus_frame.specs.Codes.{function_number};
+ghost use Rattle.modbus_pdu.specs.ResponseOf.{exception_response_of};
+ghost use Rattle.modbus_pdu.specs.ResponsePdu.{exception_pdu};
+
+use crate::writing::put_byte;
+use bytes::BytesMut;
+use modbus_frame::{ExceptionCode, ExceptionResponse, FunctionCode, Reason};
+use std::alloc::{AllocError, Global};
+
+/// What an exception adds to the function code of the request.
+pub(crate) const EXCEPTION_BIT: u8 = 0x80;
+
+/// How many bytes the PDU of an exception has.
+pub(crate) const EXCEPTION_SIZE: usize = 2;
+
+/// The exception of a PDU (section 7).
+///
+/// `UnexpectedEnd` where one of its two bytes is missing, and `InvalidFunction` with a first byte
+/// below 0x80, also where it is the only one. Bytes after the second are ignored.
+#[tactic(auto, unfolding(crate::specs::ResponseOf::exception_response_of))]
+pub fn decode_exception(pdu: &[u8]) -> Result<ExceptionResponse, Reason>
+    ensures exception { result ≡ exception_response_of pdu.now }
+{
+    match pdu {
+        [code, ..] if *code < EXCEPTION_BIT => Err(Reason::InvalidFunction(*code)),
+        [code, exception, ..] => Ok(ExceptionResponse {
+            function: FunctionCode::new(*code - EXCEPTION_BIT),
+            exception: ExceptionCode::new(*exception),
+        }),
+        _ => Err(Reason::UnexpectedEnd),
+    }
+}
+
+/// Appends the PDU of an exception, two bytes (section 7). Without memory the buffer is left as it
+/// was. What memory it takes is of the buffer's own allocator.
+pub fn encode_exception_response_pdu(
+    _alloc: Global,
+    buf: &mut BytesMut,
+    response: ExceptionResponse,
+) -> Result<(), AllocError>
+    requires { function_number response.function < 0x80 }
+    ensures ok { OnOk result (buf.new.items ≡ buf.old.items ++ exception_pdu response) }
+    ensures err { OnErr result (buf.new.items ≡ buf.old.items) }
+{
+    buf.reserve(EXCEPTION_SIZE)?;
+    put_byte(buf, response.function.value() + EXCEPTION_BIT);
+    put_byte(buf, response.exception.into());
+    Ok(())
+}

@@ -1,0 +1,39 @@
+//! Modbus protocol data units: requests as bytes and back, packed coils, and their sizes.
+//!
+//! A PDU is a function code and its data, at most 253 bytes where it is encoded (Modbus
+//! Application Protocol V1.1b3, section 4.1). The framings of serial line and TCP stand on this
+//! crate, and add nothing to what a PDU means.
+#![tactic(auto)]
+
+mod coils;
+mod cursor;
+mod exception;
+mod laws;
+mod limits;
+mod request_decoder;
+mod request_encoder;
+mod response_decoder;
+mod response_encoder;
+mod response_laws;
+#[cfg(test)]
+mod response_tests;
+#[cfg(test)]
+mod tests;
+mod words;
+mod writing;
+
+pub use crate::coils::{
+    bool_to_coil, coil_to_bool, decode_packed_coils, encode_packed_coils, packed_coils_size,
+};
+pub use crate::exception::{decode_exception, encode_exception_response_pdu};
+pub use crate::laws::{
+    coils_are_packed, request_reads_back, requests_have_sizes, requests_read_back,
+};
+pub use crate::limits::TooLong;
+pub use crate::request_decoder::decode_request;
+pub use crate::request_encoder::{encode_request_pdu, request_pdu_size};
+pub use crate::response_decoder::{decode_response, decode_response_pdu};
+pub use crate::response_encoder::{
+    encode_response_pdu, response_pdu_size, response_result_pdu_size,
+};
+pub use crate::response_laws::responses_read_back;

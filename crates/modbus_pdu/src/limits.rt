@@ -1,0 +1,41 @@
+//! The limit on the size of a PDU, and the number that marks device identification.
+ghost use Rattle.std.specs.Prelude.{◌≡◌, ◌<◌, ◌≤◌, ◌++◌, codes, IfOk, IfErr, Some};
+ghost use Rattle.std.specs.Fmt.{decimal};
+
+use std::error::Error;
+use std::fmt;
+
+/// The most bytes of a PDU (V1.1b3, section 4.1).
+pub(crate) const MAX_PDU: usize = 253;
+
+/// The MEI type of device identification (V1.1b3, section 6.21).
+pub(crate) const MEI_DEVICE_IDENTIFICATION: u8 = 0x0E;
+
+/// A PDU would have this many bytes, more than the 253 that fit.
+///
+/// A size above `usize::MAX` is told as `usize::MAX`.
+#[derive(Clone, Copy, Debug, PartialEq, Eq)]
+pub struct TooLong(pub usize);
+
+impl fmt::Display for TooLong {
+    ghost output = { λ error. Some (codes "a PDU of " ++ decimal error.0
+        ++ codes " bytes exceeds 253 bytes") };
+
+    fn fmt<W: fmt::Write>(&self, f: &mut fmt::Formatter<W>) -> fmt::Result {
+        write!(f, "a PDU of {} bytes exceeds 253 bytes", self.0)
+    }
+}
+
+impl Error for TooLong {}
+
+/// The size, where a PDU may have so many bytes.
+pub(crate) fn within_limit(size: usize) -> Result<usize, TooLong>
+    ensures fits { IfOk result (λ found. (found ≡ size) × (size ≤ 253)) }
+    ensures long { IfErr result (λ error. (253 < size) × (error.0 ≡ size)) }
+{
+    if size <= MAX_PDU {
+        Ok(size)
+    } else {
+        Err(TooLong(size))
+    }
+}

@@ -1,0 +1,272 @@
+//! Responses, read from PDUs.
+//!
+//! A PDU is read from the left by a cursor. What it stands for, and which of several reasons is told,
+//! is defined by places of the whole PDU (MODBUS Application Protocol V1.1b3, section 6).
+ghost use Rattle.std.specs.Prelude.{◌≡◌};
+ghost use Rattle.modbus_pdu.specs.Reading.{Gives};
+ghost use Rattle.modbus_pdu.specs.ResponseOf.{coils_read_of, words_read_of, run_status_of, server_id_of, object_at, objects_at, device_identification_of, answered_by, response_of, response_result_of};
+
+use crate::coils::decode_packed_coils;
+use crate::cursor::Cursor;
+use crate::exception::{EXCEPTION_BIT, decode_exception};
+use crate::limits::{MAX_PDU, MEI_DEVICE_IDENTIFICATION};
+use crate::request_decoder::{single_coil, three_words, two_words};
+use crate::words::decode_words;
+use bytes::Bytes;
+use modbus_frame::{
+    Coils, ConformityLevel, Data, DeviceIdObject, DeviceIdObjects, PduError, ReadCode,
+    ReadDeviceIdentificationResponse, Reason, Response, ResponsePdu, Words,
+};
+use std::alloc::Global;
+
+/// The bytes of a more follows that is true, and of a run indicator that is on.
+const ON: u8 = 0xFF;
+
+/// The byte of a run indicator that is off.
+const OFF: u8 = 0x00;
+
+/// The coils after the byte count, eight in each byte.
+#[tactic(auto, unfolding(crate::specs::ResponseOf::coils_read_of))]
+fn coils_read(alloc: Global, mut cursor: Cursor<'_>) -> Result<Coils, PduError>
+    requires { cursor.at ≡ 1 }
+    ensures { Gives (λ coils. coils) result (coils_read_of cursor.entry.bytes.now) }
+{
+    cursor.check_size()?;
+    let count = cursor.byte()?;
+    let packed = cursor.rest();
+    if packed.len() < count as usize {
+        return Err(PduError::Refused(Reason::TooShort));
+    }
+    if packed.len() > count as usize {
+        return Err(PduError::Refused(Reason::UndecodedData));
+    }
+    Ok(decode_packed_coils(alloc, packed, 8 * count as u16)?)
+}
+
+/// The words after the byte count.
+#[tactic(auto, unfolding(crate::specs::ResponseOf::words_read_of))]
+fn words_read(alloc: Global, mut cursor: Cursor<'_>) -> Result<Words, PduError>
+    requires { cursor.at ≡ 1 }
+    ensures { Gives (λ words. words) result (words_read_of cursor.entry.bytes.now) }
+{
+    cursor.check_size()?;
+    let count = cursor.byte()? as usize;
+    if count % 2 == 1 {
+        return Err(PduError::Refused(Reason::InvalidQuantity));
+    }
+    let words = cursor.rest();
+    if words.len() < count {
+        return Err(PduError::Refused(Reason::UnexpectedEnd));
+    }
+    if words.len() > count {
+        return Err(PduError::Refused(Reason::UndecodedData));
+    }
+    Ok(Words::new(decode_words(alloc, words, count / 2)?))
+}
+
+/// Whether a run indicator is on.
+fn run_status(status: u8) -> Result<bool, Reason>
+    ensures { result ≡ run_status_of status }
+{
+    match status {
+        ON => Ok(true),
+        OFF => Ok(false),
+        _ => Err(Reason::InvalidRunStatus(status)),
+    }
+}
+
+/// The server's id, its run indicator, and the data after these.
+#[tactic(auto, unfolding(crate::specs::ResponseOf::server_id_of))]
+fn server_id(alloc: Global, mut cursor: Cursor<'_>) -> Result<(u8, bool, Data), PduError>
+    requires { cursor.at ≡ 1 }
+    ensures { Gives (λ x. (x.0, x.1, x.2)) result (server_id_of cursor.entry.bytes.now) }
+{
+    cursor.check_size()?;
+    let count = cursor.byte()? as usize;
+    if count < 2 {
+        return Err(PduError::Refused(Reason::TooShort));
+    }
+    let id = cursor.byte()?;
+    let run = run_status(cursor.byte()?)?;
+    let extra = cursor.rest();
+    if extra.len() + 2 < count {
+        return Err(PduError::Refused(Reason::UnexpectedEnd));
+    }
+    if extra.len() + 2 > count {
+        return Err(PduError::Refused(Reason::UndecodedData));
+    }
+    Ok((id, run, Data::new(Vec::from_slice(alloc, extra)?)))
+}
+
+/// The object at the cursor, which then stands after it.
+#[tactic(auto, unfolding(crate::specs::ResponseOf::object_at))]
+fn next_object(pdu: &Bytes, cursor: &mut Cursor<'_>) -> Result<DeviceIdObject, PduError>
+    requires { cursor.old.bytes.now ≡ pdu.now }
+    ensures value { Gives (λ object. (object, cursor.new.at)) result (object_at cursor.old.at pdu.now) }
+    ensures bytes { cursor.new.bytes.now ≡ cursor.old.bytes.now }
+{
+    let id = cursor.byte()?;
+    let size = cursor.byte()? as usize;
+    let start = cursor.at;
+    if pdu.len() - start < size {
+        return Err(PduError::Refused(Reason::InvalidObjectLength));
+    }
+    let value = pdu.slice(start..start + size)?;
+    cursor.at = start + size;
+    Ok(DeviceIdObject { id, value })
+}
+
+/// So many objects from the cursor on, which then stands after them.
+fn read_objects(
+    alloc: Global,
+    pdu: &Bytes,
+    cursor: &mut Cursor<'_>,
+    count: u8,
+) -> Result<Vec<DeviceIdObject>, PduError>
+    requires { cursor.old.bytes.now ≡ pdu.now }
+    ensures value { Gives (λ v. (v.items, cursor.new.at)) result (objects_at count cursor.old.at pdu.now) }
+    ensures bytes { cursor.new.bytes.now ≡ cursor.old.bytes.now }
+{
+    let mut found = Vec::new(alloc);
+    for _ in 0..count {
+        let object = next_object(pdu, cursor)?;
+        found.push(object)?;
+    }
+    Ok(found)
+}
+
+/// The device identification of a PDU whose function code says that it is one.
+#[tactic(auto, unfolding(crate::specs::ResponseOf::device_identification_of))]
+fn device_identification(
+    alloc: Global,
+    pdu: &Bytes,
+) -> Result<ReadDeviceIdentificationResponse, PduError>
+    ensures { Gives (λ found. found) result (device_identification_of pdu.now) }
+{
+    let mut cursor = Cursor::new(pdu.as_slice());
+    let _function = cursor.byte()?;
+    let mei = cursor.byte()?;
+    if mei != MEI_DEVICE_IDENTIFICATION {
+        return Err(PduError::Refused(Reason::UnsupportedMei(mei)));
+    }
+    if pdu.len() > MAX_PDU {
+        return Err(PduError::Refused(Reason::SizeExceeded));
+    }
+    let number = cursor.byte()?;
+    let Some(read_code) = ReadCode::try_from_value(number) else {
+        return Err(PduError::Refused(Reason::InvalidReadCode(number)));
+    };
+    let number = cursor.byte()?;
+    let Some(conformity_level) = ConformityLevel::try_from_value(number) else {
+        return Err(PduError::Refused(Reason::InvalidConformity(number)));
+    };
+    let more_follows = cursor.byte()? == ON;
+    let next_object_id = cursor.byte()?;
+    let count = cursor.byte()?;
+    let found = read_objects(alloc, pdu, &mut cursor, count)?;
+    cursor.finish()?;
+    Ok(ReadDeviceIdentificationResponse {
+        read_code,
+        conformity_level,
+        more_follows,
+        next_object_id,
+        device_id_objects: DeviceIdObjects::new(found),
+    })
+}
+
+/// The response of a PDU with this function code, after which the cursor stands.
+#[tactic(auto, unfolding(crate::specs::ResponseOf::answered_by))]
+fn answered(alloc: Global, code: u8, pdu: &Bytes, cursor: Cursor<'_>) -> Result<Response, PduError>
+    requires bytes { cursor.bytes.now ≡ pdu.now }
+    requires at { cursor.at ≡ 1 }
+    ensures { Gives (λ response. response) result (answered_by code pdu.now) }
+{
+    match code {
+        0x01 => {
+            let coils = coils_read(alloc, cursor)?;
+            Ok(Response::ReadCoils(coils))
+        }
+        0x02 => {
+            let coils = coils_read(alloc, cursor)?;
+            Ok(Response::ReadDiscreteInputs(coils))
+        }
+        0x03 => {
+            let words = words_read(alloc, cursor)?;
+            Ok(Response::ReadHoldingRegisters(words))
+        }
+        0x04 => {
+            let words = words_read(alloc, cursor)?;
+            Ok(Response::ReadInputRegisters(words))
+        }
+        0x05 => {
+            let (address, coil) = single_coil(cursor)?;
+            Ok(Response::WriteSingleCoil(address, coil))
+        }
+        0x06 => {
+            let (address, word) = two_words(cursor)?;
+            Ok(Response::WriteSingleRegister(address, word))
+        }
+        0x0F => {
+            let (address, quantity) = two_words(cursor)?;
+            Ok(Response::WriteMultipleCoils(address, quantity))
+        }
+        0x10 => {
+            let (address, quantity) = two_words(cursor)?;
+            Ok(Response::WriteMultipleRegisters(address, quantity))
+        }
+        0x11 => {
+            let (id, run, extra) = server_id(alloc, cursor)?;
+            Ok(Response::ReportServerId(id, run, extra))
+        }
+        0x16 => {
+            let (address, and_mask, or_mask) = three_words(cursor)?;
+            Ok(Response::MaskWriteRegister(address, and_mask, or_mask))
+        }
+        0x17 => {
+            let words = words_read(alloc, cursor)?;
+            Ok(Response::ReadWriteMultipleRegisters(words))
+        }
+        0x2B => {
+            let found = device_identification(alloc, pdu)?;
+            Ok(Response::ReadDeviceIdentification(found))
+        }
+        _ => {
+            let rest = pdu.slice(1..)?;
+            Ok(Response::Custom(code, rest))
+        }
+    }
+}
+
+/// The response of a PDU (section 6), or the first reason that refuses it.
+///
+/// Function codes that have no kind of their own give `Custom`, also those of 0x80 and above.
+/// `NoMemory` comes only for want of memory.
+#[tactic(auto, unfolding(crate::specs::ResponseOf::response_of))]
+pub fn decode_response(alloc: Global, pdu: Bytes) -> Result<Response, PduError>
+    ensures response { Gives (λ response. response) result (response_of pdu) }
+{
+    let mut cursor = Cursor::new(pdu.as_slice());
+    let code = cursor.byte()?;
+    answered(alloc, code, &pdu, cursor)
+}
+
+/// What a server's PDU stands for: a response, or from the function code 0x80 on an exception
+/// (section 7). Else the first reason that refuses it.
+///
+/// An empty PDU is `UnexpectedEnd`, and `NoMemory` comes only for want of memory.
+#[tactic(auto, unfolding(crate::specs::ResponseOf::response_result_of))]
+pub fn decode_response_pdu(alloc: Global, pdu: Bytes) -> Result<ResponsePdu, PduError>
+    ensures result { Gives (λ answer. answer.0) result (response_result_of pdu) }
+{
+    match pdu.as_slice() {
+        [] => Err(PduError::Refused(Reason::UnexpectedEnd)),
+        [code, ..] if *code >= EXCEPTION_BIT => {
+            let refusal = decode_exception(pdu.as_slice())?;
+            Ok(ResponsePdu(Err(refusal)))
+        }
+        _ => {
+            let response = decode_response(alloc, pdu)?;
+            Ok(ResponsePdu(Ok(response)))
+        }
+    }
+}

@@ -1,0 +1,220 @@
+//! Responses and their sizes, written as PDUs.
+//!
+//! A size is told before anything is written, so an encoder takes all the memory that it needs at
+//! once, and leaves the buffer as it was where there is none (MODBUS Application Protocol V1.1b3,
+//! section 6).
+ghost use Rattle.std.specs.Prelude.{◌≡◌, ◌+◌, ◌*◌, ◌≤◌, ◌<◌, ◌-◌, ◌^◌, ◌++◌, ◌∷◌, length, min, IfOk, IfErr, OnOk, OnErr};
+ghost use Rattle.std.specs.List.{AllByRecursion};
+ghost use Rattle.modbus_pdu.specs.Fields.{packed, packed_size};
+ghost use Rattle.modbus_pdu.specs.Writing.{words};
+ghost use Rattle.modbus_pdu.specs.ResponsePdu.{flag, objects, device_identification_pdu, response_pdu, response_result_pdu};
+
+use crate::coils::{bool_to_coil, packed_coils_size, put_packed_coils};
+use crate::exception::EXCEPTION_SIZE;
+use crate::limits::{MEI_DEVICE_IDENTIFICATION, TooLong, within_limit};
+use crate::writing::{put_byte, put_word, put_words};
+use bytes::BytesMut;
+use modbus_frame::{
+    Coil, DeviceIdObject, ExceptionResponse, ReadDeviceIdentificationResponse, Response, Word,
+};
+use std::alloc::{AllocError, Global};
+
+/// How many bytes the objects take, where usize::MAX stands for more.
+#[tactic(auto, unfolding(crate::specs::ResponsePdu::objects))]
+fn objects_len(found: &[DeviceIdObject]) -> usize
+    ensures { result ≡ min (length (objects found.now)) (2 ^ 64 - 1) }
+{
+    let mut size: usize = 0;
+    for object in found {
+        size = size.saturating_add(2).saturating_add(object.value.len());
+    }
+    size
+}
+
+/// How many bytes the PDU of the response has, where usize::MAX stands for more.
+#[tactic(auto, using(crate::proofs::Sizes::sizes), unfolding(crate::specs::ResponsePdu::response_pdu, crate::specs::ResponsePdu::device_identification_pdu))]
+fn response_len(response: &Response) -> usize
+    ensures { result ≡ min (length (response_pdu response.now)) (2 ^ 64 - 1) }
+{
+    match response {
+        Response::ReadCoils(coils) | Response::ReadDiscreteInputs(coils) => packed_coils_size(
+            coils.as_slice(),
+        ).saturating_add(2),
+        Response::ReadInputRegisters(words)
+        | Response::ReadHoldingRegisters(words)
+        | Response::ReadWriteMultipleRegisters(words) => words
+            .as_slice()
+            .len()
+            .saturating_mul(2)
+            .saturating_add(2),
+        Response::WriteSingleCoil(_, _)
+        | Response::WriteMultipleCoils(_, _)
+        | Response::WriteSingleRegister(_, _)
+        | Response::WriteMultipleRegisters(_, _) => 5,
+        Response::ReportServerId(_, _, extra) => extra.as_slice().len().saturating_add(4),
+        Response::MaskWriteRegister(_, _, _) => 7,
+        Response::ReadDeviceIdentification(found) => objects_len(
+            found.device_id_objects.as_slice(),
+        ).saturating_add(7),
+        Response::Custom(_, data) => data.len().saturating_add(1),
+    }
+}
+
+/// How many bytes the PDU of the response has, where they are at most 253 (section 4.1).
+///
+/// `TooLong` tells the size where it is more, and usize::MAX where it is more than that.
+pub fn response_pdu_size(response: &Response) -> Result<usize, TooLong>
+    ensures fits { IfOk result (λ size. (size ≡ length (response_pdu response.now)) × (size ≤ 253)) }
+    ensures long { IfErr result (λ error. (253 < length (response_pdu response.now))
+        × (error.0 ≡ min (length (response_pdu response.now)) (2 ^ 64 - 1))) }
+{
+    within_limit(response_len(response))
+}
+
+/// How many bytes the PDU of a response or an exception has, where they are at most 253
+/// (section 4.1). An exception always fits.
+///
+/// `TooLong` tells the size where it is more, and usize::MAX where it is more than that.
+pub fn response_result_pdu_size(
+    answer: &Result<Response, ExceptionResponse>,
+) -> Result<usize, TooLong>
+    ensures fits { IfOk result (λ size. (size ≡ length (response_result_pdu answer.now)) × (size ≤ 253)) }
+    ensures long { IfErr result (λ error. (253 < length (response_result_pdu answer.now))
+        × (error.0 ≡ min (length (response_result_pdu answer.now)) (2 ^ 64 - 1))) }
+{
+    match answer {
+        Ok(response) => response_pdu_size(response),
+        Err(_) => Ok(EXCEPTION_SIZE),
+    }
+}
+
+/// The function code, the byte count, and the coils.
+fn put_coils_read(buf: &mut BytesMut, code: u8, coils: &[Coil])
+    requires fits { packed_size (length coils.now) < 256 }
+    requires room { 2 + packed_size (length coils.now) ≤ buf.old.spare }
+    ensures { buf.new.items ≡ buf.old.items ++ code ∷ packed_size (length coils.now) ∷ packed coils.now }
+{
+    put_byte(buf, code);
+    put_byte(buf, packed_coils_size(coils) as u8);
+    put_packed_coils(buf, coils);
+}
+
+/// The function code, the byte count, and the words.
+fn put_words_read(buf: &mut BytesMut, code: u8, registers: &[Word])
+    requires fits { 2 * length registers.now < 256 }
+    requires room { 2 + 2 * length registers.now ≤ buf.old.spare }
+    ensures { buf.new.items ≡ buf.old.items ++ code ∷ (2 * length registers.now) ∷ words registers.now }
+{
+    put_byte(buf, code);
+    put_byte(buf, (2 * registers.len()) as u8);
+    put_words(buf, registers);
+}
+
+/// The byte of a flag: a run indicator, or whether more objects follow.
+fn flag_byte(is_on: bool) -> u8
+    ensures { result ≡ flag is_on }
+{
+    if is_on { 0xFF } else { 0x00 }
+}
+
+/// Each object: its id, its length and its value.
+#[tactic(auto, unfolding(crate::specs::ResponsePdu::objects))]
+fn put_objects(buf: &mut BytesMut, found: &[DeviceIdObject])
+    requires short { AllByRecursion (λ o. length o.value < 256) found.now }
+    requires room { length (objects found.now) ≤ buf.old.spare }
+    ensures items { buf.new.items ≡ buf.old.items ++ objects found.now }
+{
+    for object in found {
+        put_byte(buf, object.id);
+        put_byte(buf, object.value.len() as u8);
+        buf.extend_reserved(object.value.as_slice());
+    }
+}
+
+/// The PDU of a device identification.
+#[tactic(auto, using(crate::proofs::WriteObjects::object_facts), unfolding(crate::specs::ResponsePdu::device_identification_pdu))]
+fn put_device_identification(buf: &mut BytesMut, found: &ReadDeviceIdentificationResponse)
+    requires fits { length (device_identification_pdu found.now) ≤ 253 }
+    requires room { length (device_identification_pdu found.now) ≤ buf.old.spare }
+    ensures { buf.new.items ≡ buf.old.items ++ device_identification_pdu found.now }
+{
+    let objects = found.device_id_objects.as_slice();
+    put_byte(buf, 0x2B);
+    put_byte(buf, MEI_DEVICE_IDENTIFICATION);
+    put_byte(buf, found.read_code.value());
+    put_byte(buf, found.conformity_level.value());
+    put_byte(buf, flag_byte(found.more_follows));
+    put_byte(buf, found.next_object_id);
+    put_byte(buf, objects.len() as u8);
+    put_objects(buf, objects);
+}
+
+/// The PDU of the response, for which there is room.
+#[tactic(auto, using(crate::proofs::Sizes::sizes), unfolding(crate::specs::ResponsePdu::response_pdu))]
+fn put_response(buf: &mut BytesMut, response: &Response)
+    requires fits { length (response_pdu response.now) ≤ 253 }
+    requires room { length (response_pdu response.now) ≤ buf.old.spare }
+    ensures { buf.new.items ≡ buf.old.items ++ response_pdu response.now }
+{
+    match response {
+        Response::ReadCoils(coils) => put_coils_read(buf, 0x01, coils.as_slice()),
+        Response::ReadDiscreteInputs(coils) => put_coils_read(buf, 0x02, coils.as_slice()),
+        Response::ReadHoldingRegisters(words) => put_words_read(buf, 0x03, words.as_slice()),
+        Response::ReadInputRegisters(words) => put_words_read(buf, 0x04, words.as_slice()),
+        Response::WriteSingleCoil(address, coil) => {
+            put_byte(buf, 0x05);
+            put_word(buf, *address);
+            put_word(buf, bool_to_coil(*coil));
+        }
+        Response::WriteSingleRegister(address, word) => {
+            put_byte(buf, 0x06);
+            put_word(buf, *address);
+            put_word(buf, *word);
+        }
+        Response::WriteMultipleCoils(address, quantity) => {
+            put_byte(buf, 0x0F);
+            put_word(buf, *address);
+            put_word(buf, *quantity);
+        }
+        Response::WriteMultipleRegisters(address, quantity) => {
+            put_byte(buf, 0x10);
+            put_word(buf, *address);
+            put_word(buf, *quantity);
+        }
+        Response::ReportServerId(id, run, extra) => {
+            put_byte(buf, 0x11);
+            put_byte(buf, (2 + extra.as_slice().len()) as u8);
+            put_byte(buf, *id);
+            put_byte(buf, flag_byte(*run));
+            buf.extend_reserved(extra.as_slice());
+        }
+        Response::MaskWriteRegister(address, and_mask, or_mask) => {
+            put_byte(buf, 0x16);
+            put_word(buf, *address);
+            put_word(buf, *and_mask);
+            put_word(buf, *or_mask);
+        }
+        Response::ReadWriteMultipleRegisters(words) => put_words_read(buf, 0x17, words.as_slice()),
+        Response::ReadDeviceIdentification(found) => put_device_identification(buf, found),
+        Response::Custom(code, data) => {
+            put_byte(buf, *code);
+            buf.extend_reserved(data.as_slice());
+        }
+    }
+}
+
+/// Appends the PDU of a response that fits, for which `response_pdu_size` is `Ok` (section 6).
+/// Without memory the buffer is left as it was. What memory it takes is of the buffer's own allocator.
+pub fn encode_response_pdu(
+    _alloc: Global,
+    buf: &mut BytesMut,
+    response: &Response,
+) -> Result<(), AllocError>
+    requires { length (response_pdu response.now) ≤ 253 }
+    ensures ok { OnOk result (buf.new.items ≡ buf.old.items ++ response_pdu response.now) }
+    ensures err { OnErr result (buf.new.items ≡ buf.old.items) }
+{
+    buf.reserve(response_len(response))?;
+    put_response(buf, response);
+    Ok(())
+}

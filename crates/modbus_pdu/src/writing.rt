@@ -1,0 +1,36 @@
+//! Fields appended to a buffer that has room for them.
+ghost use Rattle.std.specs.Prelude.{◌≡◌, ◌+◌, ◌*◌, ◌≤◌, ◌++◌, ◌∷◌, [], length};
+ghost use Rattle.modbus_pdu.specs.Writing.{word, words};
+
+use bytes::BytesMut;
+use modbus_frame::Word;
+
+/// Appends a byte.
+pub(crate) fn put_byte(buf: &mut BytesMut, byte: u8)
+    requires { 1 ≤ buf.old.spare }
+    ensures items { buf.new.items ≡ buf.old.items ++ byte ∷ [] }
+    ensures spare { buf.new.spare + 1 ≡ buf.old.spare }
+{
+    buf.extend_reserved(&[byte]);
+}
+
+/// Appends a number as two bytes, the high one first (V1.1b3, section 4.2).
+pub(crate) fn put_word(buf: &mut BytesMut, number: u16)
+    requires { 2 ≤ buf.old.spare }
+    ensures items { buf.new.items ≡ buf.old.items ++ word number }
+    ensures spare { buf.new.spare + 2 ≡ buf.old.spare }
+{
+    buf.extend_reserved(&number.to_be_bytes());
+}
+
+/// Appends numbers one after another, two bytes each.
+#[tactic(auto, unfolding(crate::specs::Writing::words))]
+pub(crate) fn put_words(buf: &mut BytesMut, numbers: &[Word])
+    requires { 2 * length numbers.now ≤ buf.old.spare }
+    ensures items { buf.new.items ≡ buf.old.items ++ words numbers.now }
+    ensures spare { buf.new.spare + 2 * length numbers.now ≡ buf.old.spare }
+{
+    for number in numbers {
+        put_word(buf, *number);
+    }
+}

@@ -1,0 +1,71 @@
+-- An RTU frame, and what stands at an offset of a list of bytes.
+use Rattle.std.specs.Prelude.{ℕ, ◌+◌, ◌*◌, ◌/◌, ◌%◌, ◌&&◌, ◌||◌, if◌then◌else◌, ◌==◌, nat_lt, nat_le, List, [], ◌∷◌, ◌++◌, length, take, drop, slice_get, slice_index, Option, Some, None, Result, Ok, Err}
+use Rattle.std.specs.Option.{option_map}
+use Rattle.modbus_rtu.specs.declared.length.NoLength.{NoLength}
+use Rattle.modbus_rtu.specs.declared.verdict.Verdict.{Verdict}
+use Rattle.modbus_rtu.specs.declared.verdict.Verdict.TheVariants.{Open, Bad, Good}
+use Rattle.modbus_rtu.specs.Checksum.{crc}
+
+-- The slave address, the PDU, and the checksum of both with its low byte first (MODBUS over Serial Line V1.02, section 2.5.1).
+unfoldable pub frame : ℕ → List ℕ → List ℕ
+frame slave pdu = let sum = crc (slave ∷ pdu) in slave ∷ pdu ++ sum % 256 ∷ sum / 256 ∷ []
+
+-- How the PDU of a request gets its length. Places are those of a list that begins with the slave address, so the function
+-- code stands at place 1.
+pub data Rule : Type 0 where
+  fixed : ℕ → Rule
+  -- so many, and the byte at that place
+  counted : ℕ → Rule
+  -- 4 where the MEI type at place 2 is 0E, that of device identification; no length for another type
+  identification : Rule
+  unknown : Rule
+
+-- The rule of a function code (Modbus Application Protocol V1.1b3, section 6).
+unfoldable pub rule : ℕ → Rule
+rule code =
+    if nat_le 0x01 code && nat_le code 0x06 then fixed 5 else
+    if code == 0x07 || code == 0x0B || code == 0x0C || code == 0x11 then fixed 1 else
+    if code == 0x0F || code == 0x10 then counted 6 else
+    if code == 0x16 then fixed 7 else
+    if code == 0x17 then counted 10 else
+    if code == 0x18 then fixed 3 else
+    if code == 0x2B then identification else
+    unknown
+
+-- The head of a request: the length of its PDU; `Ok None` where a byte that the rule needs is missing; `Err` where there is none.
+abbrev pub Head : Type 0
+Head = Result (Option ℕ) NoLength
+
+abbrev pub identified : ℕ → Option ℕ → Head
+identified code None = Ok None
+identified code (Some mei) = if mei == 0x0E then Ok (Some 4) else Err (record { 0 = code })
+
+abbrev pub head_by : ℕ → List ℕ → Rule → Head
+head_by code adu (fixed n) = Ok (Some n)
+head_by code adu (counted n) = Ok (option_map (λ byte. n + byte) (slice_get adu n))
+head_by code adu identification = identified code (slice_get adu 2)
+head_by code adu unknown = Err (record { 0 = code })
+
+abbrev pub head_at : List ℕ → Option ℕ → Head
+head_at adu None = Ok None
+head_at adu (Some code) = head_by code adu (rule code)
+
+-- the head of a request in a list that begins with the slave address
+unfoldable pub head : List ℕ → Head
+head adu = head_at adu (slice_get adu 1)
+
+-- What stands at the front of a list: open, where the head is missing or the frame isn't whole; bad, where there is no length
+-- or the last two bytes of the frame aren't the checksum of the rest; else good, with the length of the PDU.
+abbrev pub verdict_by : List ℕ → Head → Verdict
+verdict_by adu (Ok None) = Open
+verdict_by adu (Err no_length) = Bad
+verdict_by adu (Ok (Some n)) =
+    if nat_lt (length adu) (n + 3) then Open else
+    if crc (take (n + 1) adu) == slice_index adu (n + 1) + 256 * slice_index adu (n + 2) then Good n else Bad
+
+unfoldable pub verdict_of : List ℕ → Verdict
+verdict_of adu = verdict_by adu (head adu)
+
+-- what stands at an offset
+abbrev pub verdict : List ℕ → ℕ → Verdict
+verdict bytes i = verdict_of (drop i bytes)
