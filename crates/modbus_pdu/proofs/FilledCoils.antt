@@ -1,10 +1,10 @@
 -- Packed coils, eight of each byte read, are the coils and those that fill the last byte.
-use Rattle.std.proofs.Common.{◌≡◌, ℕ, ◌+◌, ◌-◌, ◌*◌, ◌/◌, ◌%◌, ◌<◌, Bool, true, false, List, ◌++◌, length, get_or, refl, sym, ◌∙◌, arith, eqb, inl, inr, length-append}
+use Rattle.std.proofs.Common.{◌≡◌, ℕ, ◌+◌, ◌-◌, ◌*◌, ◌<◌, Bool, false, List, ◌++◌, length, get_or, refl, sym, ◌∙◌, arith, inl, inr, length-append}
 use Rattle.std.proofs.lemmas.List.{get_or_append_left, get_or-append_right, get_or-replicate, get_or_past, length-replicate}
-use Rattle.std.proofs.lemmas.List.FromFn.{fill_by_all, get_or-map-range_with_len}
+use Rattle.std.proofs.lemmas.List.FromFn.{fill_by_all}
 use Rattle.std.proofs.lemmas.Bool.{cases_lt}
 use Rattle.std.proofs.Math.ListN.{replicate}
-use Rattle.modbus_pdu.specs.Fields.{bit_of, bits_at, coil_at, coils_of, packed, packed_size}
+use Rattle.modbus_pdu.specs.Fields.{coil_at, coils_of, packed, packed_size}
 use Rattle.modbus_pdu.specs.ResponseLaws.{filled}
 use Rattle.modbus_pdu.proofs.Unpacked.{packed_bit}
 

@@ -2,8 +2,9 @@
 //!
 //! A reader for each layout of fields, and one that chooses by the function code. Each answers what
 //! its definition says of the places of the whole PDU.
-ghost use Rattle.std.specs.Prelude.{◌≡◌, IsOk, IsOkAnd};
-ghost use Rattle.modbus_frame.specs.Meaning.{meaning};
+ghost use Rattle.std.specs.Prelude.{◌≡◌, ◌<◌, IfOk, IsOk, IsOkAnd};
+ghost use Rattle.modbus_frame.specs.Codes.{function_number};
+ghost use Rattle.modbus_frame.specs.Meaning.{meaning, function_asked};
 ghost use Rattle.modbus_pdu.specs.Reading.{Gives};
 ghost use Rattle.modbus_pdu.specs.RequestOf.{CarriesList, asked_by, coils_written_of, identification_of, read_write_of, registers_at, request_of, single_coil_of, three_words_of, two_words_of, words_written_of};
 
@@ -32,12 +33,13 @@ use std::borrow::CowSlice;
 /// - `InvalidReadCode`: this read code is not one of 1 to 4;
 /// - `InvalidFunction`: this function code is 0x80 or above.
 ///
-/// Want of memory comes only where the PDU is a request that carries a list.
+/// Want of memory comes only where the PDU is a request that carries a list. The function code of a request is below 0x80.
 #[tactic(auto, using(crate::proofs::First::no_byte, crate::proofs::First::by_first))]
 pub fn decode_request(alloc: Global, pdu: &[u8]) -> Result<Request<'static>, PduError>
     ensures value { Gives meaning result (request_of pdu.now) }
     ensures memory { result ≡ Err PduError.NoMemory
         → IsOkAnd (request_of pdu.now) CarriesList }
+    ensures code { IfOk result (λ request. function_number (function_asked (meaning request)) < 0x80) }
 {
     let mut cursor = Cursor::new(pdu);
     let code = cursor.byte()?;
@@ -55,6 +57,7 @@ fn request_by_code(
     ensures value { Gives meaning result (asked_by code cursor.entry.bytes.now) }
     ensures memory { result ≡ Err PduError.NoMemory
         → IsOkAnd (asked_by code cursor.entry.bytes.now) CarriesList }
+    ensures code { IfOk result (λ request. function_number (function_asked (meaning request)) < 0x80) }
 {
     match code {
         0x01 => {

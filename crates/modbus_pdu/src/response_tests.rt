@@ -153,7 +153,7 @@ fn a_device_identification_goes_both_ways(rt: HostRuntime) -> Result<(), Fail> {
     let copy = found.try_clone(alloc)?;
     assert!(rt; copy == found);
     for object in found.device_id_objects.as_slice() {
-        assert!(rt; object.try_clone()? == *object);
+        assert!(rt; object.try_clone(rt.alloc())? == *object);
     }
     let response = Response::ReadDeviceIdentification(found);
     both_ways(&rt, alloc, bytes, &response)?;

@@ -79,7 +79,7 @@ fn requests_are_these_bytes(rt: HostRuntime) -> Result<(), Fail> {
     for (bytes, request) in &vectors {
         let decoded = decode_request(alloc, bytes)?;
         assert_eq!(rt; decoded, *request);
-        assert_eq!(rt; decoded.try_clone()?, *request);
+        assert_eq!(rt; decoded.try_clone(rt.alloc())?, *request);
         assert_eq!(rt; decoded.into_owned(alloc)?, *request);
         assert_eq!(rt; request_pdu_size(request), Ok(bytes.len()));
         let mut want = BytesMut::copy_from_slice(alloc, b"\xAA")?;
