@@ -1,41 +1,24 @@
--- The status and the text of an ending.
-use Rattle.std.specs.Prelude.{ℕ, List, [], ◌++◌, ◌≡◌, ◌≢◌, codes}
-use Rattle.std.specs.Fmt.{decimal}
-use Rattle.modbus_link.specs.Outside.{IsFront}
-use Rattle.modbus_app.specs.declared.fault.Fault.{Fault}
-use Rattle.modbus_app.specs.declared.fault.Fault.TheVariants.{Usage, ReadFault, WriteFault, BytesRemaining, TurnLimit, NoMemory, BadFrame, Unbuilt}
+-- How the program ends with a fault. All that is said speaks of one and the same fault.
+use Rattle.std.specs.Prelude.{◌≡◌, ◌-◌, ◌^◌, ℕ, length, IsTrue, Some, Err}
+use Rattle.modbus_link.specs.Outside.{Input, Output, Rose, bytes_read, bytes_appended, cuts_made, IsFront}
+use Rattle.modbus_server.specs.declared.error.ProcessError.{ProcessError}
+use Rattle.modbus_server.specs.declared.error.ProcessError.TheVariants.{ReadFault, WriteFault, TurnLimit}
+use Rattle.modbus_server.specs.Serving.{EndsAs}
+use Rattle.modbus_server.specs.Sending.{EndsRead}
+use Rattle.modbus_server.specs.Rooms.{totals}
+use Rattle.modbus_app.specs.Zeros.{zero_answers, zero_table}
+use Rattle.modbus_app.specs.Status.{status_of, line_of}
 
-abbrev pub status_of : Fault → ℕ
-status_of Usage = 2
-status_of ReadFault = 3
-status_of WriteFault = 4
-status_of BytesRemaining = 6
-status_of TurnLimit = 8
-status_of NoMemory = 11
-status_of BadFrame = 20
-status_of (Unbuilt code) = 21
-
-abbrev pub usage_text : List ℕ
-usage_text = codes "modbus: usage: rtu [size [seeded]] | tcp [size] | make n | listen-rtu port | listen-tcp port\n"
-
--- the line on standard error
-abbrev pub text_of : Fault → List ℕ
-text_of Usage = usage_text
-text_of ReadFault = codes "modbus: read fault\n"
-text_of WriteFault = codes "modbus: write fault\n"
-text_of BytesRemaining = codes "modbus: bytes remaining\n"
-text_of TurnLimit = codes "modbus: turn limit\n"
-text_of NoMemory = codes "modbus: no memory\n"
-text_of BadFrame = codes "modbus: bad frame\n"
-text_of (Unbuilt code) = codes "modbus: unbuilt function " ++ decimal code ++ codes "\n"
-
--- a status other than 0 is told by the line of a fault of that status, or a front of it
-abbrev pub SaysFault : ℕ → List ℕ → Type 0
-SaysFault status said = (fault : Fault) × (status_of fault ≡ status) × IsFront said (text_of fault)
-
-abbrev pub Says : ℕ → List ℕ → Type 0
-Says status said = (status ≡ 0 → said ≡ []) × (status ≢ 0 → SaysFault status said)
-
--- the fault whose line has a number in it
-abbrev pub IsUnbuilt : Fault → Type 0
-IsUnbuilt fault = (code : ℕ) × (fault ≡ Unbuilt code)
+pub record EndsWithFault (input input' : Input) (output output' said said' : Output) (status : ℕ) : Type 0 where
+  pub error : ProcessError
+  pub is : status_of error ≡ Some status
+  -- its cause, and what was answered and written before it
+  pub served : IsTrue input.told → IsTrue output.told
+      → EndsAs zero_answers (bytes_read input input') (totals (cuts_made input input')) zero_table zero_table (bytes_appended output output') (Err error)
+  pub ended : IsTrue input.told → EndsRead (Err error) input'.left
+  pub read_fault : error ≡ ReadFault → Rose input.faults input'.faults
+  pub write_fault : error ≡ WriteFault → Rose output.faults output'.faults
+  pub turn_limit : error ≡ TurnLimit → IsTrue input.told → length (cuts_made input input') ≡ 2 ^ 64 - 1
+  -- its line was written, or a front of it where the sink of errors failed
+  pub front : IsTrue said.told → IsFront (bytes_appended said said') (line_of error)
+  pub line : IsTrue said.told → (Rose said.faults said'.faults → ⊥) → bytes_appended said said' ≡ line_of error

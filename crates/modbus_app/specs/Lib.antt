@@ -1,3 +1,5 @@
-pub mod Early
 pub mod Words
+pub mod Reads
+pub mod Zeros
+pub mod Status
 pub mod Ending

@@ -1,9 +1,11 @@
 //! The program: a Modbus server over its standard streams.
 #![tactic(auto)]
 
-mod fault;
-mod process;
 mod run;
+mod status;
+#[cfg(test)]
+mod tests;
+mod zero_table;
 
 use modbus_link::{ReadSource, WriteSink};
 use std::process::ExitCode;

@@ -1,13 +1,21 @@
 //! The top call.
-ghost use Rattle.std.specs.Prelude.{◌≡◌, ◌≢◌, ◌-◌, ◌^◌, ◌↔◌, ℕ, [], IsTrue, length};
+ghost use Rattle.std.specs.Prelude.{◌≡◌, ◌≢◌, ◌↔◌, ◌⊎◌, ◌<◌, ◌-◌, ◌^◌, ℕ, [], Ok, Err, IsTrue, length};
 ghost use Rattle.modbus_link.specs.Outside.{Rose, Advances, Extends, bytes_read, bytes_appended, cuts_made, IsFront};
-ghost use Rattle.modbus_app.specs.Early.{EndsWhole, EndsOpen, MeetsBad, MeetsOther, WaitsAfter};
+ghost use Rattle.modbus_server.specs.declared.error.ProcessError.TheVariants.{ReadFault, WriteFault, TurnLimit, ResponseTooLong};
+ghost use Rattle.modbus_server.specs.Serving.{EndsAs};
+ghost use Rattle.modbus_server.specs.Sending.{EndsRead};
+ghost use Rattle.modbus_server.specs.Complete.{IsCleanLine};
+ghost use Rattle.modbus_server.specs.Rooms.{HaveRooms, totals};
 ghost use Rattle.modbus_app.specs.Words.{IsRtu};
-ghost use Rattle.modbus_app.specs.Ending.{Says};
+ghost use Rattle.modbus_app.specs.Zeros.{zero_answers, zero_table};
+ghost use Rattle.modbus_app.specs.Status.{usage_line};
+ghost use Rattle.modbus_app.specs.Ending.{EndsWithFault};
 
-use crate::fault::{Fault, report};
-use crate::process::process;
+use crate::status::{USAGE, USAGE_LINE, line, report, status};
+use crate::zero_table::ZeroTable;
 use modbus_link::{Sink, Source};
+use modbus_server::ProcessError;
+use modbus_server::rtu_over_tcp::process;
 use std::alloc::Global;
 
 /// Whether the words are the one word `rtu`.
@@ -20,21 +28,49 @@ fn is_rtu(words: &[String]) -> bool
     }
 }
 
+/// Serves the device of zeros, with no limit of turns but that of a `u64`.
+fn serve<S: Source, K: Sink>(
+    alloc: Global,
+    source: &mut S,
+    sink: &mut K,
+) -> Result<(), ProcessError>
+    ensures source { Advances (S.input source.old) (S.input source.new) }
+    ensures sink { Extends (K.output sink.old) (K.output sink.new) }
+    ensures served { IsTrue (S.input source.old).told → IsTrue (K.output sink.old).told
+        → EndsAs zero_answers (bytes_read (S.input source.old) (S.input source.new)) (totals (cuts_made (S.input source.old) (S.input source.new)))
+        zero_table zero_table (bytes_appended (K.output sink.old) (K.output sink.new)) result }
+    ensures ended { IsTrue (S.input source.old).told → EndsRead result (S.input source.new).left }
+    ensures rooms { IsTrue (S.input source.old).told → IsTrue (K.output sink.old).told
+        → HaveRooms (bytes_read (S.input source.old) (S.input source.new)) 0 (cuts_made (S.input source.old) (S.input source.new)) }
+    ensures read_fault { result ≡ Err ReadFault → Rose (S.input source.old).faults (S.input source.new).faults }
+    ensures write_fault { result ≡ Err WriteFault → Rose (K.output sink.old).faults (K.output sink.new).faults }
+    ensures turn_limit { result ≡ Err TurnLimit → IsTrue (S.input source.old).told → length (cuts_made (S.input source.old) (S.input source.new)) ≡ 2 ^ 64 - 1 }
+    ensures fits { (size : ℕ) → result ≢ Err (ResponseTooLong size) }
+    ensures complete { IsTrue (S.input source.old).told → IsTrue (K.output sink.old).told
+        → IsCleanLine (S.input source.old).left → length (S.input source.old).left < 2 ^ 64 - 1
+        → (Rose (S.input source.old).faults (S.input source.new).faults → ⊥)
+        → (Rose (K.output sink.old).faults (K.output sink.new).faults → ⊥)
+        → (result ≡ Ok tt) ⊎ (result ≡ Err ProcessError.NoMemory) }
+{
+    process(alloc, source, sink, &mut ZeroTable, u64::MAX)
+}
+
 /// Runs the program with the words after its name, and answers its status.
 ///
-/// With the word `rtu` it serves Read Holding Registers over RTU, of 1024 registers that hold 0; a broadcast is not answered.
-/// A status other than 0 is told by a line of text on `errors`; where that fails, the line is cut short and the status stays.
+/// With the word `rtu` it serves RTU frames, of 1024 holding registers that hold 0; each other function is answered with an
+/// exception, and a broadcast is not answered. A status other than 0 is told by a line of text on `errors`; where that fails, the
+/// line is cut short and the status stays.
 ///
 /// | Status | When |
 /// |---|---|
-/// | 0 | the input ended, and was requests alone |
+/// | 0 | the input ended, with no offset open, and all frames were answered |
 /// | 2 | the words are others |
 /// | 3, 4 | the source, the sink failed |
+/// | 5 | twenty offsets in a row, which came with one read, have no frame |
 /// | 6 | the input ended within a frame |
+/// | 7 | the PDU of a frame is no request |
 /// | 8 | as many reads gave bytes as a `u64` counts |
 /// | 11 | memory was refused |
-/// | 20 | no frame stands where one must begin |
-/// | 21 | a frame asks for another function |
 pub fn run<S: Source, K: Sink, E: Sink>(
     alloc: Global,
     words: &[String],
@@ -45,128 +81,44 @@ pub fn run<S: Source, K: Sink, E: Sink>(
     ensures source { Advances (S.input source.old) (S.input source.new) }
     ensures sink { Extends (K.output sink.old) (K.output sink.new) }
 
-    // The input was requests alone, one after another, and the replies to them were written in order.
-    ensures ok { result ≡ 0 → IsTrue (S.input source.old).told → IsTrue (K.output sink.old).told
-        → EndsWhole (S.input source.old).left (bytes_appended (K.output sink.old) (K.output sink.new)) × ((S.input source.new).left ≡ []) }
-
     ensures usage { (result ≡ 2) ↔ (IsRtu words.now → ⊥) }
-    ensures read_fault { result ≡ 3 → Rose (S.input source.old).faults (S.input source.new).faults }
-    ensures write_fault { result ≡ 4 → Rose (K.output sink.old).faults (K.output sink.new).faults }
+    ensures unread { result ≡ 2 → S.input source.new ≡ S.input source.old }
+    ensures unwritten { result ≡ 2 → K.output sink.new ≡ K.output sink.old }
 
-    // The input ended within a frame, after requests whose replies were written.
-    ensures bytes_remaining { result ≡ 6 → IsTrue (S.input source.old).told → IsTrue (K.output sink.old).told
-        → EndsOpen (S.input source.old).left (bytes_appended (K.output sink.old) (K.output sink.new)) × ((S.input source.new).left ≡ []) }
-    ensures turn_limit { result ≡ 8 → IsTrue (S.input source.old).told → length (cuts_made (S.input source.old) (S.input source.new)) ≡ 2 ^ 64 - 1 }
-    ensures bad_frame { result ≡ 20 → IsTrue (S.input source.old).told → IsTrue (K.output sink.old).told
-        → MeetsBad (bytes_read (S.input source.old) (S.input source.new)) (bytes_appended (K.output sink.old) (K.output sink.new)) }
-    ensures unbuilt { result ≡ 21 → IsTrue (S.input source.old).told → IsTrue (K.output sink.old).told
-        → (code : ℕ) × MeetsOther (bytes_read (S.input source.old) (S.input source.new)) (bytes_appended (K.output sink.old) (K.output sink.new)) code }
+    // The input ended with no uncovered offset open. What was appended is exactly the replies, framed for each request's slave, that
+    // one run of the device gives to the leftmost frames of the whole input in order.
+    ensures ok { result ≡ 0 → IsTrue (S.input source.old).told → IsTrue (K.output sink.old).told
+        → EndsAs zero_answers (S.input source.old).left (totals (cuts_made (S.input source.old) (S.input source.new)))
+        zero_table zero_table (bytes_appended (K.output sink.old) (K.output sink.new)) (Ok tt) × ((S.input source.new).left ≡ []) }
 
-    ensures text { IsTrue (E.output errors.old).told → Says result (bytes_appended (E.output errors.old) (E.output errors.new)) }
+    // Each other status is that of a fault with its cause, and what was answered before it.
+    ensures fault { result ≢ 0 → result ≢ 2
+        → EndsWithFault (S.input source.old) (S.input source.new) (K.output sink.old) (K.output sink.new) (E.output errors.old) (E.output errors.new) result }
+
+    ensures rooms { IsRtu words.now → IsTrue (S.input source.old).told → IsTrue (K.output sink.old).told
+        → HaveRooms (bytes_read (S.input source.old) (S.input source.new)) 0 (cuts_made (S.input source.old) (S.input source.new)) }
+
+    ensures silent { result ≡ 0 → E.output errors.new ≡ E.output errors.old }
+    ensures usage_front { result ≡ 2 → IsTrue (E.output errors.old).told → IsFront (bytes_appended (E.output errors.old) (E.output errors.new)) usage_line }
+    ensures usage_line { result ≡ 2 → IsTrue (E.output errors.old).told → (Rose (E.output errors.old).faults (E.output errors.new).faults → ⊥)
+        → bytes_appended (E.output errors.old) (E.output errors.new) ≡ usage_line }
+
+    // A clean line is served to its end.
+    ensures complete { IsRtu words.now → IsTrue (S.input source.old).told → IsTrue (K.output sink.old).told
+        → IsCleanLine (S.input source.old).left → length (S.input source.old).left < 2 ^ 64 - 1
+        → (Rose (S.input source.old).faults (S.input source.new).faults → ⊥)
+        → (Rose (K.output sink.old).faults (K.output sink.new).faults → ⊥)
+        → (result ≡ 0) ⊎ (result ≡ 11) }
 {
     if !is_rtu(words) {
-        report(alloc, errors, Fault::Usage);
-        return Fault::Usage.status();
+        report(errors, USAGE_LINE);
+        return USAGE;
     }
-    match process(alloc, source, sink, u64::MAX) {
+    match serve(alloc, source, sink) {
         Ok(()) => 0,
-        Err(fault) => {
-            report(alloc, errors, fault);
-            fault.status()
+        Err(error) => {
+            report(errors, line(error));
+            status(error)
         }
-    }
-}
-
-#[cfg(test)]
-mod tests {
-    use super::*;
-    use modbus_link::{MemorySink, MemorySource};
-    use std::test::Fail;
-
-    /// Runs the program over memory, with reads cut at the stops, and gives its status, its output and its text.
-    fn ran(
-        alloc: Global,
-        words: &[&str],
-        input: &[u8],
-        stops: &[usize],
-        fails: &[u64],
-    ) -> Result<(u8, MemorySink, MemorySink), Fail> {
-        let mut owned = Vec::new(alloc);
-        for word in words {
-            owned.push(String::from_str(alloc, word)?)?;
-        }
-        let mut source = MemorySource::new(alloc, input, stops, fails)?;
-        let mut sink = MemorySink::new(alloc, 64, 64, &[])?;
-        let mut errors = MemorySink::new(alloc, 128, 128, &[])?;
-        let status = run(alloc, &owned, &mut source, &mut sink, &mut errors);
-        Ok((status, sink, errors))
-    }
-
-    const READ_ONE: [u8; 8] = [0x01, 0x03, 0x00, 0x00, 0x00, 0x01, 0x84, 0x0A];
-
-    const ONE_ZERO: [u8; 7] = [0x01, 0x03, 0x02, 0x00, 0x00, 0xB8, 0x44];
-
-    #[test]
-    fn a_read_of_one_register_is_answered(rt: HostRuntime) -> Result<(), Fail> {
-        let (status, sink, errors) = ran(rt.alloc(), &["rtu"], &READ_ONE, &[], &[])?;
-        assert_eq!(rt; status, 0);
-        assert_eq!(rt; sink.bytes(), ONE_ZERO.as_slice());
-        assert_eq!(rt; errors.bytes(), b"".as_slice());
-        let (status, sink, _errors) = ran(rt.alloc(), &["rtu"], &READ_ONE, &[1, 4, 7], &[])?;
-        assert_eq!(rt; status, 0);
-        assert_eq!(rt; sink.bytes(), ONE_ZERO.as_slice());
-        Ok(())
-    }
-
-    #[test]
-    fn an_empty_input_has_no_answer(rt: HostRuntime) -> Result<(), Fail> {
-        let (status, sink, errors) = ran(rt.alloc(), &["rtu"], b"", &[], &[])?;
-        assert_eq!(rt; status, 0);
-        assert_eq!(rt; sink.bytes(), b"".as_slice());
-        assert_eq!(rt; errors.bytes(), b"".as_slice());
-        Ok(())
-    }
-
-    #[test]
-    fn a_range_outside_is_an_exception(rt: HostRuntime) -> Result<(), Fail> {
-        let outside = [0x01, 0x03, 0x08, 0x2B, 0x00, 0x02, 0xB6, 0x63];
-        let (status, sink, _errors) = ran(rt.alloc(), &["rtu"], &outside, &[], &[])?;
-        assert_eq!(rt; status, 0);
-        assert_eq!(rt; sink.bytes(), [0x01, 0x83, 0x02, 0xC0, 0xF1].as_slice());
-        Ok(())
-    }
-
-    #[test]
-    fn each_fault_has_its_status_and_text(rt: HostRuntime) -> Result<(), Fail> {
-        let usage =
-            b"modbus: usage: rtu [size [seeded]] | tcp [size] | make n | listen-rtu port | listen-tcp port\n";
-        let (status, _sink, errors) = ran(rt.alloc(), &["serial"], &READ_ONE, &[], &[])?;
-        assert_eq!(rt; status, 2);
-        assert_eq!(rt; errors.bytes(), usage.as_slice());
-        let (status, _sink, errors) = ran(rt.alloc(), &[], &READ_ONE, &[], &[])?;
-        assert_eq!(rt; status, 2);
-        assert_eq!(rt; errors.bytes(), usage.as_slice());
-
-        let (status, sink, errors) = ran(rt.alloc(), &["rtu"], &READ_ONE, &[], &[1])?;
-        assert_eq!(rt; status, 3);
-        assert_eq!(rt; sink.bytes(), ONE_ZERO.as_slice());
-        assert_eq!(rt; errors.bytes(), b"modbus: read fault\n".as_slice());
-
-        let (status, _sink, errors) = ran(rt.alloc(), &["rtu"], &READ_ONE[..7], &[], &[])?;
-        assert_eq!(rt; status, 6);
-        assert_eq!(rt; errors.bytes(), b"modbus: bytes remaining\n".as_slice());
-
-        let write = [0x01, 0x06, 0x00, 0x01, 0x00, 0x03, 0x98, 0x0B];
-        let (status, sink, errors) = ran(rt.alloc(), &["rtu"], &write, &[], &[])?;
-        assert_eq!(rt; status, 21);
-        assert_eq!(rt; sink.bytes(), b"".as_slice());
-        assert_eq!(rt; errors.bytes(), b"modbus: unbuilt function 6\n".as_slice());
-
-        let noise = [0xAA, 0x01, 0x03, 0x00, 0x00, 0x00, 0x01, 0x84, 0x0A];
-        let (status, sink, errors) = ran(rt.alloc(), &["rtu"], &noise, &[], &[])?;
-        assert_eq!(rt; status, 20);
-        assert_eq!(rt; sink.bytes(), b"".as_slice());
-        assert_eq!(rt; errors.bytes(), b"modbus: bad frame\n".as_slice());
-        Ok(())
     }
 }

@@ -1,2 +1,14 @@
 pub mod Verdicts
-pub mod Firsts
+pub mod Judging
+pub mod Reading
+pub mod LeftmostReads
+pub mod Streaming
+pub mod OneNext
+pub mod Places
+pub mod Fronts
+pub mod Steps
+pub mod Standing
+pub mod Carrying
+pub mod Framed
+pub mod Objects
+pub mod Responses

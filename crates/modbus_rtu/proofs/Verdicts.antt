@@ -1,15 +1,11 @@
 -- A verdict that is good or bad stays when bytes follow.
-use Rattle.std.proofs.Common.{◌≡◌, ◌≢◌, ℕ, zero, suc, ◌+◌, ◌*◌, ◌<◌, ◌≤◌, Bool, true, false, cond, ltb, eqb, List, [], ◌∷◌, ◌++◌, length, take, drop, get_or, Option, Some, None, Ok, Err, refl, sym, ap, ◌∙◌, arith, length-append, length-drop}
+use Rattle.std.proofs.Common.{◌≡◌, ◌≢◌, ℕ, zero, suc, ◌+◌, ◌<◌, ◌≤◌, Bool, true, false, cond, ltb, List, [], ◌∷◌, ◌++◌, length, drop, Option, Some, None, Ok, Err, refl, sym, ap, ◌∙◌, arith, length-append, length-drop}
 use Rattle.std.specs.Prelude.{slice_get}
 use Rattle.std.specs.Option.{option_map}
-use Rattle.std.proofs.lemmas.List.{take-append-le, drop-append-le, drop-drop, get_or_append_left}
-use Rattle.std.proofs.lemmas.Bool.{ltb-false, le-ltb, lt-ltb}
-use Rattle.std.proofs.Common.{eq-eqb, inl, inr}
-use Rattle.std.proofs.lemmas.Bool.Decides.{eqb_tells}
+use Rattle.std.proofs.lemmas.List.{take-append-le, drop-append-le, drop-drop, drop_all, get_or_append_left}
+use Rattle.std.proofs.lemmas.Bool.{ltb-false, le-ltb}
 use Rattle.modbus_rtu.specs.declared.verdict.Verdict.{Verdict}
 use Rattle.modbus_rtu.specs.declared.verdict.Verdict.TheVariants.{Open, Bad, Good}
-use Rattle.modbus_rtu.specs.declared.length.NoLength.{NoLength}
-use Rattle.modbus_rtu.specs.Checksum.{crc}
 use Rattle.modbus_rtu.specs.Frame.{Rule, Head, head, head_at, head_by, identified, rule, verdict, verdict_of, verdict_by}
 use Rattle.modbus_rtu.specs.Frame.Rule.{fixed, counted, identification, unknown}
 
@@ -92,7 +88,7 @@ verdict-append bytes more i ne =
     let lt : i < length bytes = judged_within bytes i ne in
     rw (drop-append-le i bytes more (omega arith)) (verdict_of-append (drop i bytes) more ne)
 
-by_frame : (adu : List ℕ) (h : Head) (n : ℕ) → verdict_by adu h ≡ Good n → n + 3 ≤ length adu
+pub by_frame : (adu : List ℕ) (h : Head) (n : ℕ) → verdict_by adu h ≡ Good n → n + 3 ≤ length adu
 by_frame adu (Ok None) n e = cc
 by_frame adu (Err f) n e = cc
 by_frame adu (Ok (Some m)) n e = go (ltb (length adu) (m + 3)) refl
@@ -129,28 +125,6 @@ pub bad_within : (held : List ℕ) (n : ℕ) → ((i : ℕ) → i < n → verdic
 bad_within held zero bad = omega arith
 bad_within held (suc n) bad = omega (arith, judged_within held n (bad_not_open (bad n (omega arith))))
 
-false_eqb : (a b : ℕ) → a ≢ b → eqb a b ≡ false
-false_eqb a b ne = elim (eqb_tells a b) [ inl same ↦ absurd (ne same.1) | inr apart ↦ apart.0 ]
-
--- what the code tests, and what then stands there
-pub judged_none : (adu : List ℕ) (e : NoLength) → Err e ≡ head adu → Bad ≡ verdict_of adu
-unfolding verdict_of
-judged_none adu e is = ap (verdict_by adu) is
-
-pub judged_missing : (adu : List ℕ) → Ok None ≡ head adu → Open ≡ verdict_of adu
-unfolding verdict_of
-judged_missing adu is = ap (verdict_by adu) is
-
-pub judged_short : (adu : List ℕ) (n : ℕ) → Ok (Some n) ≡ head adu → length adu < n + 3 → Open ≡ verdict_of adu
-unfolding verdict_of
-judged_short adu n is short = rw (← is, lt-ltb (length adu) (n + 3) short) refl
-
-pub judged_good : (adu : List ℕ) (n : ℕ) → Ok (Some n) ≡ head adu → n + 3 ≤ length adu → crc (take (n + 1) adu) ≡ get_or adu (n + 1) 0 + 256 * get_or adu (n + 2) 0 → Good n ≡ verdict_of adu
-unfolding verdict_of
-judged_good adu n is fits sum = rw (← is, le-ltb (length adu) (n + 3) fits, eq-eqb _ _ sum) refl
-
-pub judged_bad : (adu : List ℕ) (n : ℕ) → Ok (Some n) ≡ head adu → n + 3 ≤ length adu → crc (take (n + 1) adu) ≢ get_or adu (n + 1) 0 + 256 * get_or adu (n + 2) 0 → Bad ≡ verdict_of adu
-unfolding verdict_of
-judged_bad adu n is fits sum = rw (← is, le-ltb (length adu) (n + 3) fits, false_eqb _ _ sum) refl
-
-pub ruleset judged = (judged_none, judged_missing, judged_short, judged_good, judged_bad)
+-- at the end and past it an offset is open
+pub verdict-past : (bytes : List ℕ) (i : ℕ) → length bytes ≤ i → verdict bytes i ≡ Open
+verdict-past bytes i past = rw (drop_all i bytes past) verdict_of-nil

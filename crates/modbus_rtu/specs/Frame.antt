@@ -32,7 +32,7 @@ rule code =
     if code == 0x2B then identification else
     unknown
 
--- The head of a request: the length of its PDU; `Ok None` where a byte that the rule needs is missing; `Err` where there is none.
+-- The head of a PDU: its length; `Ok None` where a byte that the rule needs is missing; `Err` where there is none.
 abbrev pub Head : Type 0
 Head = Result (Option ℕ) NoLength
 
@@ -63,8 +63,13 @@ verdict_by adu (Ok (Some n)) =
     if nat_lt (length adu) (n + 3) then Open else
     if crc (take (n + 1) adu) == slice_index adu (n + 1) + 256 * slice_index adu (n + 2) then Good n else Bad
 
+-- the same, by a rule that gives the head of a list
+abbrev pub judged_by : (List ℕ → Head) → List ℕ → Verdict
+judged_by heads adu = verdict_by adu (heads adu)
+
+-- what stands at the front of a list that is read as a request
 unfoldable pub verdict_of : List ℕ → Verdict
-verdict_of adu = verdict_by adu (head adu)
+verdict_of adu = judged_by head adu
 
 -- what stands at an offset
 abbrev pub verdict : List ℕ → ℕ → Verdict

@@ -1,3 +1,11 @@
 pub mod Checksum
 pub mod Frame
-pub mod First
+pub mod ResponseHead
+pub mod Next
+pub mod Leftmost
+pub mod Place
+pub mod Stands
+pub mod Framed
+pub mod Inbox
+pub mod Coding
+pub mod Decoding

@@ -1,7 +1,7 @@
 //! How long a PDU is, by its first bytes (Modbus Application Protocol V1.1b3, section 6).
-ghost use Rattle.std.specs.Prelude.{◌≡◌, ◌+◌, ◌<◌, ◌≤◌, IfOk, IfSome, Ok, None, length, slice_get};
+ghost use Rattle.std.specs.Prelude.{◌≡◌, ℕ, ◌+◌, ◌<◌, ◌≤◌, List, IfOk, IfSome, IsErr, Ok, None, length, slice_get};
 ghost use Rattle.std.specs.Option.{option_map};
-ghost use Rattle.modbus_rtu.specs.Frame.{head};
+ghost use Rattle.modbus_rtu.specs.Frame.{Head, head};
 
 use std::error::Error;
 use std::fmt;
@@ -19,10 +19,10 @@ impl fmt::Display for NoLength {
 impl Error for NoLength {}
 
 /// The MEI type of Read Device Identification.
-const MEI_DEVICE_IDENTIFICATION: u8 = 0x0E;
+pub(crate) const MEI_DEVICE_IDENTIFICATION: u8 = 0x0E;
 
 /// A length that counts the byte at a place: so many bytes, and as many as that byte says.
-fn counted_len(adu: &[u8], place: u8) -> Option<usize>
+pub(crate) fn counted_len(adu: &[u8], place: u8) -> Option<usize>
     ensures { result ≡ option_map (λ byte. place + byte) (slice_get adu.now place) }
 {
     let place = usize::from(place);
@@ -41,6 +41,7 @@ pub fn request_pdu_len(adu: &[u8]) -> Result<Option<usize>, NoLength>
     // The longest PDU is that of a read and write of 255 bytes, and no rule needs a byte past its tenth place.
     ensures most { IfOk result (λ found. IfSome found (λ n. n ≤ 265)) }
     ensures missing { result ≡ Ok None → length adu.now < 11 }
+    ensures coded { IsErr result → 1 < length adu.now }
 {
     let Some(&code) = adu.get(1) else {
         return Ok(None);
@@ -58,5 +59,57 @@ pub fn request_pdu_len(adu: &[u8]) -> Result<Option<usize>, NoLength>
             Some(_) => Err(NoLength(code)),
         },
         _ => Err(NoLength(code)),
+    }
+}
+
+/// How a PDU gets its length from its first bytes. Requests and responses differ in nothing else when frames are looked for.
+pub trait LengthRule {
+    // the head of bytes that begin with the slave address
+    ghost head: { List ℕ → Head };
+
+    // the most bytes of a frame that is waited for
+    ghost longest: { ℕ };
+
+    /// The length in bytes of the PDU, in bytes that begin with the slave address. `None` where a byte that tells it is missing.
+    ///
+    /// # Errors
+    /// `NoLength` with the function code, exactly where no length is known for it.
+    fn pdu_len(&self, adu: &[u8]) -> Result<Option<usize>, NoLength>
+        ensures exact { result ≡ head adu.now }
+
+        // Bytes wait for more only while they are fewer than the longest frame.
+        ensures most { IfOk result (λ found. IfSome found (λ n. length adu.now < n + 3 → n + 3 ≤ longest)) }
+        ensures missing { result ≡ Ok None → length adu.now < longest }
+
+        // The frame of a PDU has three bytes more, and a function code stands at place 1.
+        ensures fits { IfOk result (λ found. IfSome found (λ n. n + 3 ≤ usize.MAX)) }
+        ensures coded { IsErr result → 1 < length adu.now };
+}
+
+/// The rule of requests, `request_pdu_len`.
+#[derive(Clone, Copy, Debug, PartialEq, Eq)]
+pub struct RequestRule;
+
+impl LengthRule for RequestRule {
+    ghost head = { head };
+
+    ghost longest = { 268 };
+
+    fn pdu_len(&self, adu: &[u8]) -> Result<Option<usize>, NoLength> {
+        request_pdu_len(adu)
+    }
+}
+
+#[cfg(test)]
+mod tests {
+    use super::*;
+
+    #[test]
+    fn lengths_are_those_of_the_table(rt: HostRuntime) {
+        let counted = [0x01, 0x17, 0, 0, 0, 0, 0, 0, 0, 0, 99];
+        assert_eq!(rt; request_pdu_len(&counted), Ok(Some(109)));
+        assert_eq!(rt; RequestRule.pdu_len(&[0x01, 0x2B]), Ok(None));
+        assert_eq!(rt; request_pdu_len(&[0x01, 0x2B, 0x0D]), Err(NoLength(0x2B)));
+        assert_eq!(rt; request_pdu_len(&[0x01, 0x66]), Err(NoLength(0x66)));
     }
 }

@@ -1,11 +1,25 @@
-//! RTU framing: the checksum, the length rules, and the frames in a list of bytes (MODBUS over Serial Line V1.02, section 2.5.1).
+//! RTU framing: the checksum, the length rules, the search for frames in the bytes that came so far, and the inbox of a server
+//! (MODBUS over Serial Line V1.02, section 2.5.1).
+//!
+//! A line carries noise, and its bytes come in pieces. The definitions say which frames a whole list of bytes has, whatever its
+//! pieces; the laws say how that reading goes on when bytes follow; and the inbox keeps to it with at most 268 bytes in hand.
 #![tactic(auto)]
 
+mod codec;
 mod crc;
-pub mod first;
+mod decoder;
+mod inbox;
+pub mod laws;
 mod length;
+mod response_length;
+mod search;
 mod verdict;
 
+pub use crate::codec::{ClientCodec, ServerCodec};
 pub use crate::crc::{CrcMismatch, calc_crc, check_crc};
-pub use crate::length::{NoLength, request_pdu_len};
-pub use crate::verdict::{Verdict, judge};
+pub use crate::decoder::{FrameDecoder, FrameFault, RequestDecoder, ResponseDecoder};
+pub use crate::inbox::{Inbox, RtuError, RtuFrame};
+pub use crate::length::{LengthRule, NoLength, RequestRule, request_pdu_len};
+pub use crate::response_length::{ResponseRule, response_pdu_len};
+pub use crate::search::{Next, TRIES, next_frame, next_frame_by};
+pub use crate::verdict::{Verdict, judge, judge_by};

@@ -1,11 +1,11 @@
 //! What stands at the front of a list of bytes.
-ghost use Rattle.std.specs.Prelude.{◌≡◌, ℕ, ◌+◌, ◌<◌, ◌≤◌, length};
-ghost use Rattle.modbus_rtu.specs.Frame.{verdict_of};
+ghost use Rattle.std.specs.Prelude.{◌≡◌, ◌≢◌, ℕ, ◌+◌, ◌<◌, ◌≤◌, length};
+ghost use Rattle.modbus_rtu.specs.Frame.{judged_by, verdict_of};
 
 use crate::crc::check_crc;
-use crate::length::request_pdu_len;
+use crate::length::{LengthRule, RequestRule};
 
-/// What stands at the front of bytes, read as a request.
+/// What stands at the front of bytes, read by a length rule.
 #[derive(Clone, Copy, Debug, PartialEq, Eq)]
 pub enum Verdict {
     /// Bytes are missing: some that tell the length of the PDU, or the end of the frame.
@@ -16,16 +16,17 @@ pub enum Verdict {
     Good(usize),
 }
 
-/// Judges the front of bytes, which begins with the slave address of a request if there is one.
-#[tactic(auto, using(crate::proofs::Verdicts::judged))]
-pub fn judge(adu: &[u8]) -> Verdict
-    ensures exact { result ≡ verdict_of adu.now }
+/// Judges the front of bytes, which begins with a slave address if there is a frame, by a length rule.
+#[tactic(auto, using(crate::proofs::Judging::judged))]
+pub fn judge_by<R: LengthRule>(rule: &R, adu: &[u8]) -> Verdict
+    ensures exact { result ≡ judged_by R.head adu.now }
 
     // Bytes wait for more only while they are fewer than the longest frame.
-    ensures short { result ≡ Verdict.Open → length adu.now < 268 }
+    ensures short { result ≡ Verdict.Open → length adu.now < R.longest }
+    ensures some { result ≢ Verdict.Open → 0 < length adu.now }
     ensures whole { (n : ℕ) → result ≡ Verdict.Good n → n + 3 ≤ length adu.now }
 {
-    match request_pdu_len(adu) {
+    match rule.pdu_len(adu) {
         Err(_) => Verdict::Bad,
         Ok(None) => Verdict::Open,
         Ok(Some(pdu_len)) => {
@@ -40,4 +41,16 @@ pub fn judge(adu: &[u8]) -> Verdict
             }
         }
     }
+}
+
+/// Judges the front of bytes, which begins with the slave address of a request if there is one.
+#[tactic(auto, unfolding(crate::specs::Frame::verdict_of))]
+pub fn judge(adu: &[u8]) -> Verdict
+    ensures exact { result ≡ verdict_of adu.now }
+
+    // The longest request has 268 bytes.
+    ensures short { result ≡ Verdict.Open → length adu.now < 268 }
+    ensures whole { (n : ℕ) → result ≡ Verdict.Good n → n + 3 ≤ length adu.now }
+{
+    judge_by(&RequestRule, adu)
 }

@@ -1,16 +1,15 @@
-use Rattle.std.proofs.Common.{Err, sym, subst}
-use Rattle.modbus_link.specs.Outside.{bytes_read, bytes_appended}
-use Rattle.modbus_app.specs.declared.fault.Fault.TheVariants.{Usage}
-use Rattle.modbus_app.specs.Early.{EndsAs}
+use Rattle.std.proofs.Common.{Ok, subst}
+use Rattle.modbus_link.specs.Outside.{bytes_appended, cuts_made}
+use Rattle.modbus_link.proofs.Runs.{bytes_read-all}
+use Rattle.modbus_server.specs.Serving.{EndsAs}
+use Rattle.modbus_server.specs.Rooms.{totals}
+use Rattle.modbus_app.specs.Zeros.{zero_answers, zero_table}
 use Rattle.modbus_app.proofs.run.run.Goals as goal
 
-pub returns-then-not-is_rtu-clause-text : goal.returns-then-not-is_rtu-clause-text
-returns-then-not-is_rtu-clause-text g c = λ told. ((λ ok. absurd (c.status.ensures.not_ok ok)), λ fault. (Usage, sym c.status.ensures.value, c.report.ensures.front told))
-
-pub returns-in-Err-clause-unbuilt : goal.returns-in-Err-clause-unbuilt
-returns-in-Err-clause-unbuilt g c = λ is told told'.
-    let unbuilt = c.status-in-Err.ensures.unbuilt is in (
-      unbuilt.0,
-      subst (λ fault. EndsAs (bytes_read (g.S.Ends.input c.args.source.now) (g.S.Ends.input c.process.new.source)) (g.S.Ends.input c.process.new.source).left
-          (bytes_appended (g.K.Ends.output c.args.sink.now) (g.K.Ends.output c.process.new.sink)) (Err fault)) unbuilt.1 (c.in-Err.ensures.served told told'),
-    )
+pub returns-in-Ok-clause-ok : goal.returns-in-Ok-clause-ok
+returns-in-Ok-clause-ok g c = λ is told told'. (
+  subst (λ b. EndsAs zero_answers b (totals (cuts_made (g.S.Ends.input c.args.source.now) (g.S.Ends.input c.serve.new.source))) zero_table zero_table
+      (bytes_appended (g.K.Ends.output c.args.sink.now) (g.K.Ends.output c.serve.new.sink)) (Ok tt))
+      (bytes_read-all _ _ (c.serve.ensures.source.content told) (c.in-Ok.ensures.ended told)) (c.in-Ok.ensures.served told told'),
+  c.in-Ok.ensures.ended told,
+)

@@ -1,0 +1,44 @@
+-- The status and the text of each ending of the program.
+use Rattle.std.specs.Prelude.{ℕ, List, [], ◌++◌, codes, Option, Some, None}
+use Rattle.modbus_frame.specs.declared.fault.Reason.{Reason}
+use Rattle.modbus_frame.specs.declared.fault.Reason.TheVariants as reason
+use Rattle.modbus_server.specs.declared.error.ProcessError.{ProcessError}
+use Rattle.modbus_server.specs.declared.error.ProcessError.TheVariants.{ReadFault, WriteFault, TooManyRetries, BytesRemaining, InvalidRequest, ResponseTooLong, TurnLimit, NoMemory}
+
+-- a response that is too long has none, since the device gives no such response
+abbrev pub status_of : ProcessError → Option ℕ
+status_of ReadFault = Some 3
+status_of WriteFault = Some 4
+status_of TooManyRetries = Some 5
+status_of BytesRemaining = Some 6
+status_of (InvalidRequest reason) = Some 7
+status_of TurnLimit = Some 8
+status_of NoMemory = Some 11
+status_of (ResponseTooLong size) = None
+
+abbrev pub usage_line : List ℕ
+usage_line = codes "modbus: usage: rtu [size [seeded]] | tcp [size] | make n | listen-rtu port | listen-tcp port\n"
+
+abbrev pub reason_text : Reason → List ℕ
+reason_text reason.UnexpectedEnd = codes "unexpected end"
+reason_text reason.SizeExceeded = codes "size exceeded"
+reason_text reason.TooShort = codes "too short"
+reason_text reason.InvalidQuantity = codes "invalid quantity"
+reason_text (reason.InvalidCoil word) = codes "invalid coil value"
+reason_text (reason.UnsupportedMei mei) = codes "unsupported MEI type"
+reason_text (reason.InvalidReadCode code) = codes "invalid read code"
+reason_text (reason.InvalidConformity level) = codes "invalid conformity level"
+reason_text (reason.InvalidRunStatus status) = codes "invalid run status"
+reason_text reason.InvalidObjectLength = codes "invalid object length"
+reason_text (reason.InvalidFunction code) = codes "invalid function"
+reason_text reason.UndecodedData = codes "undecoded data"
+
+abbrev pub line_of : ProcessError → List ℕ
+line_of ReadFault = codes "modbus: read fault\n"
+line_of WriteFault = codes "modbus: write fault\n"
+line_of TooManyRetries = codes "modbus: too many retries\n"
+line_of BytesRemaining = codes "modbus: bytes remaining\n"
+line_of (InvalidRequest reason) = codes "modbus: invalid request: " ++ reason_text reason ++ codes "\n"
+line_of TurnLimit = codes "modbus: turn limit\n"
+line_of NoMemory = codes "modbus: no memory\n"
+line_of (ResponseTooLong size) = []

@@ -1,0 +1,81 @@
+//! The statuses of the program, and the lines that tell them.
+ghost use Rattle.std.specs.Prelude.{◌≡◌, ◌≢◌, ℕ, IsTrue, Some};
+ghost use Rattle.modbus_link.specs.Outside.{Rose, Extends, bytes_appended, IsFront};
+ghost use Rattle.modbus_server.specs.declared.error.ProcessError.TheVariants.{ResponseTooLong};
+ghost use Rattle.modbus_app.specs.Status.{status_of, line_of, usage_line};
+
+use modbus_frame::Reason;
+use modbus_link::{Sink, write_all};
+use modbus_server::ProcessError;
+
+/// The status of a usage fault.
+pub const USAGE: u8 = 2;
+
+/// The line of a usage fault.
+pub const USAGE_LINE: &str =
+    "modbus: usage: rtu [size [seeded]] | tcp [size] | make n | listen-rtu port | listen-tcp port\n";
+
+/// The status of a fault. A response that is too long has none.
+pub fn status(error: ProcessError) -> u8
+    requires { (size : ℕ) → error ≢ ResponseTooLong size }
+    ensures value { status_of error ≡ Some result }
+    ensures fault { result ≢ 0 }
+    ensures not_usage { result ≢ 2 }
+{
+    match error {
+        ProcessError::ReadFault => 3,
+        ProcessError::WriteFault => 4,
+        ProcessError::TooManyRetries => 5,
+        ProcessError::BytesRemaining => 6,
+        ProcessError::InvalidRequest(_) => 7,
+        ProcessError::TurnLimit => 8,
+        ProcessError::NoMemory => 11,
+        ProcessError::ResponseTooLong(_) => unreachable!(),
+    }
+}
+
+/// The line of a request that is refused.
+fn refusal_line(reason: Reason) -> &'static str
+    ensures { result.now ≡ line_of (ProcessError.InvalidRequest reason) }
+{
+    match reason {
+        Reason::UnexpectedEnd => "modbus: invalid request: unexpected end\n",
+        Reason::SizeExceeded => "modbus: invalid request: size exceeded\n",
+        Reason::TooShort => "modbus: invalid request: too short\n",
+        Reason::InvalidQuantity => "modbus: invalid request: invalid quantity\n",
+        Reason::InvalidCoil(_) => "modbus: invalid request: invalid coil value\n",
+        Reason::UnsupportedMei(_) => "modbus: invalid request: unsupported MEI type\n",
+        Reason::InvalidReadCode(_) => "modbus: invalid request: invalid read code\n",
+        Reason::InvalidConformity(_) => "modbus: invalid request: invalid conformity level\n",
+        Reason::InvalidRunStatus(_) => "modbus: invalid request: invalid run status\n",
+        Reason::InvalidObjectLength => "modbus: invalid request: invalid object length\n",
+        Reason::InvalidFunction(_) => "modbus: invalid request: invalid function\n",
+        Reason::UndecodedData => "modbus: invalid request: undecoded data\n",
+    }
+}
+
+/// The line of a fault.
+pub fn line(error: ProcessError) -> &'static str
+    ensures { result.now ≡ line_of error }
+{
+    match error {
+        ProcessError::ReadFault => "modbus: read fault\n",
+        ProcessError::WriteFault => "modbus: write fault\n",
+        ProcessError::TooManyRetries => "modbus: too many retries\n",
+        ProcessError::BytesRemaining => "modbus: bytes remaining\n",
+        ProcessError::InvalidRequest(reason) => refusal_line(reason),
+        ProcessError::TurnLimit => "modbus: turn limit\n",
+        ProcessError::NoMemory => "modbus: no memory\n",
+        ProcessError::ResponseTooLong(_) => "",
+    }
+}
+
+/// Writes a line, as far as the sink takes it.
+pub fn report<E: Sink>(errors: &mut E, line: &str)
+    ensures sink { Extends (E.output errors.old) (E.output errors.new) }
+    ensures front { IsTrue (E.output errors.old).told → IsFront (bytes_appended (E.output errors.old) (E.output errors.new)) line.now }
+    ensures whole { IsTrue (E.output errors.old).told → (Rose (E.output errors.old).faults (E.output errors.new).faults → ⊥)
+        → bytes_appended (E.output errors.old) (E.output errors.new) ≡ line.now }
+{
+    let _ = write_all(errors, line.as_bytes());
+}

@@ -1,0 +1,198 @@
+//! Runs of the program over memory: worked frames, noise, cuts and faults.
+
+use crate::run::run;
+use modbus_link::{MemorySink, MemorySource};
+use modbus_rtu::calc_crc;
+use std::alloc::Global;
+use std::process::Abort;
+use std::test::Fail;
+
+/// A read of one register from address 0 of slave 1, and its reply.
+const READ_ONE: [u8; 8] = [0x01, 0x03, 0x00, 0x00, 0x00, 0x01, 0x84, 0x0A];
+
+const ONE_ZERO: [u8; 7] = [0x01, 0x03, 0x02, 0x00, 0x00, 0xB8, 0x44];
+
+/// Runs the program with these words over an input that is cut at the stops, with reads and writes that fail by number.
+fn ran(
+    alloc: Global,
+    word: &str,
+    input: &[u8],
+    stops: &[usize],
+    read_fails: &[u64],
+    write_fails: &[u64],
+) -> Result<(u8, MemorySink, MemorySink), Fail> {
+    let mut words = Vec::new(alloc);
+    if !word.is_empty() {
+        words.push(String::from_str(alloc, word)?)?;
+    }
+    let mut source = MemorySource::new(alloc, input, stops, read_fails)?;
+    let mut sink = MemorySink::new(alloc, 64, 64, write_fails)?;
+    let mut errors = MemorySink::new(alloc, 128, 128, &[])?;
+    let status = run(alloc, &words, &mut source, &mut sink, &mut errors);
+    Ok((status, sink, errors))
+}
+
+/// The word `rtu` over this input gives this status, these replies and this text.
+fn expect(
+    rt: &impl Abort,
+    alloc: Global,
+    input: &[u8],
+    stops: &[usize],
+    status: u8,
+    replies: &[u8],
+    text: &str,
+) -> Result<(), Fail> {
+    let (found, sink, errors) = ran(alloc, "rtu", input, stops, &[], &[])?;
+    assert_eq!(rt; found, status);
+    assert_eq!(rt; sink.bytes(), replies);
+    assert_eq!(rt; errors.bytes(), text.as_bytes());
+    Ok(())
+}
+
+#[test]
+fn requests_are_answered_frame_by_frame(rt: HostRuntime) -> Result<(), Fail> {
+    let alloc = rt.alloc();
+    expect(&rt, alloc, &READ_ONE, &[], 0, &ONE_ZERO, "")?;
+    expect(&rt, alloc, &READ_ONE, &[1, 2, 3, 7], 0, &ONE_ZERO, "")?;
+    expect(&rt, alloc, b"", &[], 0, b"", "")?;
+    // The range ends past the last register; a quantity of 0; a function that the device lacks.
+    let outside = [0x01, 0x03, 0x08, 0x2B, 0x00, 0x02, 0xB6, 0x63];
+    expect(
+        &rt,
+        alloc,
+        &outside,
+        &[],
+        0,
+        &[0x01, 0x83, 0x02, 0xC0, 0xF1],
+        "",
+    )?;
+    let none = [0x01, 0x03, 0x00, 0x00, 0x00, 0x00, 0x45, 0xCA];
+    expect(
+        &rt,
+        alloc,
+        &none,
+        &[],
+        0,
+        &[0x01, 0x83, 0x03, 0x01, 0x31],
+        "",
+    )?;
+    let status = [0x01, 0x07, 0x41, 0xE2];
+    expect(
+        &rt,
+        alloc,
+        &status,
+        &[],
+        0,
+        &[0x01, 0x87, 0x01, 0x82, 0x30],
+        "",
+    )?;
+    // A device identification is waited for after its slave address and function code.
+    let identification = [0x01, 0x2B, 0x0E, 0x01, 0x00, 0x70, 0x77];
+    expect(
+        &rt,
+        alloc,
+        &identification,
+        &[2],
+        0,
+        &[0x01, 0xAB, 0x01, 0x9E, 0xF0],
+        "",
+    )
+}
+
+#[test]
+fn noise_is_skipped_up_to_twenty_offsets_of_one_read(rt: HostRuntime) -> Result<(), Fail> {
+    let alloc = rt.alloc();
+    let many = "modbus: too many retries\n";
+    let remaining = "modbus: bytes remaining\n";
+    let noise = [0x7F; 21];
+    expect(&rt, alloc, &noise, &[], 5, b"", many)?;
+    let mut single = Vec::new(alloc);
+    for stop in 1..21 {
+        single.push(stop)?;
+    }
+    expect(&rt, alloc, &noise, single.as_slice(), 6, b"", remaining)?;
+
+    let mut input = Vec::from_slice(alloc, &[0xAA])?;
+    input.extend_from_slice(&READ_ONE)?;
+    expect(&rt, alloc, &input, &[], 0, &ONE_ZERO, "")?;
+    let mut input = Vec::from_slice(alloc, &noise[..19])?;
+    input.extend_from_slice(&READ_ONE)?;
+    expect(&rt, alloc, &input, &[], 0, &ONE_ZERO, "")?;
+    let mut input = Vec::from_slice(alloc, &noise[..20])?;
+    input.extend_from_slice(&READ_ONE)?;
+    expect(&rt, alloc, &input, &[], 5, b"", many)?;
+    expect(&rt, alloc, &input, &[10], 0, &ONE_ZERO, "")
+}
+
+#[test]
+fn an_input_that_ends_within_a_frame_is_told(rt: HostRuntime) -> Result<(), Fail> {
+    let alloc = rt.alloc();
+    let mut input = Vec::from_slice(alloc, &READ_ONE)?;
+    input.extend_from_slice(&READ_ONE)?;
+    input.push(0x01)?;
+    let mut replies = Vec::from_slice(alloc, &ONE_ZERO)?;
+    replies.extend_from_slice(&ONE_ZERO)?;
+    expect(
+        &rt,
+        alloc,
+        &input,
+        &[],
+        6,
+        &replies,
+        "modbus: bytes remaining\n",
+    )
+}
+
+#[test]
+fn a_frame_that_is_no_request_is_told(rt: HostRuntime) -> Result<(), Fail> {
+    let alloc = rt.alloc();
+    let coil = [0x01, 0x05, 0x00, 0x00, 0x12, 0x34, 0xC0, 0xBD];
+    let invalid = "modbus: invalid request: invalid coil value\n";
+    expect(&rt, alloc, &coil, &[], 7, b"", invalid)?;
+    // The longest frame, a read and write of 255 bytes.
+    let mut longest = Vec::from_slice(
+        alloc,
+        &[
+            0x01, 0x17, 0x00, 0x00, 0x00, 0x01, 0x00, 0x00, 0x00, 0x7F, 0xFF,
+        ],
+    )?;
+    longest.extend_from_slice(&[0; 255])?;
+    let crc = calc_crc(&longest);
+    longest.extend_from_slice(&crc.to_le_bytes())?;
+    expect(
+        &rt,
+        alloc,
+        &longest,
+        &[],
+        7,
+        b"",
+        "modbus: invalid request: size exceeded\n",
+    )
+}
+
+#[test]
+fn faults_have_their_status_and_lose_no_reply(rt: HostRuntime) -> Result<(), Fail> {
+    let alloc = rt.alloc();
+    let (status, sink, errors) = ran(alloc, "rtu", &READ_ONE, &[], &[1], &[])?;
+    assert_eq!(rt; status, 3);
+    assert_eq!(rt; sink.bytes(), ONE_ZERO.as_slice());
+    assert_eq!(rt; errors.bytes(), b"modbus: read fault\n".as_slice());
+
+    let mut input = Vec::from_slice(alloc, &READ_ONE)?;
+    input.extend_from_slice(&READ_ONE)?;
+    let (status, sink, errors) = ran(alloc, "rtu", &input, &[], &[], &[1])?;
+    assert_eq!(rt; status, 4);
+    assert_eq!(rt; sink.bytes(), ONE_ZERO.as_slice());
+    assert_eq!(rt; errors.bytes(), b"modbus: write fault\n".as_slice());
+
+    let usage =
+        "modbus: usage: rtu [size [seeded]] | tcp [size] | make n | listen-rtu port | listen-tcp port\n";
+    let (status, _sink, errors) = ran(alloc, "serial", &READ_ONE, &[], &[], &[])?;
+    assert_eq!(rt; status, 2);
+    assert_eq!(rt; errors.bytes(), usage.as_bytes());
+    let (status, sink, errors) = ran(alloc, "", &READ_ONE, &[], &[], &[])?;
+    assert_eq!(rt; status, 2);
+    assert_eq!(rt; sink.bytes(), b"".as_slice());
+    assert_eq!(rt; errors.bytes(), usage.as_bytes());
+    Ok(())
+}

@@ -1,0 +1,83 @@
+-- Frames one after another are read as they are.
+use Rattle.std.proofs.Common.{◌≡◌, ℕ, ◌+◌, ◌-◌, ◌*◌, ◌/◌, ◌%◌, ◌≤◌, List, [], ◌∷◌, ◌++◌, map, length, take, drop, get_or, Some, Ok, refl, sym, ap, ◌∙◌, subst, arith, length-append, append_assoc}
+use Rattle.std.specs.List.{AllByRecursion}
+use Rattle.std.proofs.lemmas.List.{take_at, drop_at, drop-drop, get_or-drop, get_or-append_right}
+use Rattle.modbus_rtu.specs.declared.verdict.Verdict.TheVariants.{Good}
+use Rattle.modbus_rtu.specs.Checksum.{crc}
+use Rattle.modbus_rtu.specs.Frame.{frame, head, verdict, verdict_of}
+use Rattle.modbus_rtu.specs.Stands.{frame_at}
+use Rattle.modbus_rtu.specs.Framed.{HasHead, stream_of, IsWholeReading}
+use Rattle.modbus_rtu.proofs.Verdicts.{head-append, verdict-drop, verdict_of-nil}
+use Rattle.modbus_rtu.proofs.Judging.{judged_good}
+use Rattle.modbus_rtu.proofs.Reading.{Reads, reads-shift}
+use Rattle.modbus_rtu.proofs.Reading.Reads.{stops, takes}
+use Rattle.modbus_rtu.proofs.LeftmostReads.{leftmost_from_reads}
+
+frame_append : (slave : ℕ) (pdu rest : List ℕ) → frame slave pdu ++ rest ≡ (slave ∷ pdu) ++ (crc (slave ∷ pdu) % 256 ∷ crc (slave ∷ pdu) / 256 ∷ rest)
+unfolding frame
+frame_append slave pdu rest = append_assoc (slave ∷ pdu) (crc (slave ∷ pdu) % 256 ∷ crc (slave ∷ pdu) / 256 ∷ []) rest
+
+length-frame : (slave : ℕ) (pdu : List ℕ) → length (frame slave pdu) ≡ length pdu + 3
+unfolding frame
+length-frame slave pdu = omega (arith, length-append (slave ∷ pdu) (crc (slave ∷ pdu) % 256 ∷ crc (slave ∷ pdu) / 256 ∷ []))
+
+-- what begins with a frame is good
+good_front : (slave low high : ℕ) (pdu rest : List ℕ) → HasHead (slave, pdu) → crc (slave ∷ pdu) ≡ low + 256 * high →
+    verdict_of ((slave ∷ pdu) ++ (low ∷ high ∷ rest)) ≡ Good (length pdu)
+unfolding verdict_of
+good_front slave low high pdu rest has sum =
+    let body = slave ∷ pdu in
+    let n = length pdu in
+    let adu = body ++ (low ∷ high ∷ rest) in
+    let size : length body ≡ n + 1 = omega arith in
+    let is : head adu ≡ Ok (Some n) = head-append body (low ∷ high ∷ rest) (λ o. cc (o, has)) ∙ has in
+    let none : n + 1 - (n + 1) ≡ 0 = omega arith in
+    let one : n + 2 - (n + 1) ≡ 1 = omega arith in
+    let first : get_or adu (n + 1) 0 ≡ low = get_or-append_right body (low ∷ high ∷ rest) (n + 1) (n + 1) 0 size (omega arith) ∙ rw none refl in
+    let second : get_or adu (n + 2) 0 ≡ high = get_or-append_right body (low ∷ high ∷ rest) (n + 1) (n + 2) 0 size (omega arith) ∙ rw one refl in
+    let taken : take (n + 1) adu ≡ body = take_at body (low ∷ high ∷ rest) (n + 1) size in
+    sym (judged_good adu (head adu) n (sym is) (omega (arith, length-append body (low ∷ high ∷ rest))) (ap crc taken ∙ sum ∙ omega (arith, first, second)))
+
+front_of : (slave : ℕ) (pdu rest : List ℕ) → verdict ((slave ∷ pdu) ++ rest) 0 ≡ Good (length pdu) → frame_at ((slave ∷ pdu) ++ rest) 0 ≡ (slave, pdu)
+front_of slave pdu rest good = rw (good, take_at pdu rest (length pdu) refl) refl
+
+-- an offset in what follows a front
+frame_at_later : (bytes : List ℕ) (start f : ℕ) → frame_at bytes (start + f) ≡ frame_at (drop start bytes) f
+frame_at_later bytes start f =
+    let e : start + (f + 1) ≡ start + f + 1 = omega arith in
+    rw (verdict-drop bytes start f, get_or-drop start bytes f 0, drop-drop (f + 1) start bytes, e) refl
+
+frames_later : (bytes : List ℕ) (start : ℕ) (frames : List ℕ) → map (frame_at bytes) (map (λ f. start + f) frames) ≡ map (frame_at (drop start bytes)) frames
+frames_later bytes start [] = refl
+frames_later bytes start (f ∷ frames) = let one = frame_at_later bytes start f in let rest = frames_later bytes start frames in cc
+
+abbrev ReadsAll : List ℕ → List (ℕ × List ℕ) → Type 0
+ReadsAll bytes messages = (frames : List ℕ) × Reads bytes 0 frames (length bytes) × (map (frame_at bytes) frames ≡ messages)
+
+one_more : (slave : ℕ) (pdu rest : List ℕ) (messages : List (ℕ × List ℕ)) → HasHead (slave, pdu) → ReadsAll rest messages → ReadsAll (frame slave pdu ++ rest) ((slave, pdu) ∷ messages)
+one_more slave pdu rest messages has (frames, reads, are) =
+    let n = length pdu in
+    let bytes = frame slave pdu ++ rest in
+    let sum = crc (slave ∷ pdu) in
+    let size = length-frame slave pdu in
+    let total : length bytes ≡ length (frame slave pdu) + length rest = length-append (frame slave pdu) rest in
+    let left : drop (n + 3) bytes ≡ rest = drop_at (frame slave pdu) rest (n + 3) size in
+    let good : verdict bytes 0 ≡ Good n = ap verdict_of (frame_append slave pdu rest) ∙ good_front slave (sum % 256) (sum / 256) pdu rest has (omega arith) in
+    let inside : n + 3 ≤ length bytes = omega arith in
+    let end : n + 3 + length rest ≡ length bytes = omega arith in
+    let reads' : Reads (drop (n + 3) bytes) 0 frames (length rest) = rw left reads in
+    let moved = reads-shift bytes (n + 3) inside reads' (0 + (n + 3)) (omega arith) in
+    let front : frame_at bytes 0 ≡ (slave, pdu) = rw (frame_append slave pdu rest) (front_of slave pdu _ (good_front slave (sum % 256) (sum / 256) pdu rest has (omega arith))) in
+    let later : map (frame_at bytes) (map (λ f. n + 3 + f) frames) ≡ messages = frames_later bytes (n + 3) frames ∙ ap (λ xs. map (frame_at xs) frames) left ∙ are in (
+      0 ∷ map (λ f. n + 3 + f) frames,
+      subst (λ s. Reads bytes 0 (0 ∷ map (λ f. n + 3 + f) frames) s) end (takes n good moved),
+      cc (front, later),
+    )
+
+all_read : (messages : List (ℕ × List ℕ)) → AllByRecursion HasHead messages → ReadsAll (stream_of messages) messages
+all_read [] has = ([], stops (omega arith) verdict_of-nil, refl)
+all_read (message ∷ messages) has = one_more message.0 message.1 (stream_of messages) messages has.0 (all_read messages has.1)
+
+-- Frames one after another, each of the length that its head says, are the leftmost frames, and the stop is the end.
+pub stream_read : (messages : List (ℕ × List ℕ)) → AllByRecursion HasHead messages → IsWholeReading (stream_of messages) messages
+stream_read messages has = let r = all_read messages has in (r.0, leftmost_from_reads (stream_of messages) r.1, sym r.2)

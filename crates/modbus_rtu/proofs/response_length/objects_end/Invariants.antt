@@ -1,0 +1,11 @@
+use Rattle.std.proofs.Common.{◌≡◌, ◌+◌, ◌*◌, ◌-◌, ◌≤◌, length}
+use Rattle.modbus_rtu.specs.ResponseHead.{after_objects}
+use Rattle.modbus_rtu.proofs.response_length.objects_end.Given as goal
+
+abbrev pub invariant-loop : goal.invariant-loop
+invariant-loop l = record {
+  left : after_objects l.adu (l.count - l.counter) l.place ≡ after_objects l.adu l.count 8;
+  from : 8 ≤ l.place;
+  within : l.place ≤ length l.adu;
+  most : l.place ≤ 8 + 257 * l.counter;
+}

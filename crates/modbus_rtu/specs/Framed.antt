@@ -1,0 +1,17 @@
+-- A list of bytes that is nothing but frames.
+use Rattle.std.specs.Prelude.{◌≡◌, ℕ, List, ◌∷◌, map, flat_map, length, Some, Ok}
+use Rattle.modbus_rtu.specs.Frame.{head, frame}
+use Rattle.modbus_rtu.specs.Leftmost.{IsLeftmost}
+use Rattle.modbus_rtu.specs.Stands.{frame_at}
+
+-- a slave address and a PDU whose first bytes tell its length
+abbrev pub HasHead : ℕ × List ℕ → Type 0
+HasHead message = head (message.0 ∷ message.1) ≡ Ok (Some (length message.1))
+
+-- their frames, one after another
+abbrev pub stream_of : List (ℕ × List ℕ) → List ℕ
+stream_of messages = flat_map (λ message. frame message.0 message.1) messages
+
+-- the leftmost reading delivers exactly these, and stops where the bytes end
+abbrev pub IsWholeReading : List ℕ → List (ℕ × List ℕ) → Type 0
+IsWholeReading bytes messages = (frames : List ℕ) × IsLeftmost bytes frames (length bytes) × (messages ≡ map (frame_at bytes) frames)

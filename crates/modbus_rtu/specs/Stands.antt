@@ -1,0 +1,79 @@
+-- What a reader that holds bytes stands for: the bytes that it was given so far, the cuts between its reads, and the frames that it
+-- gave away.
+use Rattle.std.specs.Prelude.{◌≡◌, ℕ, ◌+◌, ◌<◌, ◌≤◌, ◌⊎◌, List, [], ◌∷◌, map, length, take, drop, slice_index, Contains}
+use Rattle.modbus_rtu.specs.declared.verdict.Verdict.{Verdict}
+use Rattle.modbus_rtu.specs.declared.verdict.Verdict.TheVariants.{Open, Bad, Good}
+use Rattle.modbus_rtu.specs.Frame.{verdict}
+use Rattle.modbus_rtu.specs.Leftmost.{IsLeftmost}
+use Rattle.modbus_rtu.specs.Place.{IsCrowd, IsPlace, frames_below}
+
+-- the slave address and the PDU of the frame at an offset
+abbrev pub pdu_len_of : Verdict → ℕ
+pdu_len_of Open = 0
+pdu_len_of Bad = 0
+pdu_len_of (Good n) = n
+
+abbrev pub frame_at : List ℕ → ℕ → ℕ × List ℕ
+frame_at bytes f = (slice_index bytes f, take (pdu_len_of (verdict bytes f)) (drop (f + 1) bytes))
+
+-- Cuts are the totals after the reads that gave bytes. The first of these reads begins at the given total.
+abbrev pub last_cut : ℕ → List ℕ → ℕ
+last_cut total [] = total
+last_cut total (cut ∷ cuts) = last_cut cut cuts
+
+abbrev pub last_cut_but_one : ℕ → List ℕ → ℕ
+last_cut_but_one total [] = total
+last_cut_but_one total (cut ∷ []) = total
+last_cut_but_one total (cut ∷ next ∷ cuts) = last_cut_but_one cut (next ∷ cuts)
+
+-- one of the reads went from the total b to the total e
+abbrev pub IsRead : ℕ → List ℕ → ℕ → ℕ → Type 0
+IsRead total [] b e = ⊥
+IsRead total (cut ∷ cuts) b e = ((b ≡ total) × (e ≡ cut)) ⊎ IsRead cut cuts b e
+
+-- each read gave bytes
+abbrev pub Rise : ℕ → List ℕ → Type 0
+Rise total [] = Unit {0}
+Rise total (cut ∷ cuts) = (total < cut) × Rise cut cuts
+
+-- the cuts of reads that gave these bytes
+pub record AreCuts (bytes cuts : List ℕ) : Type 0 where
+  pub rise : Rise 0 cuts
+  pub all : last_cut 0 cuts ≡ length bytes
+
+-- one of the reads brought a crowd that begins at k
+abbrev pub HasCrowd : List ℕ → List ℕ → ℕ → Type 0
+HasCrowd bytes cuts k = (b : ℕ) × (e : ℕ) × IsRead 0 cuts b e × IsCrowd (take b bytes) (take e bytes) k
+
+-- The crowd at k is the first one, and the frames given away are those before its twentieth offset.
+pub record IsFirstCrowd (bytes cuts : List ℕ) (taken : List (ℕ × List ℕ)) (k : ℕ) : Type 0 where
+  pub crowd : HasCrowd bytes cuts k
+  pub first : (j : ℕ) → HasCrowd bytes cuts j → k ≤ j
+  pub took : (frames : List ℕ) (stop : ℕ) → IsLeftmost bytes frames stop → taken ≡ map (frame_at bytes) (frames_below (k + 19) frames)
+
+-- The frame that is given away after these is the next delivered one, and it begins below the twentieth offset of each crowd.
+pub record IsTakenNext (bytes cuts : List ℕ) (taken : List (ℕ × List ℕ)) (frame : ℕ × List ℕ) : Type 0 where
+  pub offset : ℕ
+  pub calm : (k : ℕ) → HasCrowd bytes cuts k → offset < k + 19
+  pub within : (frames : List ℕ) (stop : ℕ) → IsLeftmost bytes frames stop → Contains frames offset
+  pub is : frame_at bytes offset ≡ frame
+  pub earlier : (frames : List ℕ) (stop : ℕ) → IsLeftmost bytes frames stop → taken ≡ map (frame_at bytes) (frames_below offset frames)
+
+-- All delivered frames were given away, the held bytes begin at the stop, and no read brought a crowd.
+pub record IsUsedUp (bytes cuts held : List ℕ) (taken : List (ℕ × List ℕ)) : Type 0 where
+  pub frames : List ℕ
+  pub stop : ℕ
+  pub reading : IsLeftmost bytes frames stop
+  pub holds : held ≡ drop stop bytes
+  pub took : taken ≡ map (frame_at bytes) frames
+  pub calm : (k : ℕ) → HasCrowd bytes cuts k → ⊥
+
+-- The reader was given these bytes with these cuts. It holds what stands from some place on, gave away the delivered frames below
+-- that place, and no crowd lies wholly below it.
+pub record StandsFor (bytes cuts held : List ℕ) (taken : List (ℕ × List ℕ)) : Type 0 where
+  pub are_cuts : AreCuts bytes cuts
+  pub place : ℕ
+  pub at : IsPlace (take (last_cut_but_one 0 cuts) bytes) bytes place
+  pub holds : held ≡ drop place bytes
+  pub calm : (k : ℕ) → HasCrowd bytes cuts k → place < k + 20
+  pub took : (frames : List ℕ) (stop : ℕ) → IsLeftmost bytes frames stop → taken ≡ map (frame_at bytes) (frames_below place frames)

@@ -1,0 +1,433 @@
+//! The decoders of frames in a buffer that a reader appends to (MODBUS over Serial Line V1.02, section 2.5.1).
+//!
+//! A line carries noise: where no frame stands at the front of the buffer, a decoder drops a byte and looks again. The bytes that it
+//! dropped since its last frame are recorded.
+ghost use Rattle.std.specs.Prelude.{◌≡◌, ℕ, ◌+◌, ◌<◌, ◌≤◌, Ok, None, List, [], ◌↔◌, length, take, drop, slice_index, IsOk, IfOk, IfErr, OnOk, OnErr};
+ghost use Rattle.modbus_rtu.specs.Frame.{judged_by, verdict_of};
+ghost use Rattle.modbus_rtu.specs.ResponseHead.{response_verdict};
+ghost use Rattle.modbus_rtu.specs.Decoding.{recorded, all_recorded, frame_of, sum_made, sum_sent, DecodesFrame, DecodesBy};
+ghost use Rattle.modbus_rtu.specs.declared.decoder.FrameFault.TheVariants as fault;
+
+use crate::crc::{CrcMismatch, check_crc};
+use crate::inbox::RtuError;
+use crate::length::{LengthRule, RequestRule};
+use crate::response_length::ResponseRule;
+use crate::search::{Next, TRIES, next_frame_by};
+use arrayvec::ArrayVec;
+use bytes::{Bytes, BytesMut};
+use modbus_frame::SlaveId;
+use std::alloc::{AllocError, Global};
+use std::marker::Model;
+
+/// The most dropped bytes that are recorded.
+const MOST_DROPPED: usize = 256;
+
+/// How many bytes a frame has besides its PDU: the slave address and the checksum.
+pub(crate) const OVERHEAD: usize = 3;
+
+/// Why a frame is not given.
+#[derive(Clone, Copy, Debug, PartialEq, Eq, thiserror::Error)]
+pub enum FrameFault {
+    /// The checksum of the frame is wrong.
+    #[error(transparent)]
+    Crc(CrcMismatch),
+    /// Memory is wanting.
+    #[error("no memory")]
+    NoMemory,
+}
+
+impl From<CrcMismatch> for FrameFault {
+    ghost from_gives = { λ mismatch error. error ≡ fault.Crc mismatch };
+
+    fn from(mismatch: CrcMismatch) -> FrameFault {
+        FrameFault::Crc(mismatch)
+    }
+}
+
+impl From<AllocError> for FrameFault {
+    ghost from_gives = { λ _ error. error ≡ fault.NoMemory };
+
+    fn from(_error: AllocError) -> FrameFault {
+        FrameFault::NoMemory
+    }
+}
+
+/// Takes frames of a known length off the front of a buffer, and records the bytes that are dropped between them.
+#[derive(Debug, Drop)]
+pub struct FrameDecoder {
+    dropped: ArrayVec<u8, MOST_DROPPED>,
+}
+
+/// A contract sees the recorded bytes.
+impl Model for FrameDecoder {
+    ghost use Rattle.std.specs.Prelude.{ℕ, List};
+
+    ghost Value = { List ℕ };
+
+    ghost view = { λ decoder. decoder.dropped.items };
+}
+
+impl Default for FrameDecoder {
+    ghost is_default = { λ decoder. decoder ≡ [] };
+
+    fn default() -> Self {
+        Self::new()
+    }
+}
+
+/// Takes the frame off the front of a buffer: its slave address, and its PDU.
+fn take_frame(buf: &mut BytesMut, pdu_len: usize) -> Result<(SlaveId, Bytes), AllocError>
+    requires { pdu_len + 3 ≤ length buf.old.items }
+    ensures ok { IfOk result (λ frame. frame ≡ frame_of pdu_len buf.old.items) }
+    ensures rest { OnOk result (buf.new.items ≡ drop (pdu_len + 3) buf.old.items) }
+    ensures err { OnErr result (buf.new.items ≡ buf.old.items) }
+{
+    let slave = buf.as_slice()[0];
+    let mut frame = buf.freeze_to(pdu_len + OVERHEAD)?;
+    frame.advance(1);
+    frame.truncate(pdu_len);
+    Ok((slave, frame))
+}
+
+/// Compares the checksum of a frame at the front of bytes with the one that it carries.
+fn check_frame(adu: &[u8], pdu_len: usize) -> Result<(), CrcMismatch>
+    requires { pdu_len + 3 ≤ length adu.now }
+    ensures variant { IsOk result ↔ (sum_made pdu_len adu.now ≡ sum_sent pdu_len adu.now) }
+    ensures expected { IfErr result (λ mismatch. mismatch.expected ≡ sum_sent pdu_len adu.now) }
+    ensures actual { IfErr result (λ mismatch. mismatch.actual ≡ sum_made pdu_len adu.now) }
+{
+    let (body, rest) = adu.split_at(pdu_len + 1);
+    check_crc(body, u16::from_le_bytes([rest[0], rest[1]]))
+}
+
+impl FrameDecoder {
+    /// A decoder that dropped no byte.
+    pub fn new() -> FrameDecoder
+        ensures { result ≡ [] }
+    {
+        FrameDecoder {
+            dropped: ArrayVec::new(),
+        }
+    }
+
+    /// The bytes that were dropped since the last frame was given, or since the record was full and so was emptied.
+    pub fn dropped_bytes(&self) -> &[u8]
+        ensures exact { result.now ≡ self.now }
+        ensures most { length result.now ≤ 256 }
+    {
+        self.dropped.as_slice()
+    }
+
+    /// Takes a frame off the front of the buffer whose PDU has the given length in bytes, and gives its slave address and its PDU.
+    /// `None` exactly where the buffer has fewer bytes than the frame. The record of dropped bytes is emptied with a frame, and else
+    /// stays.
+    ///
+    /// # Errors
+    /// `Crc` exactly where the frame is there with a wrong checksum: the one that it carries was expected, the actual one is that
+    /// of its bytes. `NoMemory` where memory is refused for a frame. The buffer then stays as it is.
+    pub fn decode(
+        &mut self,
+        _alloc: Global,
+        buf: &mut BytesMut,
+        pdu_len: usize,
+    ) -> Result<Option<(SlaveId, Bytes)>, FrameFault>
+        requires { pdu_len + 3 ≤ usize.MAX }
+        ensures decodes { DecodesFrame pdu_len buf.old.items self.old result buf.new.items self.new }
+    {
+        if buf.len() < pdu_len + OVERHEAD {
+            return Ok(None);
+        }
+        check_frame(buf.as_slice(), pdu_len)?;
+        let frame = take_frame(buf, pdu_len)?;
+        self.dropped.clear();
+        Ok(Some(frame))
+    }
+
+    /// Drops the first byte of the buffer, where no frame stands, and records it. A record of 256 bytes is emptied first.
+    pub fn recover_on_error(&mut self, buf: &mut BytesMut)
+        requires { 0 < length buf.old.items }
+        ensures buffer { buf.new.items ≡ drop 1 buf.old.items }
+        ensures record { self.new ≡ recorded self.old (slice_index buf.old.items 0) }
+    {
+        let first = buf.as_slice()[0];
+        buf.advance(1);
+        if self.dropped.is_full() {
+            self.dropped.clear();
+        }
+        self.dropped.push(first);
+    }
+
+    /// Drops so many bytes of the buffer, one after another.
+    fn drop_bytes(&mut self, buf: &mut BytesMut, count: usize)
+        requires { count ≤ length buf.old.items }
+        ensures buffer { buf.new.items ≡ drop count buf.old.items }
+        ensures record { self.new ≡ all_recorded self.old (take count buf.old.items) }
+    {
+        for _ in 0..count {
+            self.recover_on_error(buf);
+        }
+    }
+
+    /// Looks for the next frame by a length rule, drops the bytes before it, and takes it off.
+    fn decode_by<R: LengthRule>(
+        &mut self,
+        rule: &R,
+        buf: &mut BytesMut,
+    ) -> Result<Option<(SlaveId, Bytes)>, RtuError>
+        ensures decodes { DecodesBy (judged_by R.head) buf.old.items self.old result buf.new.items self.new }
+        ensures short { result ≡ Ok None → length buf.new.items < R.longest }
+    {
+        match next_frame_by(rule, buf.as_slice()) {
+            Next::TooManyRetries => {
+                self.drop_bytes(buf, TRIES);
+                Err(RtuError::TooManyRetries)
+            }
+            Next::Waiting { dropped } => {
+                self.drop_bytes(buf, dropped);
+                Ok(None)
+            }
+            Next::Frame { start, pdu_len } => {
+                self.drop_bytes(buf, start);
+                match take_frame(buf, pdu_len) {
+                    Ok(frame) => {
+                        self.dropped.clear();
+                        Ok(Some(frame))
+                    }
+                    Err(_) => Err(RtuError::NoMemory),
+                }
+            }
+        }
+    }
+}
+
+/// Takes the frames of requests out of a buffer.
+#[derive(Debug, Drop)]
+pub struct RequestDecoder {
+    frames: FrameDecoder,
+}
+
+/// A contract sees the recorded bytes.
+impl Model for RequestDecoder {
+    ghost use Rattle.std.specs.Prelude.{ℕ, List};
+
+    ghost Value = { List ℕ };
+
+    ghost view = { λ decoder. decoder.frames };
+}
+
+impl Default for RequestDecoder {
+    ghost is_default = { λ decoder. decoder ≡ [] };
+
+    fn default() -> Self {
+        Self::new()
+    }
+}
+
+impl RequestDecoder {
+    /// A decoder that dropped no byte.
+    pub fn new() -> RequestDecoder
+        ensures { result ≡ [] }
+    {
+        RequestDecoder {
+            frames: FrameDecoder::new(),
+        }
+    }
+
+    /// The bytes that were dropped since the last frame was given, or since the record of 256 bytes was full and so was emptied.
+    pub fn dropped_bytes(&self) -> &[u8]
+        ensures exact { result.now ≡ self.now }
+        ensures most { length result.now ≤ 256 }
+    {
+        self.frames.dropped_bytes()
+    }
+
+    /// Takes off the next frame of a request, with all bytes before it: the first good offset after fewer than twenty bad ones. Gives
+    /// its slave address and its PDU. `None` where an open offset comes first; the bad ones before it are dropped, and fewer than
+    /// 268 bytes are left.
+    ///
+    /// # Errors
+    /// `TooManyRetries` exactly where the first twenty offsets are bad; they are dropped. `NoMemory` where memory is refused for a
+    /// frame; the bad offsets before it are dropped. `Invalid` never.
+    #[tactic(auto, unfolding(crate::specs::Frame::verdict_of))]
+    pub fn decode(
+        &mut self,
+        _alloc: Global,
+        buf: &mut BytesMut,
+    ) -> Result<Option<(SlaveId, Bytes)>, RtuError>
+        ensures decodes { DecodesBy verdict_of buf.old.items self.old result buf.new.items self.new }
+        ensures short { result ≡ Ok None → length buf.new.items < 268 }
+    {
+        self.frames.decode_by(&RequestRule, buf)
+    }
+}
+
+/// Takes the frames of responses out of a buffer.
+#[derive(Debug, Drop)]
+pub struct ResponseDecoder {
+    frames: FrameDecoder,
+}
+
+/// A contract sees the recorded bytes.
+impl Model for ResponseDecoder {
+    ghost use Rattle.std.specs.Prelude.{ℕ, List};
+
+    ghost Value = { List ℕ };
+
+    ghost view = { λ decoder. decoder.frames };
+}
+
+impl Default for ResponseDecoder {
+    ghost is_default = { λ decoder. decoder ≡ [] };
+
+    fn default() -> Self {
+        Self::new()
+    }
+}
+
+impl ResponseDecoder {
+    /// A decoder that dropped no byte.
+    pub fn new() -> ResponseDecoder
+        ensures { result ≡ [] }
+    {
+        ResponseDecoder {
+            frames: FrameDecoder::new(),
+        }
+    }
+
+    /// The bytes that were dropped since the last frame was given, or since the record of 256 bytes was full and so was emptied.
+    pub fn dropped_bytes(&self) -> &[u8]
+        ensures exact { result.now ≡ self.now }
+        ensures most { length result.now ≤ 256 }
+    {
+        self.frames.dropped_bytes()
+    }
+
+    /// Takes off the next frame of a response, with all bytes before it: the first good offset after fewer than twenty bad ones. Gives
+    /// its slave address and its PDU. `None` where an open offset comes first; the bad ones before it are dropped, and fewer than
+    /// 65545 bytes are left.
+    ///
+    /// # Errors
+    /// `TooManyRetries` exactly where the first twenty offsets are bad; they are dropped. `NoMemory` where memory is refused for a
+    /// frame; the bad offsets before it are dropped. `Invalid` never.
+    #[tactic(auto, unfolding(crate::specs::ResponseHead::response_verdict))]
+    pub fn decode(
+        &mut self,
+        _alloc: Global,
+        buf: &mut BytesMut,
+    ) -> Result<Option<(SlaveId, Bytes)>, RtuError>
+        ensures decodes { DecodesBy response_verdict buf.old.items self.old result buf.new.items self.new }
+        ensures short { result ≡ Ok None → length buf.new.items < 65545 }
+    {
+        self.frames.decode_by(&ResponseRule, buf)
+    }
+}
+
+#[cfg(test)]
+mod tests {
+    use super::*;
+    use std::test::Fail;
+
+    const READ: &[u8] = b"\x01\x03\x00\x00\x00\x01\x84\x0A";
+
+    #[test]
+    fn a_frame_of_known_length_is_taken(rt: HostRuntime) -> Result<(), Fail> {
+        let mut decoder = FrameDecoder::default();
+        let mut buf = BytesMut::copy_from_slice(rt.alloc(), &READ[..7])?;
+        assert_eq!(rt; decoder.decode(rt.alloc(), &mut buf, 5), Ok(None));
+        buf.extend_from_slice(&[0x0B])?;
+        let mismatch = CrcMismatch {
+            expected: 0x0B84,
+            actual: 0x0A84,
+        };
+        assert_eq!(rt;
+            decoder.decode(rt.alloc(), &mut buf, 5),
+            Err(FrameFault::Crc(mismatch))
+        );
+        assert_eq!(rt; buf.len(), 8);
+
+        let mut buf = BytesMut::copy_from_slice(rt.alloc(), b"\xAA")?;
+        buf.extend_from_slice(READ)?;
+        decoder.recover_on_error(&mut buf);
+        assert_eq!(rt; decoder.dropped_bytes(), b"\xAA".as_slice());
+        match decoder.decode(rt.alloc(), &mut buf, 5) {
+            Ok(Some((slave, pdu))) => {
+                assert_eq!(rt; slave, 1);
+                assert_eq!(rt; pdu.as_slice(), &READ[1..6]);
+            }
+            _ => assert!(rt; false, "no frame"),
+        }
+        assert!(rt; buf.is_empty());
+        assert!(rt; decoder.dropped_bytes().is_empty());
+        Ok(())
+    }
+
+    #[test]
+    fn a_full_record_is_emptied(rt: HostRuntime) -> Result<(), Fail> {
+        let mut decoder = FrameDecoder::new();
+        let mut buf = BytesMut::copy_from_slice(rt.alloc(), &[0x7F; 257])?;
+        for _ in 0..256u16 {
+            if !buf.is_empty() {
+                decoder.recover_on_error(&mut buf);
+            }
+        }
+        assert_eq!(rt; decoder.dropped_bytes().len(), 256);
+        if !buf.is_empty() {
+            decoder.recover_on_error(&mut buf);
+        }
+        assert_eq!(rt; decoder.dropped_bytes(), b"\x7F".as_slice());
+        Ok(())
+    }
+
+    #[test]
+    fn noise_is_dropped_until_a_frame_may_begin(rt: HostRuntime) -> Result<(), Fail> {
+        let noise = [0x7F; 21];
+        for (bytes, result, left, recorded) in [
+            (noise.as_slice(), Err(RtuError::TooManyRetries), 1, 20),
+            (&noise[..20], Ok(None), 1, 19),
+            (b"", Ok(None), 0, 0),
+            (b"\x00", Ok(None), 1, 0),
+            (b"\x12\x16", Ok(None), 2, 0),
+            (b"\x12\x0F", Ok(None), 2, 0),
+            (b"\x12\x10", Ok(None), 2, 0),
+            (b"\x01\x2B", Ok(None), 2, 0),
+        ] {
+            let mut decoder = RequestDecoder::default();
+            let mut buf = BytesMut::copy_from_slice(rt.alloc(), bytes)?;
+            assert!(rt; decoder.decode(rt.alloc(), &mut buf) == result);
+            assert_eq!(rt; buf.len(), left);
+            assert_eq!(rt; decoder.dropped_bytes().len(), recorded);
+        }
+        Ok(())
+    }
+
+    #[test]
+    fn frames_behind_noise_are_taken(rt: HostRuntime) -> Result<(), Fail> {
+        let mut requests = RequestDecoder::new();
+        let mut buf = BytesMut::copy_from_slice(rt.alloc(), b"\xAA")?;
+        buf.extend_from_slice(READ)?;
+        match requests.decode(rt.alloc(), &mut buf) {
+            Ok(Some((slave, pdu))) => {
+                assert_eq!(rt; slave, 1);
+                assert_eq!(rt; pdu.as_slice(), &READ[1..6]);
+            }
+            _ => assert!(rt; false, "no request"),
+        }
+        assert!(rt; requests.dropped_bytes().is_empty());
+
+        let mut responses = ResponseDecoder::default();
+        let mut buf = BytesMut::copy_from_slice(
+            rt.alloc(),
+            b"\x42\x43\x01\x03\x04\x89\x02\x42\xC7\x00\x9D\x00",
+        )?;
+        match responses.decode(rt.alloc(), &mut buf) {
+            Ok(Some((slave, pdu))) => {
+                assert_eq!(rt; slave, 1);
+                assert_eq!(rt; pdu.as_slice(), b"\x03\x04\x89\x02\x42\xC7".as_slice());
+            }
+            _ => assert!(rt; false, "no response"),
+        }
+        assert_eq!(rt; buf.as_slice(), b"\x00".as_slice());
+        assert!(rt; responses.dropped_bytes().is_empty());
+        Ok(())
+    }
+}

@@ -1,0 +1,9 @@
+pub mod State
+pub mod Outcome
+pub mod Service
+pub mod Answer
+pub mod Serving
+pub mod Sending
+pub mod Rooms
+pub mod Complete
+pub mod FirstFault

@@ -1,0 +1,47 @@
+//! How a step of a connection ends, and why a server ends early.
+
+use modbus_frame::Reason;
+
+/// Why a server ends before its input does.
+#[derive(Clone, Copy, Debug, PartialEq, Eq, thiserror::Error)]
+pub enum ProcessError {
+    /// The source failed.
+    #[error("read fault")]
+    ReadFault,
+    /// The sink failed; a front of a reply may have been written.
+    #[error("write fault")]
+    WriteFault,
+    /// Twenty offsets in a row, which came with one read, have no frame.
+    #[error("too many retries")]
+    TooManyRetries,
+    /// The input ended within a frame.
+    #[error("bytes remaining")]
+    BytesRemaining,
+    /// The PDU of a frame is no request, for this reason.
+    #[error("invalid request: {0}")]
+    InvalidRequest(Reason),
+    /// The service answered a response whose PDU would have so many bytes, more than 253.
+    #[error("response too long: {0}")]
+    ResponseTooLong(usize),
+    /// As many reads gave bytes as were allowed.
+    #[error("turn limit")]
+    TurnLimit,
+    /// Memory was refused.
+    #[error("no memory")]
+    NoMemory,
+}
+
+/// What one step of a connection did.
+#[derive(Clone, Copy, Debug, PartialEq, Eq)]
+pub enum Step {
+    /// It asked the service about a frame and wrote the reply.
+    Answered,
+    /// It asked the service about a frame, and there is no reply.
+    Silent,
+    /// There was no frame, and a read gave bytes.
+    MoreRead,
+    /// There is no frame, and it may not read.
+    Hungry,
+    /// The input ended with nothing held.
+    Ended,
+}

@@ -1,0 +1,143 @@
+//! What no clause says: worked frames, and each generic call once at a concrete type.
+ghost use Rattle.std.specs.Prelude.{◌≡◌};
+
+use crate::rtu::Connection;
+use crate::rtu_over_tcp::{process, process_link};
+use crate::{Forward, ProcessError, Service, ServiceError, Step};
+use modbus_frame::{Response, SlaveRequest, Words};
+use modbus_link::{Both, MemorySink, MemorySource};
+use std::alloc::Global;
+use std::test::Fail;
+
+/// Answers each request with the same registers, and counts its calls.
+#[derive(Drop)]
+struct SameWords {
+    words: Vec<u16>,
+    calls: u64,
+}
+
+impl Service for SameWords {
+    ghost answers = { λ old slave request outcome new. Unit {0} };
+
+    ghost takes_memory = { λ it slave request. Unit {0} };
+
+    fn call(
+        &mut self,
+        alloc: Global,
+        _request: SlaveRequest<'_>,
+    ) -> Result<Option<Response>, ServiceError> {
+        match Vec::from_slice(alloc, self.words.as_slice()) {
+            Err(_) => Err(ServiceError::NoMemory),
+            Ok(words) => {
+                self.calls = self.calls.saturating_add(1);
+                Ok(Some(Response::ReadHoldingRegisters(Words::new(words))))
+            }
+        }
+    }
+}
+
+/// A read of two registers from address 0x082B of slave 1.
+const READ_TWO: [u8; 8] = [0x01, 0x03, 0x08, 0x2B, 0x00, 0x02, 0xB6, 0x63];
+
+/// The registers 0x0020 and 0 in reply.
+const TWO: [u8; 9] = [0x01, 0x03, 0x04, 0x00, 0x20, 0x00, 0x00, 0xFB, 0xF9];
+
+#[test]
+fn a_service_answers_a_frame(rt: HostRuntime) -> Result<(), Fail> {
+    let alloc = rt.alloc();
+    let mut service = SameWords {
+        words: Vec::from_slice(alloc, &[0x0020, 0x0000])?,
+        calls: 0,
+    };
+    let mut source = MemorySource::new(alloc, &READ_TWO, &[], &[])?;
+    let mut sink = MemorySink::new(alloc, 64, 64, &[])?;
+    assert_eq!(rt;
+        process(alloc, &mut source, &mut sink, &mut service, u64::MAX),
+        Ok(())
+    );
+    assert_eq!(rt; sink.bytes(), TWO.as_slice());
+    assert_eq!(rt; service.calls, 1);
+
+    let mut source = MemorySource::new(alloc, &READ_TWO, &[3], &[])?;
+    let mut sink = MemorySink::new(alloc, 64, 1, &[])?;
+    let mut lent = Forward(&mut service);
+    assert_eq!(rt;
+        process_link(
+            alloc,
+            &mut Both::new(&mut source, &mut sink),
+            &mut lent,
+            u64::MAX
+        ),
+        Ok(())
+    );
+    assert_eq!(rt; sink.bytes(), TWO.as_slice());
+    assert_eq!(rt; service.calls, 2);
+    Ok(())
+}
+
+#[test]
+fn a_response_that_is_too_long_is_not_written(rt: HostRuntime) -> Result<(), Fail> {
+    let alloc = rt.alloc();
+    let mut service = SameWords {
+        words: Vec::from_elem(alloc, 0, 126)?,
+        calls: 0,
+    };
+    let mut source = MemorySource::new(alloc, &READ_TWO, &[], &[])?;
+    let mut sink = MemorySink::new(alloc, 512, 512, &[])?;
+    assert_eq!(rt;
+        process(alloc, &mut source, &mut sink, &mut service, u64::MAX),
+        Err(ProcessError::ResponseTooLong(254))
+    );
+    assert_eq!(rt; sink.bytes(), b"".as_slice());
+    assert_eq!(rt; service.calls, 1);
+    Ok(())
+}
+
+#[test]
+fn turns_are_spent_by_reads_that_give_bytes(rt: HostRuntime) -> Result<(), Fail> {
+    let alloc = rt.alloc();
+    let mut service = SameWords {
+        words: Vec::new(alloc),
+        calls: 0,
+    };
+    let mut source = MemorySource::new(alloc, &READ_TWO, &[4], &[])?;
+    let mut sink = MemorySink::new(alloc, 64, 64, &[])?;
+    assert_eq!(rt;
+        process(alloc, &mut source, &mut sink, &mut service, 1),
+        Err(ProcessError::TurnLimit)
+    );
+    assert_eq!(rt; source.given(), 4);
+    let mut source = MemorySource::new(alloc, b"", &[], &[])?;
+    assert_eq!(rt;
+        process(alloc, &mut source, &mut sink, &mut service, 0),
+        Err(ProcessError::TurnLimit)
+    );
+    assert_eq!(rt; sink.bytes(), b"".as_slice());
+    Ok(())
+}
+
+#[test]
+fn a_step_reads_answers_or_ends(rt: HostRuntime) -> Result<(), Fail> {
+    let alloc = rt.alloc();
+    let mut service = SameWords {
+        words: Vec::from_slice(alloc, &[0x0020, 0x0000])?,
+        calls: 0,
+    };
+    let mut source = MemorySource::new(alloc, &READ_TWO, &[], &[])?;
+    let mut sink = MemorySink::new(alloc, 64, 64, &[])?;
+    let mut connection = Connection::open(alloc)?;
+    let hungry = connection.step(alloc, &mut source, &mut sink, &mut service, false);
+    assert_eq!(rt; hungry, Ok(Step::Hungry));
+    assert!(rt; connection.is_open());
+    let more = connection.step(alloc, &mut source, &mut sink, &mut service, true);
+    assert_eq!(rt; more, Ok(Step::MoreRead));
+    assert!(rt; connection.is_open());
+    let answered = connection.step(alloc, &mut source, &mut sink, &mut service, false);
+    assert_eq!(rt; answered, Ok(Step::Answered));
+    assert_eq!(rt; sink.bytes(), TWO.as_slice());
+    assert!(rt; connection.is_open());
+    let ended = connection.step(alloc, &mut source, &mut sink, &mut service, true);
+    assert_eq!(rt; ended, Ok(Step::Ended));
+    assert!(rt; !connection.is_open());
+    Ok(())
+}
