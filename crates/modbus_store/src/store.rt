@@ -1,0 +1,363 @@
+//! The tables of a device, and what a request does to them.
+ghost use Rattle.std.specs.Prelude.{◌≡◌, ◌&&◌, [], ◌∷◌, length, slice_get, IfOk, Err};
+ghost use Rattle.modbus_frame.specs.Meaning.{meaning};
+ghost use Rattle.modbus_store.specs.Tables.{Tables, written, with_discrete_inputs, with_input_registers};
+ghost use Rattle.modbus_store.specs.Opening.{fits_table, zeros_of, Opens, Sets};
+ghost use Rattle.modbus_server.specs.Service.{Keeps};
+ghost use Rattle.modbus_store.specs.Step.{StepsTo, TakesMemory, NeedsMemory, Answers, inside};
+
+use crate::apply::{mask_register, read_entries, write_entries, write_then_read};
+use crate::bounds::{MAX_COILS_READ, MAX_COILS_WRITTEN, MAX_REGISTERS_READ, MAX_REGISTERS_WRITTEN};
+use modbus_frame::{
+    Address, Coil, Coils, ExceptionCode, Quantity, Request, Response, SlaveRequest, Word, Words,
+};
+use modbus_server::{Service, ServiceError};
+use std::alloc::{AllocError, Global};
+use std::marker::Model;
+
+/// How many entries each table has, from 1 to 65536.
+#[derive(Clone, Copy, Debug, PartialEq, Eq)]
+pub struct Sizes {
+    pub coils: u32,
+    pub discrete_inputs: u32,
+    pub holding_registers: u32,
+    pub input_registers: u32,
+}
+
+/// Why there is no store.
+#[derive(Clone, Copy, Debug, PartialEq, Eq, thiserror::Error)]
+pub enum StoreError {
+    /// A size is not 1 to 65536.
+    #[error("bad size")]
+    BadSize,
+    /// Memory was refused.
+    #[error("no memory")]
+    NoMemory,
+}
+
+/// The address lies past the end of the table.
+#[derive(Clone, Copy, Debug, PartialEq, Eq, thiserror::Error)]
+#[error("out of range")]
+pub struct OutOfRange;
+
+/// Coils, discrete inputs, holding registers and input registers.
+#[derive(Drop)]
+pub struct RegisterStore {
+    coils: Vec<Coil>,
+    discrete_inputs: Vec<Coil>,
+    holding_registers: Vec<Word>,
+    input_registers: Vec<Word>,
+    broadcast: bool,
+}
+
+/// A contract sees the tables.
+impl Model for RegisterStore {
+    ghost Value = { Tables };
+
+    ghost view = { λ store. record { coils = store.coils.items; discrete_inputs = store.discrete_inputs.items; holding_registers = store.holding_registers.items; input_registers = store.input_registers.items; broadcast = store.broadcast } };
+}
+
+/// A table has at most one entry for each address.
+const MAX_ENTRIES: usize = 0x10000;
+
+fn is_size(size: usize) -> bool
+    ensures { result ≡ fits_table size }
+{
+    size != 0 && size <= MAX_ENTRIES
+}
+
+impl RegisterStore {
+    /// Four tables of coils that are off and registers that hold 0. Where `broadcast` is true, a request of slave 0 has its effect and
+    /// no answer (MODBUS over Serial Line V1.02, section 2.2).
+    ///
+    /// # Errors
+    /// `BadSize` exactly where a size is not 1 to 65536; else `NoMemory` where memory was refused.
+    pub fn new(alloc: Global, sizes: Sizes, broadcast: bool) -> Result<RegisterStore, StoreError>
+        ensures { Opens (fits_table sizes.coils && fits_table sizes.discrete_inputs && fits_table sizes.holding_registers && fits_table sizes.input_registers)
+            (zeros_of sizes broadcast) result }
+    {
+        if !is_size(sizes.coils as usize)
+            || !is_size(sizes.discrete_inputs as usize)
+            || !is_size(sizes.holding_registers as usize)
+            || !is_size(sizes.input_registers as usize)
+        {
+            return Err(StoreError::BadSize);
+        }
+        match zeros(alloc, sizes, broadcast) {
+            Ok(store) => Ok(store),
+            Err(_) => Err(StoreError::NoMemory),
+        }
+    }
+
+    /// Four tables with these contents; `broadcast` as for `new`.
+    ///
+    /// # Errors
+    /// `BadSize` exactly where a table has not 1 to 65536 entries; else `NoMemory` where memory was refused.
+    pub fn with_contents(
+        alloc: Global,
+        coils: &[Coil],
+        discrete_inputs: &[Coil],
+        holding_registers: &[Word],
+        input_registers: &[Word],
+        broadcast: bool,
+    ) -> Result<RegisterStore, StoreError>
+        ensures { Opens (fits_table (length coils.now) && fits_table (length discrete_inputs.now) && fits_table (length holding_registers.now) && fits_table (length input_registers.now))
+            (record { coils = coils.now; discrete_inputs = discrete_inputs.now; holding_registers = holding_registers.now; input_registers = input_registers.now; broadcast = broadcast }) result }
+    {
+        if !is_size(coils.len())
+            || !is_size(discrete_inputs.len())
+            || !is_size(holding_registers.len())
+            || !is_size(input_registers.len())
+        {
+            return Err(StoreError::BadSize);
+        }
+        match copies(
+            alloc,
+            coils,
+            discrete_inputs,
+            holding_registers,
+            input_registers,
+            broadcast,
+        ) {
+            Ok(store) => Ok(store),
+            Err(_) => Err(StoreError::NoMemory),
+        }
+    }
+
+    /// The coil at an address; `None` exactly past the end.
+    pub fn coil(&self, address: Address) -> Option<Coil>
+        ensures { result ≡ slice_get self.now.coils address }
+    {
+        self.coils.get(usize::from(address)).copied()
+    }
+
+    /// The discrete input at an address; `None` exactly past the end.
+    pub fn discrete_input(&self, address: Address) -> Option<Coil>
+        ensures { result ≡ slice_get self.now.discrete_inputs address }
+    {
+        self.discrete_inputs.get(usize::from(address)).copied()
+    }
+
+    /// The holding register at an address; `None` exactly past the end.
+    pub fn holding_register(&self, address: Address) -> Option<Word>
+        ensures { result ≡ slice_get self.now.holding_registers address }
+    {
+        self.holding_registers.get(usize::from(address)).copied()
+    }
+
+    /// The input register at an address; `None` exactly past the end.
+    pub fn input_register(&self, address: Address) -> Option<Word>
+        ensures { result ≡ slice_get self.now.input_registers address }
+    {
+        self.input_registers.get(usize::from(address)).copied()
+    }
+
+    /// Sets the discrete input at an address, as the process behind the device does.
+    ///
+    /// # Errors
+    /// `OutOfRange` exactly past the end; the store is then as it was.
+    pub fn set_discrete(&mut self, address: Address, state: Coil) -> Result<(), OutOfRange>
+        ensures { Sets (inside (length self.old.discrete_inputs) address 1) self.old (with_discrete_inputs self.old (written address (state ∷ []) self.old.discrete_inputs)) result self.new }
+    {
+        match write_entries(self.discrete_inputs.as_mut_slice(), address, &[state], 1) {
+            Ok(()) => Ok(()),
+            Err(_) => Err(OutOfRange),
+        }
+    }
+
+    /// Sets the input register at an address, as the process behind the device does.
+    ///
+    /// # Errors
+    /// `OutOfRange` exactly past the end; the store is then as it was.
+    pub fn set_input(&mut self, address: Address, word: Word) -> Result<(), OutOfRange>
+        ensures { Sets (inside (length self.old.input_registers) address 1) self.old (with_input_registers self.old (written address (word ∷ []) self.old.input_registers)) result self.new }
+    {
+        match write_entries(self.input_registers.as_mut_slice(), address, &[word], 1) {
+            Ok(()) => Ok(()),
+            Err(_) => Err(OutOfRange),
+        }
+    }
+}
+
+impl RegisterStore {
+    /// Answers a request, whatever its slave.
+    #[tactic(auto, unfolding(crate::specs::Step::step_of))]
+    fn answer(&mut self, alloc: Global, request: Request<'_>) -> Result<Response, ServiceError>
+        ensures answers { Answers self.old (meaning request.entry) result self.new }
+        ensures memory { result ≡ Err ServiceError.NoMemory → NeedsMemory self.old (meaning request.entry) }
+    {
+        match request {
+            Request::ReadCoils(address, quantity) => match read_entries(
+                alloc,
+                self.coils.as_slice(),
+                address,
+                quantity,
+                MAX_COILS_READ,
+            ) {
+                Ok(found) => Ok(Response::ReadCoils(Coils::new(found))),
+                Err(error) => Err(error),
+            },
+            Request::ReadDiscreteInputs(address, quantity) => match read_entries(
+                alloc,
+                self.discrete_inputs.as_slice(),
+                address,
+                quantity,
+                MAX_COILS_READ,
+            ) {
+                Ok(found) => Ok(Response::ReadDiscreteInputs(Coils::new(found))),
+                Err(error) => Err(error),
+            },
+            Request::ReadHoldingRegisters(address, quantity) => match read_entries(
+                alloc,
+                self.holding_registers.as_slice(),
+                address,
+                quantity,
+                MAX_REGISTERS_READ,
+            ) {
+                Ok(found) => Ok(Response::ReadHoldingRegisters(Words::new(found))),
+                Err(error) => Err(error),
+            },
+            Request::ReadInputRegisters(address, quantity) => match read_entries(
+                alloc,
+                self.input_registers.as_slice(),
+                address,
+                quantity,
+                MAX_REGISTERS_READ,
+            ) {
+                Ok(found) => Ok(Response::ReadInputRegisters(Words::new(found))),
+                Err(error) => Err(error),
+            },
+            Request::WriteSingleCoil(address, coil) => {
+                match write_entries(self.coils.as_mut_slice(), address, &[coil], 1) {
+                    Ok(()) => Ok(Response::WriteSingleCoil(address, coil)),
+                    Err(code) => Err(ServiceError::Exception(code)),
+                }
+            }
+            Request::WriteSingleRegister(address, word) => {
+                match write_entries(self.holding_registers.as_mut_slice(), address, &[word], 1) {
+                    Ok(()) => Ok(Response::WriteSingleRegister(address, word)),
+                    Err(code) => Err(ServiceError::Exception(code)),
+                }
+            }
+            Request::WriteMultipleCoils(address, coils) => match write_entries(
+                self.coils.as_mut_slice(),
+                address,
+                coils.as_slice(),
+                MAX_COILS_WRITTEN,
+            ) {
+                Ok(()) => Ok(Response::WriteMultipleCoils(address, coils.len() as Quantity)),
+                Err(code) => Err(ServiceError::Exception(code)),
+            },
+            Request::WriteMultipleRegisters(address, words) => match write_entries(
+                self.holding_registers.as_mut_slice(),
+                address,
+                words.as_slice(),
+                MAX_REGISTERS_WRITTEN,
+            ) {
+                Ok(()) => Ok(Response::WriteMultipleRegisters(address, words.len() as Quantity)),
+                Err(code) => Err(ServiceError::Exception(code)),
+            },
+            Request::MaskWriteRegister(address, and_mask, or_mask) => {
+                match mask_register(
+                    self.holding_registers.as_mut_slice(),
+                    address,
+                    and_mask,
+                    or_mask,
+                ) {
+                    Ok(()) => Ok(Response::MaskWriteRegister(address, and_mask, or_mask)),
+                    Err(code) => Err(ServiceError::Exception(code)),
+                }
+            }
+            Request::ReadWriteMultipleRegisters(address, quantity, write_address, words) => {
+                match write_then_read(
+                    alloc,
+                    self.holding_registers.as_mut_slice(),
+                    address,
+                    quantity,
+                    write_address,
+                    words.as_slice(),
+                ) {
+                    Ok(found) => Ok(Response::ReadWriteMultipleRegisters(Words::new(found))),
+                    Err(error) => Err(error),
+                }
+            }
+            Request::ReportServerId
+            | Request::ReadDeviceIdentification(_, _)
+            | Request::Custom(_, _) => Err(ServiceError::Exception(ExceptionCode::IllegalFunction)),
+        }
+    }
+}
+
+impl RegisterStore {
+    /// Answers a request of a slave, and does what it asks. Where the store takes part in broadcasts, a request of slave 0 has its
+    /// effect and no answer.
+    ///
+    /// # Errors
+    /// An exception, after which no table has changed: `IllegalFunction` where the store has no such function, `IllegalDataValue`
+    /// where a count is out of its bounds, `IllegalDataAddress` where a range is not inside a table (section 7). `NoMemory` where
+    /// memory was refused for what is read; the store is then as it was.
+    #[tactic(auto, unfolding(crate::specs::Step::store_step))]
+    pub fn apply(
+        &mut self,
+        alloc: Global,
+        request: SlaveRequest<'_>,
+    ) -> Result<Option<Response>, ServiceError>
+        ensures keeps { Keeps (StepsTo self.old request.entry.slave (meaning request.entry.request)) self.old result self.new }
+        ensures memory { result ≡ Err ServiceError.NoMemory → TakesMemory self.old request.entry.slave (meaning request.entry.request) }
+    {
+        let is_silent = self.broadcast && request.slave == 0;
+        match self.answer(alloc, request.request) {
+            Ok(_) if is_silent => Ok(None),
+            Err(ServiceError::Exception(_)) if is_silent => Ok(None),
+            Ok(response) => Ok(Some(response)),
+            Err(error) => Err(error),
+        }
+    }
+}
+
+impl Service for RegisterStore {
+    ghost use Rattle.modbus_store.specs.Step.{StepsTo, TakesMemory};
+
+    ghost answers = { StepsTo };
+
+    ghost takes_memory = { TakesMemory };
+
+    fn call(
+        &mut self,
+        alloc: Global,
+        request: SlaveRequest<'_>,
+    ) -> Result<Option<Response>, ServiceError> {
+        self.apply(alloc, request)
+    }
+}
+
+fn zeros(alloc: Global, sizes: Sizes, broadcast: bool) -> Result<RegisterStore, AllocError>
+    ensures { IfOk result (λ store. store ≡ zeros_of sizes broadcast) }
+{
+    Ok(RegisterStore {
+        coils: Vec::from_elem(alloc, false, sizes.coils as usize)?,
+        discrete_inputs: Vec::from_elem(alloc, false, sizes.discrete_inputs as usize)?,
+        holding_registers: Vec::from_elem(alloc, 0, sizes.holding_registers as usize)?,
+        input_registers: Vec::from_elem(alloc, 0, sizes.input_registers as usize)?,
+        broadcast,
+    })
+}
+
+fn copies(
+    alloc: Global,
+    coils: &[Coil],
+    discrete_inputs: &[Coil],
+    holding_registers: &[Word],
+    input_registers: &[Word],
+    broadcast: bool,
+) -> Result<RegisterStore, AllocError>
+    ensures { IfOk result (λ store. store ≡ record { coils = coils.now; discrete_inputs = discrete_inputs.now; holding_registers = holding_registers.now; input_registers = input_registers.now; broadcast = broadcast }) }
+{
+    Ok(RegisterStore {
+        coils: Vec::from_slice(alloc, coils)?,
+        discrete_inputs: Vec::from_slice(alloc, discrete_inputs)?,
+        holding_registers: Vec::from_slice(alloc, holding_registers)?,
+        input_registers: Vec::from_slice(alloc, input_registers)?,
+        broadcast,
+    })
+}
