@@ -3,10 +3,9 @@ use Rattle.std.specs.Prelude.{◌≡◌, ◌-◌, ◌^◌, ℕ, length, IsTrue, 
 use Rattle.modbus_link.specs.Outside.{Input, Output, Rose, bytes_read, bytes_appended, cuts_made, IsFront}
 use Rattle.modbus_server.specs.declared.error.ProcessError.{ProcessError}
 use Rattle.modbus_server.specs.declared.error.ProcessError.TheVariants.{ReadFault, WriteFault, TurnLimit}
-use Rattle.modbus_server.specs.Serving.{EndsAs}
 use Rattle.modbus_server.specs.Sending.{EndsRead}
 use Rattle.modbus_server.specs.Rooms.{totals}
-use Rattle.modbus_app.specs.Zeros.{zero_answers, zero_table}
+use Rattle.modbus_app.specs.Device.{Serves}
 use Rattle.modbus_app.specs.Status.{status_of, line_of}
 
 pub record EndsWithFault (input input' : Input) (output output' said said' : Output) (status : ℕ) : Type 0 where
@@ -14,7 +13,7 @@ pub record EndsWithFault (input input' : Input) (output output' said said' : Out
   pub is : status_of error ≡ Some status
   -- its cause, and what was answered and written before it
   pub served : IsTrue input.told → IsTrue output.told
-      → EndsAs zero_answers (bytes_read input input') (totals (cuts_made input input')) zero_table zero_table (bytes_appended output output') (Err error)
+      → Serves (bytes_read input input') (totals (cuts_made input input')) (bytes_appended output output') (Err error)
   pub ended : IsTrue input.told → EndsRead (Err error) input'.left
   pub read_fault : error ≡ ReadFault → Rose input.faults input'.faults
   pub write_fault : error ≡ WriteFault → Rose output.faults output'.faults

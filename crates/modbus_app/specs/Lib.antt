@@ -1,5 +1,4 @@
 pub mod Words
-pub mod Reads
-pub mod Zeros
+pub mod Device
 pub mod Status
 pub mod Ending

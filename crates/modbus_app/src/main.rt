@@ -5,7 +5,6 @@ mod run;
 mod status;
 #[cfg(test)]
 mod tests;
-mod zero_table;
 
 use modbus_link::{ReadSource, WriteSink};
 use std::process::ExitCode;

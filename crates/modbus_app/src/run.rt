@@ -2,20 +2,19 @@
 ghost use Rattle.std.specs.Prelude.{◌≡◌, ◌≢◌, ◌↔◌, ◌⊎◌, ◌<◌, ◌-◌, ◌^◌, ℕ, [], Ok, Err, IsTrue, length};
 ghost use Rattle.modbus_link.specs.Outside.{Rose, Advances, Extends, bytes_read, bytes_appended, cuts_made, IsFront};
 ghost use Rattle.modbus_server.specs.declared.error.ProcessError.TheVariants.{ReadFault, WriteFault, TurnLimit, ResponseTooLong};
-ghost use Rattle.modbus_server.specs.Serving.{EndsAs};
 ghost use Rattle.modbus_server.specs.Sending.{EndsRead};
 ghost use Rattle.modbus_server.specs.Complete.{IsCleanLine};
 ghost use Rattle.modbus_server.specs.Rooms.{HaveRooms, totals};
 ghost use Rattle.modbus_app.specs.Words.{IsRtu};
-ghost use Rattle.modbus_app.specs.Zeros.{zero_answers, zero_table};
+ghost use Rattle.modbus_app.specs.Device.{Serves};
 ghost use Rattle.modbus_app.specs.Status.{usage_line};
 ghost use Rattle.modbus_app.specs.Ending.{EndsWithFault};
 
 use crate::status::{USAGE, USAGE_LINE, line, report, status};
-use crate::zero_table::ZeroTable;
 use modbus_link::{Sink, Source};
 use modbus_server::ProcessError;
 use modbus_server::rtu_over_tcp::process;
+use modbus_store::{RegisterStore, Sizes};
 use std::alloc::Global;
 
 /// Whether the words are the one word `rtu`.
@@ -28,7 +27,15 @@ fn is_rtu(words: &[String]) -> bool
     }
 }
 
-/// Serves the device of zeros, with no limit of turns but that of a `u64`.
+/// The sizes of the tables.
+const SIZES: Sizes = Sizes {
+    coils: 1024,
+    discrete_inputs: 1024,
+    holding_registers: 1024,
+    input_registers: 1024,
+};
+
+/// Serves a device of four tables that hold 0, with no limit of turns but that of a `u64`.
 fn serve<S: Source, K: Sink>(
     alloc: Global,
     source: &mut S,
@@ -37,8 +44,8 @@ fn serve<S: Source, K: Sink>(
     ensures source { Advances (S.input source.old) (S.input source.new) }
     ensures sink { Extends (K.output sink.old) (K.output sink.new) }
     ensures served { IsTrue (S.input source.old).told → IsTrue (K.output sink.old).told
-        → EndsAs zero_answers (bytes_read (S.input source.old) (S.input source.new)) (totals (cuts_made (S.input source.old) (S.input source.new)))
-        zero_table zero_table (bytes_appended (K.output sink.old) (K.output sink.new)) result }
+        → Serves (bytes_read (S.input source.old) (S.input source.new)) (totals (cuts_made (S.input source.old) (S.input source.new)))
+        (bytes_appended (K.output sink.old) (K.output sink.new)) result }
     ensures ended { IsTrue (S.input source.old).told → EndsRead result (S.input source.new).left }
     ensures rooms { IsTrue (S.input source.old).told → IsTrue (K.output sink.old).told
         → HaveRooms (bytes_read (S.input source.old) (S.input source.new)) 0 (cuts_made (S.input source.old) (S.input source.new)) }
@@ -52,13 +59,16 @@ fn serve<S: Source, K: Sink>(
         → (Rose (K.output sink.old).faults (K.output sink.new).faults → ⊥)
         → (result ≡ Ok tt) ⊎ (result ≡ Err ProcessError.NoMemory) }
 {
-    process(alloc, source, sink, &mut ZeroTable, u64::MAX)
+    match RegisterStore::new(alloc, SIZES, true) {
+        Err(_) => Err(ProcessError::NoMemory),
+        Ok(mut store) => process(alloc, source, sink, &mut store, u64::MAX),
+    }
 }
 
 /// Runs the program with the words after its name, and answers its status.
 ///
-/// With the word `rtu` it serves RTU frames, of 1024 holding registers that hold 0; each other function is answered with an
-/// exception, and a broadcast is not answered. A status other than 0 is told by a line of text on `errors`; where that fails, the
+/// With the word `rtu` it serves RTU frames, with a device of four tables of 1024 entries that hold 0 at first; a broadcast has its
+/// effect and no answer. A status other than 0 is told by a line of text on `errors`; where that fails, the
 /// line is cut short and the status stays.
 ///
 /// | Status | When |
@@ -88,8 +98,8 @@ pub fn run<S: Source, K: Sink, E: Sink>(
     // The input ended with no uncovered offset open. What was appended is exactly the replies, framed for each request's slave, that
     // one run of the device gives to the leftmost frames of the whole input in order.
     ensures ok { result ≡ 0 → IsTrue (S.input source.old).told → IsTrue (K.output sink.old).told
-        → EndsAs zero_answers (S.input source.old).left (totals (cuts_made (S.input source.old) (S.input source.new)))
-        zero_table zero_table (bytes_appended (K.output sink.old) (K.output sink.new)) (Ok tt) × ((S.input source.new).left ≡ []) }
+        → Serves (S.input source.old).left (totals (cuts_made (S.input source.old) (S.input source.new)))
+        (bytes_appended (K.output sink.old) (K.output sink.new)) (Ok tt) × ((S.input source.new).left ≡ []) }
 
     // Each other status is that of a fault with its cause, and what was answered before it.
     ensures fault { result ≢ 0 → result ≢ 2
