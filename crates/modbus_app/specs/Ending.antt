@@ -5,15 +5,16 @@ use Rattle.modbus_server.specs.declared.error.ProcessError.{ProcessError}
 use Rattle.modbus_server.specs.declared.error.ProcessError.TheVariants.{ReadFault, WriteFault, TurnLimit}
 use Rattle.modbus_server.specs.Sending.{EndsRead}
 use Rattle.modbus_server.specs.Rooms.{totals}
+use Rattle.modbus_app.specs.declared.words.Form.{Form}
 use Rattle.modbus_app.specs.Device.{Serves}
 use Rattle.modbus_app.specs.Status.{status_of, line_of}
 
-pub record EndsWithFault (input input' : Input) (output output' said said' : Output) (status : ℕ) : Type 0 where
+pub record EndsWithFault (form : Form) (input input' : Input) (output output' said said' : Output) (status : ℕ) : Type 0 where
   pub error : ProcessError
   pub is : status_of error ≡ Some status
   -- its cause, and what was answered and written before it
   pub served : IsTrue input.told → IsTrue output.told
-      → Serves (bytes_read input input') (totals (cuts_made input input')) (bytes_appended output output') (Err error)
+      → Serves form (bytes_read input input') (totals (cuts_made input input')) (bytes_appended output output') (Err error)
   pub ended : IsTrue input.told → EndsRead (Err error) input'.left
   pub read_fault : error ≡ ReadFault → Rose input.faults input'.faults
   pub write_fault : error ≡ WriteFault → Rose output.faults output'.faults

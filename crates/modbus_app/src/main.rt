@@ -1,10 +1,12 @@
 //! The program: a Modbus server over its standard streams.
 #![tactic(auto)]
 
+mod device;
 mod run;
 mod status;
 #[cfg(test)]
 mod tests;
+mod words;
 
 use modbus_link::{ReadSource, WriteSink};
 use std::process::ExitCode;

@@ -1,50 +1,36 @@
 //! The top call.
-ghost use Rattle.std.specs.Prelude.{◌≡◌, ◌≢◌, ◌↔◌, ◌⊎◌, ◌<◌, ◌-◌, ◌^◌, ℕ, [], Ok, Err, IsTrue, length};
+ghost use Rattle.std.specs.Prelude.{◌≡◌, ◌≢◌, ◌↔◌, ◌⊎◌, ◌<◌, ◌≤◌, ◌-◌, ◌^◌, ℕ, [], Ok, Err, Some, None, IsTrue, length};
 ghost use Rattle.modbus_link.specs.Outside.{Rose, Advances, Extends, bytes_read, bytes_appended, cuts_made, IsFront};
 ghost use Rattle.modbus_server.specs.declared.error.ProcessError.TheVariants.{ReadFault, WriteFault, TurnLimit, ResponseTooLong};
 ghost use Rattle.modbus_server.specs.Sending.{EndsRead};
 ghost use Rattle.modbus_server.specs.Complete.{IsCleanLine};
 ghost use Rattle.modbus_server.specs.Rooms.{HaveRooms, totals};
-ghost use Rattle.modbus_app.specs.Words.{IsRtu};
+ghost use Rattle.modbus_app.specs.Words.{asked};
+ghost use Rattle.modbus_app.specs.declared.words.Form.{Form};
 ghost use Rattle.modbus_app.specs.Device.{Serves};
 ghost use Rattle.modbus_app.specs.Status.{usage_line};
 ghost use Rattle.modbus_app.specs.Ending.{EndsWithFault};
 
+use crate::device::open;
 use crate::status::{USAGE, USAGE_LINE, line, report, status};
+use crate::words::{Form, read_words};
 use modbus_link::{Sink, Source};
 use modbus_server::ProcessError;
 use modbus_server::rtu_over_tcp::process;
-use modbus_store::{RegisterStore, Sizes};
 use std::alloc::Global;
 
-/// Whether the words are the one word `rtu`.
-fn is_rtu(words: &[String]) -> bool
-    ensures { IsTrue result ↔ IsRtu words.now }
-{
-    match words {
-        [word] => word.as_str() == "rtu",
-        _ => false,
-    }
-}
-
-/// The sizes of the tables.
-const SIZES: Sizes = Sizes {
-    coils: 1024,
-    discrete_inputs: 1024,
-    holding_registers: 1024,
-    input_registers: 1024,
-};
-
-/// Serves a device of four tables that hold 0, with no limit of turns but that of a `u64`.
+/// Serves the device of a form, with no limit of turns but that of a `u64`.
 fn serve<S: Source, K: Sink>(
     alloc: Global,
+    form: Form,
     source: &mut S,
     sink: &mut K,
 ) -> Result<(), ProcessError>
+    requires { form.size ≤ 0x10000 }
     ensures source { Advances (S.input source.old) (S.input source.new) }
     ensures sink { Extends (K.output sink.old) (K.output sink.new) }
     ensures served { IsTrue (S.input source.old).told → IsTrue (K.output sink.old).told
-        → Serves (bytes_read (S.input source.old) (S.input source.new)) (totals (cuts_made (S.input source.old) (S.input source.new)))
+        → Serves form (bytes_read (S.input source.old) (S.input source.new)) (totals (cuts_made (S.input source.old) (S.input source.new)))
         (bytes_appended (K.output sink.old) (K.output sink.new)) result }
     ensures ended { IsTrue (S.input source.old).told → EndsRead result (S.input source.new).left }
     ensures rooms { IsTrue (S.input source.old).told → IsTrue (K.output sink.old).told
@@ -59,7 +45,7 @@ fn serve<S: Source, K: Sink>(
         → (Rose (K.output sink.old).faults (K.output sink.new).faults → ⊥)
         → (result ≡ Ok tt) ⊎ (result ≡ Err ProcessError.NoMemory) }
 {
-    match RegisterStore::new(alloc, SIZES, true) {
+    match open(alloc, form) {
         Err(_) => Err(ProcessError::NoMemory),
         Ok(mut store) => process(alloc, source, sink, &mut store, u64::MAX),
     }
@@ -67,8 +53,8 @@ fn serve<S: Source, K: Sink>(
 
 /// Runs the program with the words after its name, and answers its status.
 ///
-/// With the word `rtu` it serves RTU frames, with a device of four tables of 1024 entries that hold 0 at first; a broadcast has its
-/// effect and no answer. A status other than 0 is told by a line of text on `errors`; where that fails, the
+/// With the words `rtu`, `rtu size` or `rtu size seeded` it serves RTU frames, with a device of four tables of so many entries (1024
+/// where no size is given), which hold 0 at first or a pattern; a broadcast has its effect and no answer. A status other than 0 is told by a line of text on `errors`; where that fails, the
 /// line is cut short and the status stays.
 ///
 /// | Status | When |
@@ -91,21 +77,21 @@ pub fn run<S: Source, K: Sink, E: Sink>(
     ensures source { Advances (S.input source.old) (S.input source.new) }
     ensures sink { Extends (K.output sink.old) (K.output sink.new) }
 
-    ensures usage { (result ≡ 2) ↔ (IsRtu words.now → ⊥) }
+    ensures usage { (result ≡ 2) ↔ (asked words.now ≡ None) }
     ensures unread { result ≡ 2 → S.input source.new ≡ S.input source.old }
     ensures unwritten { result ≡ 2 → K.output sink.new ≡ K.output sink.old }
 
     // The input ended with no uncovered offset open. What was appended is exactly the replies, framed for each request's slave, that
     // one run of the device gives to the leftmost frames of the whole input in order.
-    ensures ok { result ≡ 0 → IsTrue (S.input source.old).told → IsTrue (K.output sink.old).told
-        → Serves (S.input source.old).left (totals (cuts_made (S.input source.old) (S.input source.new)))
+    ensures ok { (form : Form) → asked words.now ≡ Some form → result ≡ 0 → IsTrue (S.input source.old).told → IsTrue (K.output sink.old).told
+        → Serves form (S.input source.old).left (totals (cuts_made (S.input source.old) (S.input source.new)))
         (bytes_appended (K.output sink.old) (K.output sink.new)) (Ok tt) × ((S.input source.new).left ≡ []) }
 
     // Each other status is that of a fault with its cause, and what was answered before it.
-    ensures fault { result ≢ 0 → result ≢ 2
-        → EndsWithFault (S.input source.old) (S.input source.new) (K.output sink.old) (K.output sink.new) (E.output errors.old) (E.output errors.new) result }
+    ensures fault { (form : Form) → asked words.now ≡ Some form → result ≢ 0
+        → EndsWithFault form (S.input source.old) (S.input source.new) (K.output sink.old) (K.output sink.new) (E.output errors.old) (E.output errors.new) result }
 
-    ensures rooms { IsRtu words.now → IsTrue (S.input source.old).told → IsTrue (K.output sink.old).told
+    ensures rooms { asked words.now ≢ None → IsTrue (S.input source.old).told → IsTrue (K.output sink.old).told
         → HaveRooms (bytes_read (S.input source.old) (S.input source.new)) 0 (cuts_made (S.input source.old) (S.input source.new)) }
 
     ensures silent { result ≡ 0 → E.output errors.new ≡ E.output errors.old }
@@ -114,17 +100,17 @@ pub fn run<S: Source, K: Sink, E: Sink>(
         → bytes_appended (E.output errors.old) (E.output errors.new) ≡ usage_line }
 
     // A clean line is served to its end.
-    ensures complete { IsRtu words.now → IsTrue (S.input source.old).told → IsTrue (K.output sink.old).told
+    ensures complete { asked words.now ≢ None → IsTrue (S.input source.old).told → IsTrue (K.output sink.old).told
         → IsCleanLine (S.input source.old).left → length (S.input source.old).left < 2 ^ 64 - 1
         → (Rose (S.input source.old).faults (S.input source.new).faults → ⊥)
         → (Rose (K.output sink.old).faults (K.output sink.new).faults → ⊥)
         → (result ≡ 0) ⊎ (result ≡ 11) }
 {
-    if !is_rtu(words) {
+    let Some(form) = read_words(words) else {
         report(errors, USAGE_LINE);
         return USAGE;
-    }
-    match serve(alloc, source, sink) {
+    };
+    match serve(alloc, form, source, sink) {
         Ok(()) => 0,
         Err(error) => {
             report(errors, line(error));

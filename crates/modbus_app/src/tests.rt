@@ -15,20 +15,20 @@ const ONE_ZERO: [u8; 7] = [0x01, 0x03, 0x02, 0x00, 0x00, 0xB8, 0x44];
 /// Runs the program with these words over an input that is cut at the stops, with reads and writes that fail by number.
 fn ran(
     alloc: Global,
-    word: &str,
+    words: &[&str],
     input: &[u8],
     stops: &[usize],
     read_fails: &[u64],
     write_fails: &[u64],
 ) -> Result<(u8, MemorySink, MemorySink), Fail> {
-    let mut words = Vec::new(alloc);
-    if !word.is_empty() {
-        words.push(String::from_str(alloc, word)?)?;
+    let mut owned = Vec::new(alloc);
+    for word in words {
+        owned.push(String::from_str(alloc, word)?)?;
     }
     let mut source = MemorySource::new(alloc, input, stops, read_fails)?;
     let mut sink = MemorySink::new(alloc, 64, 64, write_fails)?;
     let mut errors = MemorySink::new(alloc, 128, 128, &[])?;
-    let status = run(alloc, &words, &mut source, &mut sink, &mut errors);
+    let status = run(alloc, &owned, &mut source, &mut sink, &mut errors);
     Ok((status, sink, errors))
 }
 
@@ -42,7 +42,7 @@ fn expect(
     replies: &[u8],
     text: &str,
 ) -> Result<(), Fail> {
-    let (found, sink, errors) = ran(alloc, "rtu", input, stops, &[], &[])?;
+    let (found, sink, errors) = ran(alloc, &["rtu"], input, stops, &[], &[])?;
     assert_eq!(rt; found, status);
     assert_eq!(rt; sink.bytes(), replies);
     assert_eq!(rt; errors.bytes(), text.as_bytes());
@@ -130,6 +130,33 @@ fn writes_are_kept_and_a_broadcast_has_its_effect(rt: HostRuntime) -> Result<(),
 }
 
 #[test]
+fn the_words_give_the_size_and_the_contents(rt: HostRuntime) -> Result<(), Fail> {
+    let alloc = rt.alloc();
+    let read_two = [0x01, 0x03, 0x08, 0x2B, 0x00, 0x02, 0xB6, 0x63];
+    let (status, sink, _errors) = ran(alloc, &["rtu", "4096"], &read_two, &[], &[], &[])?;
+    assert_eq!(rt; status, 0);
+    assert_eq!(rt;
+        sink.bytes(),
+        [0x01, 0x03, 0x04, 0x00, 0x00, 0x00, 0x00, 0xFA, 0x33].as_slice()
+    );
+    let read_second = [0x01, 0x03, 0x00, 0x01, 0x00, 0x01, 0xD5, 0xCA];
+    let (status, sink, _errors) = ran(alloc, &["rtu", "8", "seeded"], &read_second, &[], &[], &[])?;
+    assert_eq!(rt; status, 0);
+    assert_eq!(rt;
+        sink.bytes(),
+        [0x01, 0x03, 0x02, 0x00, 0x01, 0x79, 0x84].as_slice()
+    );
+    let (status, sink, _errors) = ran(alloc, &["rtu", "8", "seeded"], &READ_ONE, &[], &[], &[])?;
+    assert_eq!(rt; status, 0);
+    assert_eq!(rt; sink.bytes(), ONE_ZERO.as_slice());
+    let (status, _sink, _errors) = ran(alloc, &["rtu", "0"], &READ_ONE, &[], &[], &[])?;
+    assert_eq!(rt; status, 2);
+    let (status, _sink, _errors) = ran(alloc, &["rtu", "65537"], &READ_ONE, &[], &[], &[])?;
+    assert_eq!(rt; status, 2);
+    Ok(())
+}
+
+#[test]
 fn noise_is_skipped_up_to_twenty_offsets_of_one_read(rt: HostRuntime) -> Result<(), Fail> {
     let alloc = rt.alloc();
     let many = "modbus: too many retries\n";
@@ -203,24 +230,24 @@ fn a_frame_that_is_no_request_is_told(rt: HostRuntime) -> Result<(), Fail> {
 #[test]
 fn faults_have_their_status_and_lose_no_reply(rt: HostRuntime) -> Result<(), Fail> {
     let alloc = rt.alloc();
-    let (status, sink, errors) = ran(alloc, "rtu", &READ_ONE, &[], &[1], &[])?;
+    let (status, sink, errors) = ran(alloc, &["rtu"], &READ_ONE, &[], &[1], &[])?;
     assert_eq!(rt; status, 3);
     assert_eq!(rt; sink.bytes(), ONE_ZERO.as_slice());
     assert_eq!(rt; errors.bytes(), b"modbus: read fault\n".as_slice());
 
     let mut input = Vec::from_slice(alloc, &READ_ONE)?;
     input.extend_from_slice(&READ_ONE)?;
-    let (status, sink, errors) = ran(alloc, "rtu", &input, &[], &[], &[1])?;
+    let (status, sink, errors) = ran(alloc, &["rtu"], &input, &[], &[], &[1])?;
     assert_eq!(rt; status, 4);
     assert_eq!(rt; sink.bytes(), ONE_ZERO.as_slice());
     assert_eq!(rt; errors.bytes(), b"modbus: write fault\n".as_slice());
 
     let usage =
         "modbus: usage: rtu [size [seeded]] | tcp [size] | make n | listen-rtu port | listen-tcp port\n";
-    let (status, _sink, errors) = ran(alloc, "serial", &READ_ONE, &[], &[], &[])?;
+    let (status, _sink, errors) = ran(alloc, &["serial"], &READ_ONE, &[], &[], &[])?;
     assert_eq!(rt; status, 2);
     assert_eq!(rt; errors.bytes(), usage.as_bytes());
-    let (status, sink, errors) = ran(alloc, "", &READ_ONE, &[], &[], &[])?;
+    let (status, sink, errors) = ran(alloc, &[], &READ_ONE, &[], &[], &[])?;
     assert_eq!(rt; status, 2);
     assert_eq!(rt; sink.bytes(), b"".as_slice());
     assert_eq!(rt; errors.bytes(), usage.as_bytes());

@@ -10,7 +10,7 @@ use Rattle.modbus_app.proofs.run.serve.Goals as goal
 
 pub returns-in-Err-clause-served : goal.returns-in-Err-clause-served
 returns-in-Err-clause-served g c = λ told told'.
-    (opening, opened_broken StepsTo (g.S.Ends.input c.args.source.now) (g.K.Ends.output c.args.sink.now) opening)
+    (opening c.args.form, opened_broken StepsTo (g.S.Ends.input c.args.source.now) (g.K.Ends.output c.args.sink.now) (opening c.args.form))
 
 pub returns-in-Ok-clause-served : goal.returns-in-Ok-clause-served
 returns-in-Ok-clause-served g c = λ told told'. (
@@ -18,7 +18,7 @@ returns-in-Ok-clause-served g c = λ told told'. (
   subst (λ t. EndsAs StepsTo (bytes_read (g.S.Ends.input c.args.source.now) (g.S.Ends.input c.process.new.source))
       (totals (cuts_made (g.S.Ends.input c.args.source.now) (g.S.Ends.input c.process.new.source)))
       t c.process.new.service (bytes_appended (g.K.Ends.output c.args.sink.now) (g.K.Ends.output c.process.new.sink)) c.process.result)
-      c.in-Ok.ensures.1 (c.process.ensures.served told told'),
+      c.in-Ok.ensures (c.process.ensures.served told told'),
 )
 
 pub returns-in-Ok-clause-fits : goal.returns-in-Ok-clause-fits

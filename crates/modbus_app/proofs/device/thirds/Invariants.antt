@@ -1,0 +1,6 @@
+use Rattle.std.proofs.Common.{◌≡◌}
+use Rattle.modbus_app.specs.Device.{entries_by, third}
+use Rattle.modbus_app.proofs.device.thirds.Given as goal
+
+abbrev pub invariant-loop-i : goal.invariant-loop-i
+invariant-loop-i l = l.table.items ≡ entries_by third l.i

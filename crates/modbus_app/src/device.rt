@@ -1,0 +1,97 @@
+//! The device that the program serves.
+ghost use Rattle.std.specs.Prelude.{◌≡◌, ◌≤◌, IfOk};
+ghost use Rattle.modbus_app.specs.Device.{entries_by, third, odd, same, down, seeded_tables, opening};
+
+use crate::words::Form;
+use modbus_frame::{Coil, Word};
+use modbus_store::{RegisterStore, Sizes, StoreError};
+use std::alloc::{AllocError, Global};
+
+#[tactic(auto, unfolding(crate::specs::Device::entries_by))]
+fn thirds(alloc: Global, size: u32) -> Result<Vec<Coil>, AllocError>
+    ensures { IfOk result (λ table. table.items ≡ entries_by third size) }
+{
+    let mut table = Vec::new(alloc);
+    for i in 0..size {
+        table.push(i % 3 == 0)?;
+    }
+    Ok(table)
+}
+
+#[tactic(auto, unfolding(crate::specs::Device::entries_by))]
+fn odds(alloc: Global, size: u32) -> Result<Vec<Coil>, AllocError>
+    ensures { IfOk result (λ table. table.items ≡ entries_by odd size) }
+{
+    let mut table = Vec::new(alloc);
+    for i in 0..size {
+        table.push(i % 2 == 1)?;
+    }
+    Ok(table)
+}
+
+#[tactic(auto, unfolding(crate::specs::Device::entries_by))]
+fn addresses(alloc: Global, size: u32) -> Result<Vec<Word>, AllocError>
+    requires { size ≤ 0x10000 }
+    ensures { IfOk result (λ table. table.items ≡ entries_by same size) }
+{
+    let mut table = Vec::new(alloc);
+    for i in 0..size {
+        table.push(i as u16)?;
+    }
+    Ok(table)
+}
+
+#[tactic(auto, unfolding(crate::specs::Device::entries_by))]
+fn complements(alloc: Global, size: u32) -> Result<Vec<Word>, AllocError>
+    requires { size ≤ 0x10000 }
+    ensures { IfOk result (λ table. table.items ≡ entries_by down size) }
+{
+    let mut table = Vec::new(alloc);
+    for i in 0..size {
+        table.push((0xFFFF - i) as u16)?;
+    }
+    Ok(table)
+}
+
+fn seeded(alloc: Global, size: u32) -> Result<RegisterStore, StoreError>
+    requires { size ≤ 0x10000 }
+    ensures { IfOk result (λ store. store ≡ seeded_tables size) }
+{
+    let Ok(coils) = thirds(alloc, size) else {
+        return Err(StoreError::NoMemory);
+    };
+    let Ok(discrete_inputs) = odds(alloc, size) else {
+        return Err(StoreError::NoMemory);
+    };
+    let Ok(holding_registers) = addresses(alloc, size) else {
+        return Err(StoreError::NoMemory);
+    };
+    let Ok(input_registers) = complements(alloc, size) else {
+        return Err(StoreError::NoMemory);
+    };
+    RegisterStore::with_contents(
+        alloc,
+        &coils,
+        &discrete_inputs,
+        &holding_registers,
+        &input_registers,
+        true,
+    )
+}
+
+/// The device of a form, as it begins.
+pub fn open(alloc: Global, form: Form) -> Result<RegisterStore, StoreError>
+    requires { form.size ≤ 0x10000 }
+    ensures { IfOk result (λ store. store ≡ opening form) }
+{
+    if form.seeded {
+        return seeded(alloc, form.size);
+    }
+    let sizes = Sizes {
+        coils: form.size,
+        discrete_inputs: form.size,
+        holding_registers: form.size,
+        input_registers: form.size,
+    };
+    RegisterStore::new(alloc, sizes, true)
+}
