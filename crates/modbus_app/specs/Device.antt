@@ -1,5 +1,5 @@
 -- The device that the program serves.
-use Rattle.std.specs.Prelude.{◌≡◌, ℕ, zero, suc, ◌-◌, ◌%◌, ◌==◌, Bool, true, List, [], ◌∷◌, ◌++◌, Result, if◌then◌else◌}
+use Rattle.std.specs.Prelude.{ℕ, zero, suc, ◌-◌, ◌%◌, ◌==◌, Bool, true, List, [], ◌∷◌, ◌++◌, Result, if◌then◌else◌}
 use Rattle.modbus_server.specs.declared.error.ProcessError.{ProcessError}
 use Rattle.modbus_server.specs.Serving.{EndsAs}
 use Rattle.modbus_store.specs.Tables.{Tables}

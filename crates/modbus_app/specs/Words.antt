@@ -1,5 +1,5 @@
 -- The words of the command line.
-use Rattle.std.specs.Prelude.{◌≡◌, ℕ, ◌+◌, ◌-◌, ◌*◌, ◌&&◌, nat_le, Bool, true, false, List, [], ◌∷◌, map, fold, length, codes, String, string_bytes, Option, Some, None, if◌then◌else◌}
+use Rattle.std.specs.Prelude.{ℕ, ◌+◌, ◌-◌, ◌*◌, ◌&&◌, nat_le, Bool, true, false, List, [], ◌∷◌, map, fold, length, codes, String, string_bytes, Option, Some, None, if◌then◌else◌}
 use Rattle.std.specs.Str.{bytes_eq}
 use Rattle.std.specs.declared.alloc.Global.{Global}
 use Rattle.modbus_app.specs.declared.words.Form.{Form}

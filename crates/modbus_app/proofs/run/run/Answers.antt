@@ -1,5 +1,5 @@
-use Rattle.std.proofs.Common.{rules, ◌≡◌, ℕ, List, [], Ok, Some, None, Option, subst, ap, ◌∙◌}
-use Rattle.modbus_link.specs.Outside.{bytes_read, bytes_appended, cuts_made}
+use Rattle.std.proofs.Common.{rules, ◌≡◌, Ok, Some, None, Option, subst, ap, ◌∙◌}
+use Rattle.modbus_link.specs.Outside.{bytes_appended, cuts_made}
 use Rattle.modbus_link.proofs.Runs.{bytes_read-all}
 use Rattle.modbus_server.specs.Rooms.{totals}
 use Rattle.modbus_app.specs.declared.words.Form.{Form}

@@ -1,5 +1,5 @@
-use Rattle.std.proofs.Common.{rules, ◌≡◌, ◌<◌, Bool, false, true, length, get_or, Option, Some, None, if◌then◌else◌, sym, ap}
-use Rattle.modbus_app.specs.Words.{is_digit, are_digits, number}
+use Rattle.std.proofs.Common.{rules, ◌≡◌, ◌<◌, Bool, false, true, length, get_or, Some, None, if◌then◌else◌, sym, ap}
+use Rattle.modbus_app.specs.Words.{is_digit, number}
 use Rattle.modbus_app.proofs.Digits.{not_digits}
 use Rattle.modbus_app.proofs.words.number_of.Goals as goal
 
