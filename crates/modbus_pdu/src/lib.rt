@@ -34,6 +34,6 @@ pub use crate::request_decoder::decode_request;
 pub use crate::request_encoder::{encode_request_pdu, request_pdu_size};
 pub use crate::response_decoder::{decode_response, decode_response_pdu};
 pub use crate::response_encoder::{
-    encode_response_pdu, response_pdu_size, response_result_pdu_size,
+    encode_response_pdu, encode_response_result_pdu, response_pdu_size, response_result_pdu_size,
 };
 pub use crate::response_laws::responses_read_back;

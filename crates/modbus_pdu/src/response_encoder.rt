@@ -5,12 +5,15 @@
 //! section 6).
 ghost use Rattle.std.specs.Prelude.{◌≡◌, ◌+◌, ◌*◌, ◌≤◌, ◌<◌, ◌-◌, ◌^◌, ◌++◌, ◌∷◌, length, min, IfOk, IfErr, OnOk, OnErr};
 ghost use Rattle.std.specs.List.{AllByRecursion};
+ghost use Rattle.std.specs.Result.{ForErr};
+ghost use Rattle.modbus_frame.specs.Codes.{function_number};
+ghost use Rattle.modbus_pdu.specs.Coding.{Fits};
 ghost use Rattle.modbus_pdu.specs.Fields.{packed, packed_size};
 ghost use Rattle.modbus_pdu.specs.Writing.{words};
 ghost use Rattle.modbus_pdu.specs.ResponsePdu.{flag, objects, device_identification_pdu, response_pdu, response_result_pdu};
 
 use crate::coils::{bool_to_coil, packed_coils_size, put_packed_coils};
-use crate::exception::EXCEPTION_SIZE;
+use crate::exception::{EXCEPTION_SIZE, encode_exception_response_pdu};
 use crate::limits::{MEI_DEVICE_IDENTIFICATION, TooLong, within_limit};
 use crate::writing::{put_byte, put_word, put_words};
 use bytes::BytesMut;
@@ -217,4 +220,23 @@ pub fn encode_response_pdu(
     buf.reserve(response_len(response))?;
     put_response(buf, response);
     Ok(())
+}
+
+/// Appends the PDU of a response or an exception that fits, for which `response_result_pdu_size` is
+/// `Ok` (sections 6 and 7). The function of an exception is below 0x80. Without memory the buffer is
+/// left as it was. What memory it takes is of the buffer's own allocator.
+pub fn encode_response_result_pdu(
+    alloc: Global,
+    buf: &mut BytesMut,
+    answer: &Result<Response, ExceptionResponse>,
+) -> Result<(), AllocError>
+    requires function { ForErr answer.now (λ refusal. function_number refusal.function < 0x80) }
+    requires fits { Fits (response_result_pdu answer.now) }
+    ensures ok { OnOk result (buf.new.items ≡ buf.old.items ++ response_result_pdu answer.now) }
+    ensures err { OnErr result (buf.new.items ≡ buf.old.items) }
+{
+    match answer {
+        Ok(response) => encode_response_pdu(alloc, buf, response),
+        Err(refusal) => encode_exception_response_pdu(alloc, buf, *refusal),
+    }
 }

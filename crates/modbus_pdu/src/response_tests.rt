@@ -1,7 +1,7 @@
 //! Responses and exceptions against bytes that the standard gives or that were written by hand.
 use crate::{
     TooLong, decode_exception, decode_response, decode_response_pdu, encode_exception_response_pdu,
-    encode_response_pdu, response_pdu_size, response_result_pdu_size,
+    encode_response_pdu, encode_response_result_pdu, response_pdu_size, response_result_pdu_size,
 };
 use bytes::{Bytes, BytesMut};
 use modbus_frame::{
@@ -293,5 +293,21 @@ fn exceptions_and_sizes(rt: HostRuntime) -> Result<(), Fail> {
     assert_eq!(rt; response_pdu_size(&most), Ok(252));
     let more = Response::ReadHoldingRegisters(words(alloc, &[0; 126])?);
     assert_eq!(rt; response_pdu_size(&more), Err(TooLong(254)));
+    Ok(())
+}
+
+#[test]
+fn answers_are_written(rt: HostRuntime) -> Result<(), Fail> {
+    let alloc = rt.alloc();
+    let mut buf = BytesMut::new(alloc);
+    for bytes in [b"\x83\x02".as_slice(), b"\x11\x02\x01\xFF"] {
+        let answer = decode_response_pdu(alloc, Bytes::copy_from_slice(alloc, bytes)?)?.0;
+        assert_eq!(rt; response_result_pdu_size(&answer), Ok(bytes.len()));
+        if let Err(refusal) = &answer {
+            assert!(rt; refusal.function.value() < 0x80);
+        }
+        encode_response_result_pdu(alloc, &mut buf, &answer)?;
+    }
+    assert_eq!(rt; buf.as_slice(), b"\x83\x02\x11\x02\x01\xFF".as_slice());
     Ok(())
 }

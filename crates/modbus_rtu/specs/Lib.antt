@@ -7,5 +7,4 @@ pub mod Place
 pub mod Stands
 pub mod Framed
 pub mod Inbox
-pub mod Coding
 pub mod Decoding

@@ -4,6 +4,7 @@ ghost use Rattle.std.specs.Prelude.{◌≡◌, ℕ, ◌+◌, ◌%◌, ◌/◌, �
 ghost use Rattle.std.specs.Result.{ForErr};
 ghost use Rattle.modbus_frame.specs.Codes.{function_number};
 ghost use Rattle.modbus_frame.specs.Meaning.{meaning};
+ghost use Rattle.modbus_pdu.specs.Coding.{Fits, Refuses, told_size};
 ghost use Rattle.modbus_pdu.specs.RequestOf.{request_of};
 ghost use Rattle.modbus_pdu.specs.ResponseOf.{response_result_of};
 ghost use Rattle.modbus_pdu.specs.RequestPdu.{request_pdu};
@@ -12,7 +13,6 @@ ghost use Rattle.modbus_rtu.specs.Checksum.{crc};
 ghost use Rattle.modbus_rtu.specs.Frame.{frame, verdict_of};
 ghost use Rattle.modbus_rtu.specs.ResponseHead.{response_verdict};
 ghost use Rattle.modbus_rtu.specs.Decoding.{ReadsBy};
-ghost use Rattle.modbus_rtu.specs.Coding.{Fits, Refuses, told_size};
 
 use crate::crc::calc_crc;
 use crate::decoder::{OVERHEAD, RequestDecoder, ResponseDecoder};
@@ -22,8 +22,8 @@ use modbus_frame::{
     EncodeError, ExceptionResponse, PduError, Request, RequestPdu, Response, SlaveId, rtu,
 };
 use modbus_pdu::{
-    decode_request, decode_response_pdu, encode_exception_response_pdu, encode_request_pdu,
-    encode_response_pdu, request_pdu_size, response_result_pdu_size,
+    decode_request, decode_response_pdu, encode_request_pdu, encode_response_result_pdu,
+    request_pdu_size, response_result_pdu_size,
 };
 use std::alloc::{AllocError, Global};
 
@@ -47,23 +47,6 @@ fn put_checksum(buf: &mut BytesMut, start: usize) -> Result<(), AllocError>
 {
     let sum = calc_crc(&buf.as_slice()[start..]);
     buf.extend_from_slice(&sum.to_le_bytes())
-}
-
-/// Appends the PDU of what a server answers, where it fits.
-fn put_answer(
-    alloc: Global,
-    answer: &Result<Response, ExceptionResponse>,
-    buf: &mut BytesMut,
-) -> Result<(), AllocError>
-    requires function { ForErr answer.now (λ refusal. function_number refusal.function < 0x80) }
-    requires fits { Fits (response_result_pdu answer.now) }
-    ensures ok { OnOk result (buf.new.items ≡ buf.old.items ++ response_result_pdu answer.now) }
-    ensures err { OnErr result (buf.new.items ≡ buf.old.items) }
-{
-    match answer {
-        Ok(response) => encode_response_pdu(alloc, buf, response),
-        Err(refusal) => encode_exception_response_pdu(alloc, buf, *refusal),
-    }
 }
 
 /// Appends the frame of a request that fits, or a part of it where memory is refused.
@@ -99,7 +82,7 @@ fn put_answer_frame(
 {
     let start = buf.len();
     buf.extend_from_slice(&[slave])?;
-    put_answer(alloc, answer, buf)?;
+    encode_response_result_pdu(alloc, buf, answer)?;
     put_checksum(buf, start)
 }
 
