@@ -1,0 +1,176 @@
+-- What stands at the front of bytes: a unit, or a rest of one kind.
+use Rattle.std.proofs.Common.{◌≡◌, ◌⊎◌, inl, inr, ℕ, zero, suc, ◌+◌, ◌-◌, ◌*◌, ◌<◌, ◌≤◌, List, [], ◌∷◌, ◌++◌, length, take, drop, get_or, refl, sym, ap, ◌∙◌, subst, arith, length-append, append_assoc}
+use Rattle.std.specs.Prelude.{All}
+use Rattle.std.proofs.lemmas.Bool.{cases_lt}
+use Rattle.std.proofs.lemmas.List.{take_at, drop_at, take-append-drop, length-take-le}
+use Rattle.std.proofs.lemmas.List.Elements.{All-get_or}
+use Rattle.std.proofs.lemmas.Nat.{be_bytes_2, from_be_bytes-to_be_bytes_2}
+use Rattle.modbus_frame.specs.declared.tcp.Header.{Header}
+use Rattle.modbus_pdu.specs.Fields.{word_at}
+use Rattle.modbus_pdu.specs.Laws.{IsByte}
+use Rattle.modbus_pdu.specs.Writing.{word}
+use Rattle.modbus_tcp.specs.declared.decoder.Mbap.{Mbap}
+use Rattle.modbus_tcp.specs.Decoding.{Tells}
+use Rattle.modbus_tcp.specs.Unit.{unit, IsUnit}
+use Rattle.modbus_tcp.specs.Stream.{told_length, Rest, empty, unfinished, no_length, foreign, IsRest, BeginsWith}
+
+-- two bytes as a number, and back
+word_back : (n : ℕ) → n < 65536 → word_at (word n) 0 ≡ n
+word_back n lt = omega (arith, from_be_bytes-to_be_bytes_2 n lt)
+
+pair_small : (a b : ℕ) → a < 256 → b < 256 → (i : ℕ) → get_or (a ∷ b ∷ []) i 0 < 256
+pair_small a b p q zero = p
+pair_small a b p q (suc i) = one i
+  where
+    one : (i : ℕ) → get_or (b ∷ []) i 0 < 256
+    one zero = q
+    one (suc i) = omega arith
+
+word_of_bytes : (a b : ℕ) → a < 256 → b < 256 → word (a * 256 + b) ≡ a ∷ b ∷ []
+word_of_bytes a b p q = be_bytes_2 (a ∷ b ∷ []) (a * 256 + b) refl (pair_small a b p q) (omega arith)
+
+-- what the bytes of a unit tell
+pub record Told (bytes : List ℕ) (message : Header × List ℕ) (others : List ℕ) : Type 0 where
+  pub transaction : word_at bytes 0 ≡ message.0.transaction_id
+  pub protocol : word_at bytes 2 ≡ 0
+  pub size : told_length bytes ≡ length message.1 + 1
+  pub unit_id : get_or bytes 6 0 ≡ message.0.unit_id
+  pub body : drop 7 bytes ≡ message.1 ++ others
+  pub all : length bytes ≡ length message.1 + length others + 7
+
+told_by_unit : (header : Header) (pdu others : List ℕ) → IsUnit (header, pdu) → Told (unit header pdu ++ others) (header, pdu) others
+unfolding unit
+told_by_unit header pdu others is = record {
+  transaction = word_back header.transaction_id is.transaction;
+  protocol = refl;
+  size = word_back (length pdu + 1) (omega (arith, is.size));
+  unit_id = refl;
+  body = refl;
+  all = omega (arith, length-append pdu others);
+}
+
+pub told : {bytes others : List ℕ} {message : Header × List ℕ} → BeginsWith bytes message others → Told bytes message others
+told {bytes} {others} {message} begins =
+    subst (λ all. Told all message others) (sym begins.joined) (told_by_unit message.0 message.1 others begins.whole)
+
+-- bytes that tell a unit begin with it
+begins_by_parts : (a b c d e f u : ℕ) (pdu others : List ℕ) → a < 256 → b < 256 → e < 256 → f < 256 → c * 256 + d ≡ 0 → e * 256 + f ≡ length pdu + 1 →
+    BeginsWith (a ∷ b ∷ c ∷ d ∷ e ∷ f ∷ u ∷ (pdu ++ others)) (record { transaction_id = a * 256 + b; unit_id = u }, pdu) others
+unfolding unit
+begins_by_parts a b c d e f u pdu others p q r s none size =
+    let high : c ≡ 0 = omega arith in
+    let low : d ≡ 0 = omega arith in
+    let first : word (a * 256 + b) ≡ a ∷ b ∷ [] = word_of_bytes a b p q in
+    let third : word (length pdu + 1) ≡ e ∷ f ∷ [] = subst (λ n. word n ≡ e ∷ f ∷ []) size (word_of_bytes e f r s) in
+    let is : (a ∷ b ∷ []) ++ (c ∷ d ∷ []) ++ (e ∷ f ∷ []) ++ (u ∷ (pdu ++ others)) ≡ word (a * 256 + b) ++ word 0 ++ word (length pdu + 1) ++ (u ∷ (pdu ++ others)) = cc in
+    record {
+      joined = is;
+      whole = record { transaction = omega arith; size = omega arith };
+    }
+
+abbrev pub header_of : List ℕ → Header
+header_of bytes = record { transaction_id = word_at bytes 0; unit_id = get_or bytes 6 0 }
+
+at : (bytes : List ℕ) → All IsByte bytes → (i : ℕ) → i < length bytes → get_or bytes i 0 < 256
+at bytes bounded i lt = All-get_or IsByte bytes i 0 lt bounded
+
+pub begins : (bytes : List ℕ) (count : ℕ) → All IsByte bytes → 7 ≤ count → count ≤ length bytes → word_at bytes 2 ≡ 0 → count ≡ 6 + told_length bytes →
+    BeginsWith bytes (header_of bytes, drop 7 (take count bytes)) (drop count bytes)
+begins (a ∷ b ∷ c ∷ d ∷ e ∷ f ∷ u ∷ body) count bounded low high none size =
+    let k = count - 7 in
+    let bytes = a ∷ b ∷ c ∷ d ∷ e ∷ f ∷ u ∷ body in
+    let more : count ≡ suc (suc (suc (suc (suc (suc (suc k)))))) = omega arith in
+    let all : take k body ++ drop k body ≡ body = take-append-drop k body in
+    let pdu_len : length (take k body) ≡ k = length-take-le k body (omega arith) in
+    rw more (subst (λ rest. BeginsWith (a ∷ b ∷ c ∷ d ∷ e ∷ f ∷ u ∷ rest) (header_of bytes, take k body) (drop k body)) all
+    (begins_by_parts a b c d e f u (take k body) (drop k body) (at bytes bounded 0 (omega arith)) (at bytes bounded 1 (omega arith)) (at bytes bounded 4 (omega arith)) (at bytes bounded 5 (omega arith)) none (omega arith)))
+begins _ count bounded low high none size = absurd (omega arith)
+
+same_header : (header other : Header) → header.transaction_id ≡ other.transaction_id → header.unit_id ≡ other.unit_id → header ≡ other
+same_header header other p q =
+    let with : ℕ → ℕ → Header = λ t u. record { transaction_id = t; unit_id = u } in
+    ap (λ t. with t header.unit_id) p ∙ ap (λ u. with other.transaction_id u) q
+
+-- what a header tells of its unit
+pub tells_unit : (bytes : List ℕ) (mbap : Mbap) → All IsByte bytes → Tells bytes mbap → 0 < mbap.length → 6 + mbap.length ≤ length bytes → mbap.protocol ≡ 0 →
+    BeginsWith bytes (mbap.header, drop 7 (take (6 + mbap.length) bytes)) (drop (6 + mbap.length) bytes)
+tells_unit bytes mbap bounded tells some whole ours =
+    let header : mbap.header ≡ header_of bytes = same_header mbap.header (header_of bytes) tells.transaction tells.unit_id in
+    rw header (begins bytes (6 + mbap.length) bounded (omega arith) whole (sym tells.protocol ∙ ours) (omega (arith, tells.length)))
+
+-- a short list
+pub short_rest : (bytes : List ℕ) → length bytes < 7 → IsRest bytes empty ⊎ IsRest bytes unfinished
+short_rest [] lt = inl refl
+short_rest (b ∷ bytes) lt = inr (omega arith, inl lt)
+
+-- of bytes exactly one holds
+pub front_of : (bytes : List ℕ) → All IsByte bytes → ((message : Header × List ℕ) × (others : List ℕ) × BeginsWith bytes message others) ⊎ ((kind : Rest) × IsRest bytes kind)
+front_of bytes bounded = elim (cases_lt (length bytes) 7) [
+  | inl short ↦ elim (short_rest bytes short) [
+    | inl none ↦ inr (empty, none)
+    | inr some ↦ inr (unfinished, some)
+  ]
+  | inr long ↦ elim (cases_lt 0 (told_length bytes)) [
+    | inr none ↦ inr (no_length, (long, omega arith))
+    | inl some ↦ elim (cases_lt (length bytes) (6 + told_length bytes)) [
+      | inl part ↦ inr (unfinished, (omega arith, inr (some, part)))
+      | inr whole ↦ elim (cases_lt 0 (word_at bytes 2)) [
+        | inl other ↦ inr (foreign (word_at bytes 2), (long, some, whole, refl, λ e. omega (arith, e)))
+        | inr ours ↦ inl (
+          (header_of bytes, drop 7 (take (6 + told_length bytes) bytes)),
+          drop (6 + told_length bytes) bytes,
+          begins bytes (6 + told_length bytes) bounded (omega arith) whole (omega arith) refl,
+        )
+      ]
+    ]
+  ]
+]
+
+pub same_unit : {bytes others left : List ℕ} {message other : Header × List ℕ} → BeginsWith bytes message others → BeginsWith bytes other left → (message ≡ other) × (others ≡ left)
+same_unit {bytes} {others} {left} {message} {other} begins again =
+    let tells = told begins in
+    let again_tells = told again in
+    let size : length message.1 ≡ length other.1 = omega (arith, tells.size, again_tells.size) in
+    let bodies : message.1 ++ others ≡ other.1 ++ left = sym tells.body ∙ again_tells.body in
+    let header : message.0 ≡ other.0 = same_header message.0 other.0 (sym tells.transaction ∙ again_tells.transaction) (sym tells.unit_id ∙ again_tells.unit_id) in
+    let pdu : message.1 ≡ other.1 = sym (take_at message.1 others (length other.1) size) ∙ ap (take (length other.1)) bodies ∙ take_at other.1 left (length other.1) refl in
+    let rest : others ≡ left = sym (drop_at message.1 others (length other.1) size) ∙ ap (drop (length other.1)) bodies ∙ drop_at other.1 left (length other.1) refl in
+    let both : Header → List ℕ → Header × List ℕ = λ h p. (h, p) in
+    (ap (λ h. both h message.1) header ∙ ap (λ p. both other.0 p) pdu, rest)
+
+pub no_rest : {bytes others : List ℕ} {message : Header × List ℕ} (kind : Rest) → BeginsWith bytes message others → IsRest bytes kind → ⊥
+no_rest empty begins is = let tells = told begins in omega (arith, tells.all, ap length is)
+no_rest unfinished begins is = let tells = told begins in elim is.1 [
+  | inl short ↦ omega (arith, tells.all)
+  | inr part ↦ omega (arith, tells.all, tells.size)
+]
+no_rest no_length begins is = let tells = told begins in omega (arith, tells.size)
+no_rest (foreign protocol) begins is = let tells = told begins in is.4 (is.3 ∙ tells.protocol)
+
+pub same_rest : (bytes : List ℕ) (kind other : Rest) → IsRest bytes kind → IsRest bytes other → kind ≡ other
+same_rest bytes empty empty is or = refl
+same_rest bytes empty unfinished is or = absurd (omega (arith, ap length is))
+same_rest bytes empty no_length is or = absurd (omega (arith, ap length is))
+same_rest bytes empty (foreign q) is or = absurd (omega (arith, ap length is))
+same_rest bytes unfinished empty is or = absurd (omega (arith, ap length or))
+same_rest bytes unfinished unfinished is or = refl
+same_rest bytes unfinished no_length is or = absurd (elim is.1 [ inl short ↦ omega arith | inr part ↦ omega arith ])
+same_rest bytes unfinished (foreign q) is or = absurd (elim is.1 [ inl short ↦ omega arith | inr part ↦ omega arith ])
+same_rest bytes no_length empty is or = absurd (omega (arith, ap length or))
+same_rest bytes no_length unfinished is or = absurd (elim or.1 [ inl short ↦ omega arith | inr part ↦ omega arith ])
+same_rest bytes no_length no_length is or = refl
+same_rest bytes no_length (foreign q) is or = absurd (omega arith)
+same_rest bytes (foreign p) empty is or = absurd (omega (arith, ap length or))
+same_rest bytes (foreign p) unfinished is or = absurd (elim or.1 [ inl short ↦ omega arith | inr part ↦ omega arith ])
+same_rest bytes (foreign p) no_length is or = absurd (omega arith)
+same_rest bytes (foreign p) (foreign q) is or = ap foreign (is.3 ∙ sym or.3)
+
+-- a front of an unfinished unit begins no unit
+pub none_unfinished : (bytes more others : List ℕ) (message : Header × List ℕ) → IsRest (bytes ++ more) unfinished → BeginsWith bytes message others → ⊥
+none_unfinished bytes more others message is begins = no_rest unfinished (begins_longer begins more) is
+  where
+    begins_longer : {bytes others : List ℕ} {message : Header × List ℕ} → BeginsWith bytes message others → (more : List ℕ) → BeginsWith (bytes ++ more) message (others ++ more)
+    begins_longer {bytes} {others} {message} begins more = record {
+      joined = ap (λ front. front ++ more) begins.joined ∙ append_assoc (unit message.0 message.1) others more;
+      whole = begins.whole;
+    }

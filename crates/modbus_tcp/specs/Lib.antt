@@ -1,0 +1,3 @@
+pub mod Unit
+pub mod Stream
+pub mod Decoding
