@@ -2,7 +2,12 @@ pub mod Answering
 pub mod Served
 pub mod Reading
 pub mod Onward
-pub mod Forwarding
-pub mod Faults
 pub mod Completing
-pub mod OneFault
+pub mod RtuIntake
+pub mod RtuLine
+pub mod Asked
+pub mod RtuFaults
+pub mod RtuOneFault
+pub mod TcpIntake
+pub mod TcpStream
+pub mod TcpFaults

@@ -1,9 +1,14 @@
 pub mod State
 pub mod Outcome
+pub mod Framing
 pub mod Service
 pub mod Answer
+pub mod Taking
 pub mod Serving
 pub mod Sending
 pub mod Rooms
 pub mod Complete
+pub mod Rtu
+pub mod Tcp
 pub mod FirstFault
+pub mod FirstUnit

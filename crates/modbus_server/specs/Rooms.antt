@@ -1,21 +1,17 @@
 -- The rooms of the reads of a server.
-use Rattle.std.specs.Prelude.{◌≡◌, ℕ, ◌+◌, ◌-◌, List, [], ◌∷◌, map, take, length}
-use Rattle.modbus_rtu.specs.Leftmost.{IsLeftmost}
+use Rattle.std.specs.Prelude.{ℕ, List, [], ◌∷◌, map, take}
+use Rattle.modbus_server.specs.Framing.{Framing}
 
 -- the totals after the reads, without their rooms
 abbrev pub totals : List (ℕ × ℕ) → List ℕ
 totals cuts = map (λ cut. cut.0) cuts
 
--- a read after these bytes has a room of 268 less those from the stop on
-abbrev pub HasRoom : List ℕ → ℕ → Type 0
-HasRoom bytes room = (frames : List ℕ) (stop : ℕ) → IsLeftmost bytes frames stop → room + (length bytes - stop) ≡ 268
-
 -- each of these reads, the first of them from a total
-abbrev pub HaveRooms : List ℕ → ℕ → List (ℕ × ℕ) → Type 0
-HaveRooms bytes total [] = Unit {0}
-HaveRooms bytes total (cut ∷ cuts) = HasRoom (take total bytes) cut.1 × HaveRooms bytes cut.0 cuts
+abbrev pub HaveRooms : Framing → List ℕ → ℕ → List (ℕ × ℕ) → Type 0
+HaveRooms F bytes total [] = Unit {0}
+HaveRooms F bytes total (cut ∷ cuts) = F.HasRoom (take total bytes) cut.1 × HaveRooms F bytes cut.0 cuts
 
 -- each read of a step
-abbrev pub HaveRoom : List ℕ → List (ℕ × ℕ) → Type 0
-HaveRoom bytes [] = Unit {0}
-HaveRoom bytes (cut ∷ cuts) = HasRoom bytes cut.1 × HaveRoom bytes cuts
+abbrev pub HaveRoom : Framing → List ℕ → List (ℕ × ℕ) → Type 0
+HaveRoom F bytes [] = Unit {0}
+HaveRoom F bytes (cut ∷ cuts) = F.HasRoom bytes cut.1 × HaveRoom F bytes cuts

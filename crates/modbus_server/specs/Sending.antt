@@ -1,39 +1,48 @@
 -- What the parts of a step do.
-use Rattle.std.specs.Prelude.{◌≡◌, ◌≢◌, ◌⊎◌, ℕ, ◌<◌, ◌≤◌, ◌-◌, List, [], ◌∷◌, ◌++◌, length, Result, Ok, Err, Bool, true, false}
+use Rattle.std.specs.Prelude.{◌≡◌, ◌≢◌, ◌⊎◌, ℕ, ◌<◌, ◌≤◌, List, [], ◌∷◌, ◌++◌, length, Result, Ok, Err, Bool, true, false}
 use Rattle.modbus_frame.specs.Meaning.{Asked}
 use Rattle.modbus_server.specs.declared.error.Step.{Step}
 use Rattle.modbus_server.specs.declared.error.Step.TheVariants.{Answered, Silent, MoreRead, Hungry, Ended}
 use Rattle.modbus_server.specs.declared.error.ProcessError.{ProcessError}
-use Rattle.modbus_server.specs.declared.error.ProcessError.TheVariants.{ReadFault, WriteFault, BytesRemaining, InvalidRequest, ResponseTooLong, TurnLimit, NoMemory}
+use Rattle.modbus_server.specs.declared.error.ProcessError.TheVariants.{ReadFault, WriteFault, TooManyRetries, BytesRemaining, InvalidRequest, ResponseTooLong, TurnLimit, InvalidLength, InvalidProtocol, NoMemory}
 use Rattle.modbus_server.specs.Outcome.{Outcome, silence}
 use Rattle.modbus_pdu.specs.RequestOf.{request_of}
+use Rattle.modbus_server.specs.Framing.{Framing, Message, crowd, no_length, foreign}
 use Rattle.modbus_server.specs.Service.{Exchange, Fits, told_size, reply_of}
 use Rattle.modbus_server.specs.Answer as answer
 use Rattle.modbus_link.specs.Outside.{IsFront}
 
--- one frame was answered, and its reply written
-abbrev pub SendsAs : {S : Type 0} → (S → ℕ → Asked → Outcome → S → Type 0) → ℕ × List ℕ → S → List ℕ → S → Result Step ProcessError → Type 0
-SendsAs answers message old sent new (Ok Answered) =
-    (x : Exchange) × answer.Answered answers message old new x × Fits x × (x.outcome ≢ silence) × (sent ≡ reply_of x)
-SendsAs answers message old sent new (Ok Silent) =
-    (x : Exchange) × answer.Answered answers message old new x × Fits x × (x.outcome ≡ silence) × (sent ≡ [])
-SendsAs answers message old sent new (Ok _) = ⊥
-SendsAs answers message old sent new (Err WriteFault) = (x : Exchange) × answer.Answered answers message old new x × Fits x × IsFront sent (reply_of x)
-SendsAs answers message old sent new (Err (InvalidRequest reason)) = (request_of message.1 ≡ Err reason) × (new ≡ old) × (sent ≡ [])
-SendsAs answers message old sent new (Err (ResponseTooLong size)) =
-    (x : Exchange) × answer.Answered answers message old new x × (size ≡ told_size x) × (253 < size) × (sent ≡ [])
-SendsAs answers message old sent new (Err NoMemory) =
-    ((new ≡ old) ⊎ ((x : Exchange) × answer.Answered answers message old new x × Fits x)) × (sent ≡ [])
-SendsAs answers message old sent new (Err _) = ⊥
+-- one message was answered, and its reply written
+abbrev pub SendsAs : (F : Framing) → {S : Type 0} → (S → ℕ → Asked → Outcome → S → Type 0) → Message F → S → List ℕ → S → Result Step ProcessError → Type 0
+SendsAs F answers message old sent new (Ok Answered) =
+    (x : Exchange F) × answer.Answered F answers message old new x × Fits F x × (x.outcome ≢ silence) × (sent ≡ reply_of F x)
+SendsAs F answers message old sent new (Ok Silent) =
+    (x : Exchange F) × answer.Answered F answers message old new x × Fits F x × (x.outcome ≡ silence) × (sent ≡ [])
+SendsAs F answers message old sent new (Ok _) = ⊥
+SendsAs F answers message old sent new (Err WriteFault) = (x : Exchange F) × answer.Answered F answers message old new x × Fits F x × IsFront sent (reply_of F x)
+SendsAs F answers message old sent new (Err (InvalidRequest reason)) = (request_of message.1 ≡ Err reason) × (new ≡ old) × (sent ≡ [])
+SendsAs F answers message old sent new (Err (ResponseTooLong size)) =
+    (x : Exchange F) × answer.Answered F answers message old new x × (size ≡ told_size F x) × (253 < size) × (sent ≡ [])
+SendsAs F answers message old sent new (Err NoMemory) =
+    ((new ≡ old) ⊎ ((x : Exchange F) × answer.Answered F answers message old new x × Fits F x)) × (sent ≡ [])
+SendsAs F answers message old sent new (Err _) = ⊥
 
--- one read into the room that is free
-abbrev pub ReadsAs : List ℕ → List ℕ → List (ℕ × ℕ) → List ℕ → List ℕ → Result Step ProcessError → Type 0
-ReadsAs old read cuts left new (Ok MoreRead) = (0 < length read) × (cuts ≡ (length read, 268 - length old) ∷ []) × (new ≡ old ++ read)
-ReadsAs old read cuts left new (Ok Ended) = (read ≡ []) × (cuts ≡ []) × (left ≡ []) × (old ≡ []) × (new ≡ [])
-ReadsAs old read cuts left new (Ok _) = ⊥
-ReadsAs old read cuts left new (Err BytesRemaining) = (read ≡ []) × (cuts ≡ []) × (left ≡ []) × (old ≢ [])
-ReadsAs old read cuts left new (Err ReadFault) = (read ≡ []) × (cuts ≡ [])
-ReadsAs old read cuts left new (Err _) = ⊥
+-- one message was answered, or not
+abbrev pub AnswersOnce : (F : Framing) → {S : Type 0} → (S → ℕ → Asked → Outcome → S → Type 0) → Message F → S → S → Result Step ProcessError → Type 0
+AnswersOnce F answers message old new (Ok Answered) = (x : Exchange F) × answer.Answered F answers message old new x × Fits F x
+AnswersOnce F answers message old new (Ok Silent) = (x : Exchange F) × answer.Answered F answers message old new x × Fits F x
+AnswersOnce F answers message old new (Ok _) = ⊥
+AnswersOnce F answers message old new (Err error) = Unit {0}
+
+-- one read into a room of that length
+abbrev pub ReadsAs : ℕ → List ℕ → List ℕ → List (ℕ × ℕ) → List ℕ → List ℕ → Result Step ProcessError → Type 0
+ReadsAs room old read cuts left new (Ok MoreRead) = (0 < length read) × (cuts ≡ (length read, room) ∷ []) × (new ≡ old ++ read)
+ReadsAs room old read cuts left new (Ok Ended) = (read ≡ []) × (cuts ≡ []) × (left ≡ []) × (old ≡ []) × (new ≡ [])
+ReadsAs room old read cuts left new (Ok _) = ⊥
+ReadsAs room old read cuts left new (Err BytesRemaining) = (read ≡ []) × (cuts ≡ []) × (left ≡ []) × (old ≢ [])
+ReadsAs room old read cuts left new (Err ReadFault) = (read ≡ []) × (cuts ≡ [])
+ReadsAs room old read cuts left new (Err NoMemory) = (read ≡ []) × (cuts ≡ [])
+ReadsAs room old read cuts left new (Err _) = ⊥
 
 -- how many reads of a step gave bytes
 abbrev pub ReadsOnce : Result Step ProcessError → ℕ → Type 0
@@ -48,14 +57,14 @@ EndsInput (Err BytesRemaining) left = left ≡ []
 EndsInput (Ok _) left = Unit {0}
 EndsInput (Err _) left = Unit {0}
 
--- how many bytes are held after a step
-abbrev pub HoldsAfter : ℕ → Result Step ProcessError → ℕ → Type 0
-HoldsAfter old (Ok Answered) new = new < old
-HoldsAfter old (Ok Silent) new = new < old
-HoldsAfter old (Ok MoreRead) new = new ≤ 268
-HoldsAfter old (Ok Hungry) new = Unit {0}
-HoldsAfter old (Ok Ended) new = Unit {0}
-HoldsAfter old (Err e) new = Unit {0}
+-- how many bytes are held after a step, at most so many after a read
+abbrev pub HoldsAfter : ℕ → ℕ → Result Step ProcessError → ℕ → Type 0
+HoldsAfter most old (Ok Answered) new = new < old
+HoldsAfter most old (Ok Silent) new = new < old
+HoldsAfter most old (Ok MoreRead) new = new ≤ most
+HoldsAfter most old (Ok Hungry) new = Unit {0}
+HoldsAfter most old (Ok Ended) new = Unit {0}
+HoldsAfter most old (Err e) new = Unit {0}
 
 -- where the service was not asked, it is as it was
 abbrev pub IsUnasked : {S : Type 0} → S → Result Step ProcessError → S → Type 0
@@ -94,3 +103,11 @@ abbrev pub StaysOpen : Result Step ProcessError → Bool → Type 0
 StaysOpen (Ok Ended) is_open = is_open ≡ false
 StaysOpen (Ok _) is_open = is_open ≡ true
 StaysOpen (Err _) is_open = is_open ≡ false
+
+-- a call tells only the faults that its framing has
+abbrev pub BreaksAs : {X : Type 0} → Framing → Result X ProcessError → Type 0
+BreaksAs F (Ok x) = Unit {0}
+BreaksAs F (Err TooManyRetries) = F.Breaks crowd
+BreaksAs F (Err InvalidLength) = F.Breaks no_length
+BreaksAs F (Err (InvalidProtocol protocol)) = F.Breaks (foreign protocol)
+BreaksAs F (Err _) = Unit {0}

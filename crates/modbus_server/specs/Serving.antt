@@ -1,111 +1,113 @@
 -- What a connection stands for with a service, and how a call of it ends.
-use Rattle.std.specs.Prelude.{◌≡◌, ◌≢◌, ℕ, ◌+◌, ◌<◌, ◌≤◌, List, [], ◌∷◌, ◌++◌, length, map, All, Contains, Option, Some, None, Result, Ok, Err}
+use Rattle.std.specs.Prelude.{◌≡◌, ◌≢◌, ℕ, ◌<◌, ◌≤◌, List, [], ◌∷◌, ◌++◌, length, map, All, Result, Ok, Err}
 use Rattle.modbus_link.specs.Outside.{IsFront}
-use Rattle.modbus_rtu.specs.Leftmost.{IsLeftmost}
-use Rattle.modbus_rtu.specs.Place.{frames_below}
-use Rattle.modbus_rtu.specs.Stands.{StandsFor, HasCrowd, frame_at}
 use Rattle.modbus_frame.specs.Meaning.{Asked}
 use Rattle.modbus_frame.specs.declared.fault.Reason.{Reason}
+use Rattle.modbus_pdu.specs.RequestOf.{request_of}
 use Rattle.modbus_server.specs.declared.error.Step.{Step}
 use Rattle.modbus_server.specs.declared.error.Step.TheVariants.{Answered, Silent, MoreRead, Hungry, Ended}
 use Rattle.modbus_server.specs.declared.error.ProcessError.{ProcessError}
-use Rattle.modbus_server.specs.declared.error.ProcessError.TheVariants.{ReadFault, WriteFault, TooManyRetries, BytesRemaining, InvalidRequest, ResponseTooLong, TurnLimit, NoMemory}
+use Rattle.modbus_server.specs.declared.error.ProcessError.TheVariants.{ReadFault, WriteFault, TooManyRetries, BytesRemaining, InvalidRequest, ResponseTooLong, TurnLimit, InvalidLength, InvalidProtocol, NoMemory}
 use Rattle.modbus_server.specs.Outcome.{Outcome, silence}
-use Rattle.modbus_pdu.specs.RequestOf.{request_of}
-use Rattle.modbus_server.specs.Service.{Exchange, Run, Fits, told_size, output, asked_of, asks}
+use Rattle.modbus_server.specs.Framing.{Framing, Message, Fault, crowd, no_length, foreign}
+use Rattle.modbus_server.specs.Service.{Exchange, Gives, Run, Fits, told_size, output, asked_of, asks}
 
--- A connection that holds these bytes was given all those in these pieces; the frames that it took are requests, which the
+-- A connection that holds these bytes was given all those in these pieces; the messages that it took are requests, which the
 -- service answered in these exchanges with replies that fit.
-pub record Serving {S : Type 0} (answers : S → ℕ → Asked → Outcome → S → Type 0) (bytes cuts held : List ℕ)
-    (opening now : S) (exchanges : List Exchange) : Type 0 where
-  pub taken : List (ℕ × List ℕ)
-  pub inbox : StandsFor bytes cuts held taken
-  pub asked : map asked_of taken ≡ map asks exchanges
-  pub run : Run answers opening exchanges now
-  pub fit : All Fits exchanges
+pub record Serving (F : Framing) {S : Type 0} (answers : S → ℕ → Asked → Outcome → S → Type 0) (bytes cuts held : List ℕ)
+    (opening now : S) (exchanges : List (Exchange F)) : Type 0 where
+  pub taken : List (Message F)
+  pub stands : F.StandsFor bytes cuts held taken
+  pub asked : map (asked_of F) taken ≡ map (asks F) exchanges
+  pub run : Run F answers opening exchanges now
+  pub fit : All (Fits F) exchanges
 
--- What is the first to fail in the bytes that were read.
-pub data Failing : Type 0 where
-  -- a crowd, at its twentieth offset
-  crowd : Failing
-  -- a delivered frame whose PDU is no request
-  refused : Reason → Failing
-  -- a delivered frame whose response has a PDU of that size, above 253
-  too_long : ℕ → Failing
+-- Where a call stops in the bytes that were read.
+pub data Halt : Type 0 where
+  -- after all messages, with these bytes left
+  remaining : List ℕ → Halt
+  -- where the framing has a fault
+  broken : Fault → Halt
+  -- at a message whose PDU is no request
+  refused : Reason → Halt
+  -- at a message whose response has a PDU of that size, above 253
+  too_long : ℕ → Halt
 
--- it stands at a place; the service, which had answered all frames before, was then asked once more or not
-abbrev pub Fails : {S : Type 0} → (S → ℕ → Asked → Outcome → S → Type 0) → List ℕ → List ℕ → List ℕ → ℕ → S → S → Failing → Type 0
-Fails answers bytes cuts frames place ends now crowd = (k : ℕ) × HasCrowd bytes cuts k × (place ≡ k + 19) × (now ≡ ends)
-Fails answers bytes cuts frames place ends now (refused reason) =
-    Contains frames place × (request_of (frame_at bytes place).1 ≡ Err reason) × (now ≡ ends)
-Fails answers bytes cuts frames place ends now (too_long size) =
-    Contains frames place × (x : Exchange) × (asked_of (frame_at bytes place) ≡ asks x)
-    × answers ends x.slave x.request x.outcome now × (size ≡ told_size x) × (253 < size)
+-- it stops right after these messages; the service, which had answered them all, was then asked once more or not
+abbrev pub Halts : (F : Framing) → {S : Type 0} → (S → ℕ → Asked → Outcome → S → Type 0) → List ℕ → List ℕ → List (Message F) → S → S → Halt → Type 0
+Halts F answers bytes cuts before ends now (remaining left) = F.IsAll bytes cuts left before × (now ≡ ends)
+Halts F answers bytes cuts before ends now (broken fault) = F.IsBroken bytes cuts before fault × (now ≡ ends)
+Halts F answers bytes cuts before ends now (refused reason) =
+    (message : Message F) × F.IsNext bytes cuts before message × (request_of message.1 ≡ Err reason) × (now ≡ ends)
+Halts F answers bytes cuts before ends now (too_long size) =
+    (message : Message F) × F.IsNext bytes cuts before message × (x : Exchange F) × (asked_of F message ≡ asks F x)
+    × Gives F answers ends x now × (size ≡ told_size F x) × (253 < size)
 
--- these are the frames before the first failing place, all where there is none
-abbrev pub Before : {S : Type 0} → (S → ℕ → Asked → Outcome → S → Type 0) → List ℕ → List ℕ → List ℕ → List ℕ → S → S → Option Failing → Type 0
-Before answers bytes cuts frames before ends now None = (before ≡ frames) × (now ≡ ends) × ((k : ℕ) → HasCrowd bytes cuts k → ⊥)
-Before answers bytes cuts frames before ends now (Some failing) =
-    (place : ℕ) × (before ≡ frames_below place frames) × ((k : ℕ) → HasCrowd bytes cuts k → place ≤ k + 19)
-    × Fails answers bytes cuts frames place ends now failing
-
--- One run of the service answered exactly the frames before the first failing place with replies that fit, and these were
+-- One run of the service answered exactly the messages before the place where the call stops with replies that fit, and these were
 -- written whole.
-pub record Served {S : Type 0} (answers : S → ℕ → Asked → Outcome → S → Type 0) (bytes cuts : List ℕ)
-    (opening now : S) (written : List ℕ) (failing : Option Failing) : Type 0 where
-  pub frames : List ℕ
-  pub stop : ℕ
-  pub reading : IsLeftmost bytes frames stop
-  pub before : List ℕ
-  pub exchanges : List Exchange
-  pub asked : map asked_of (map (frame_at bytes) before) ≡ map asks exchanges
-  pub fit : All Fits exchanges
+pub record Served (F : Framing) {S : Type 0} (answers : S → ℕ → Asked → Outcome → S → Type 0) (bytes cuts : List ℕ)
+    (opening now : S) (written : List ℕ) (halt : Halt) : Type 0 where
+  pub before : List (Message F)
+  pub exchanges : List (Exchange F)
+  pub asked : map (asked_of F) before ≡ map (asks F) exchanges
+  pub fit : All (Fits F) exchanges
   pub ends : S
-  pub run : Run answers opening exchanges ends
-  pub wrote : written ≡ output exchanges
-  pub fails : Before answers bytes cuts frames before ends now failing
+  pub run : Run F answers opening exchanges ends
+  pub wrote : written ≡ output F exchanges
+  pub halts : Halts F answers bytes cuts before ends now halt
 
 -- the replies to all exchanges but the last, and a front of the reply to the last
-pub record IsCutShort (exchanges : List Exchange) (written : List ℕ) : Type 0 where
-  pub earlier : List Exchange
-  pub last : List Exchange
+pub record IsCutShort (F : Framing) (exchanges : List (Exchange F)) (written : List ℕ) : Type 0 where
+  pub earlier : List (Exchange F)
+  pub last : List (Exchange F)
   pub splits : exchanges ≡ earlier ++ last
   pub one : length last ≤ 1
   pub front : List ℕ
-  pub is_front : IsFront front (output last)
-  pub wrote : written ≡ output earlier ++ front
+  pub is_front : IsFront front (output F last)
+  pub wrote : written ≡ output F earlier ++ front
 
--- the service answered the first frames, none of which lies past a failing place, and the last reply may be cut short
-abbrev pub Broken : {S : Type 0} → (S → ℕ → Asked → Outcome → S → Type 0) → List ℕ → List ℕ → S → S → List ℕ → Type 0
-Broken answers bytes cuts opening now written =
-    (held : List ℕ) × (exchanges : List Exchange) × Serving answers bytes cuts held opening now exchanges × IsCutShort exchanges written
+-- the service answered the first messages, none of which lies past a place where something fails, and the last reply may be cut short
+abbrev pub Broken : (F : Framing) → {S : Type 0} → (S → ℕ → Asked → Outcome → S → Type 0) → List ℕ → List ℕ → S → S → List ℕ → Type 0
+Broken F answers bytes cuts opening now written =
+    (held : List ℕ) × (exchanges : List (Exchange F)) × Serving F answers bytes cuts held opening now exchanges × IsCutShort F exchanges written
 
 -- how a call ended, over all that was read and written
-abbrev pub EndsAs : {S : Type 0} → (S → ℕ → Asked → Outcome → S → Type 0) → List ℕ → List ℕ → S → S → List ℕ → Result (Unit {0}) ProcessError → Type 0
-EndsAs answers bytes cuts opening now written (Ok done) = (s : Served answers bytes cuts opening now written None) × (s.stop ≡ length bytes)
-EndsAs answers bytes cuts opening now written (Err BytesRemaining) = (s : Served answers bytes cuts opening now written None) × (s.stop < length bytes)
-EndsAs answers bytes cuts opening now written (Err ReadFault) = Served answers bytes cuts opening now written None
-EndsAs answers bytes cuts opening now written (Err TurnLimit) = Served answers bytes cuts opening now written None
-EndsAs answers bytes cuts opening now written (Err TooManyRetries) = Served answers bytes cuts opening now written (Some crowd)
-EndsAs answers bytes cuts opening now written (Err (InvalidRequest reason)) = Served answers bytes cuts opening now written (Some (refused reason))
-EndsAs answers bytes cuts opening now written (Err (ResponseTooLong size)) = Served answers bytes cuts opening now written (Some (too_long size))
-EndsAs answers bytes cuts opening now written (Err WriteFault) = Broken answers bytes cuts opening now written
-EndsAs answers bytes cuts opening now written (Err NoMemory) = Broken answers bytes cuts opening now written
+abbrev pub EndsAs : (F : Framing) → {S : Type 0} → (S → ℕ → Asked → Outcome → S → Type 0) → List ℕ → List ℕ → S → S → List ℕ → Result (Unit {0}) ProcessError → Type 0
+EndsAs F answers bytes cuts opening now written (Ok done) = Served F answers bytes cuts opening now written (remaining [])
+EndsAs F answers bytes cuts opening now written (Err BytesRemaining) = (left : List ℕ) × (left ≢ []) × Served F answers bytes cuts opening now written (remaining left)
+EndsAs F answers bytes cuts opening now written (Err ReadFault) = (left : List ℕ) × Served F answers bytes cuts opening now written (remaining left)
+EndsAs F answers bytes cuts opening now written (Err TurnLimit) = (left : List ℕ) × Served F answers bytes cuts opening now written (remaining left)
+EndsAs F answers bytes cuts opening now written (Err TooManyRetries) = Served F answers bytes cuts opening now written (broken crowd)
+EndsAs F answers bytes cuts opening now written (Err InvalidLength) = Served F answers bytes cuts opening now written (broken no_length)
+EndsAs F answers bytes cuts opening now written (Err (InvalidProtocol protocol)) = Served F answers bytes cuts opening now written (broken (foreign protocol))
+EndsAs F answers bytes cuts opening now written (Err (InvalidRequest reason)) = Served F answers bytes cuts opening now written (refused reason)
+EndsAs F answers bytes cuts opening now written (Err (ResponseTooLong size)) = Served F answers bytes cuts opening now written (too_long size)
+EndsAs F answers bytes cuts opening now written (Err WriteFault) = Broken F answers bytes cuts opening now written
+EndsAs F answers bytes cuts opening now written (Err NoMemory) = Broken F answers bytes cuts opening now written
 
 -- the connection stands for these exchanges, and their replies were written
-abbrev pub Stands : {S : Type 0} → (S → ℕ → Asked → Outcome → S → Type 0) → List ℕ → List ℕ → List ℕ → S → S → List ℕ → List Exchange → Type 0
-Stands answers bytes cuts held opening now written exchanges =
-    Serving answers bytes cuts held opening now exchanges × (written ≡ output exchanges)
+abbrev pub Stands : (F : Framing) → {S : Type 0} → (S → ℕ → Asked → Outcome → S → Type 0) → List ℕ → List ℕ → List ℕ → S → S → List ℕ → List (Exchange F) → Type 0
+Stands F answers bytes cuts held opening now written exchanges =
+    Serving F answers bytes cuts held opening now exchanges × (written ≡ output F exchanges)
+
+-- what the connection stands for after a step, after these exchanges; the bytes and the cuts are those after it
+abbrev pub ServesOn : (F : Framing) → {S : Type 0} → (S → ℕ → Asked → Outcome → S → Type 0) → List ℕ → List ℕ → List ℕ → S → S → List (Exchange F) → Result Step ProcessError → Type 0
+ServesOn F answers bytes cuts held opening now exchanges (Ok Answered) = (x : Exchange F) × Serving F answers bytes cuts held opening now (exchanges ++ x ∷ [])
+ServesOn F answers bytes cuts held opening now exchanges (Ok Silent) = (x : Exchange F) × Serving F answers bytes cuts held opening now (exchanges ++ x ∷ [])
+ServesOn F answers bytes cuts held opening now exchanges (Ok MoreRead) = Serving F answers bytes cuts held opening now exchanges
+ServesOn F answers bytes cuts held opening now exchanges (Ok Hungry) = Serving F answers bytes cuts held opening now exchanges
+ServesOn F answers bytes cuts held opening now exchanges (Ok Ended) = Unit {0}
+ServesOn F answers bytes cuts held opening now exchanges (Err error) = Unit {0}
 
 -- what a step did, after these exchanges; the bytes, the cuts and what was written are those after it
-abbrev pub StepsAs : {S : Type 0} → (S → ℕ → Asked → Outcome → S → Type 0) → List ℕ → List ℕ → List ℕ → S → S → List ℕ → List Exchange → Result Step ProcessError → Type 0
-StepsAs answers bytes cuts held opening now written exchanges (Ok Answered) =
-    (x : Exchange) × Stands answers bytes cuts held opening now written (exchanges ++ x ∷ []) × (x.outcome ≢ silence)
-StepsAs answers bytes cuts held opening now written exchanges (Ok Silent) =
-    (x : Exchange) × Stands answers bytes cuts held opening now written (exchanges ++ x ∷ []) × (x.outcome ≡ silence)
-StepsAs answers bytes cuts held opening now written exchanges (Ok MoreRead) = Stands answers bytes cuts held opening now written exchanges
-StepsAs answers bytes cuts held opening now written exchanges (Ok Hungry) =
-    Stands answers bytes cuts held opening now written exchanges × Served answers bytes cuts opening now written None
-StepsAs answers bytes cuts held opening now written exchanges (Ok Ended) =
-    (held ≡ []) × EndsAs answers bytes cuts opening now written (Ok tt)
-StepsAs answers bytes cuts held opening now written exchanges (Err error) = (error ≢ TurnLimit) × EndsAs answers bytes cuts opening now written (Err error)
+abbrev pub StepsAs : (F : Framing) → {S : Type 0} → (S → ℕ → Asked → Outcome → S → Type 0) → List ℕ → List ℕ → List ℕ → S → S → List ℕ → List (Exchange F) → Result Step ProcessError → Type 0
+StepsAs F answers bytes cuts held opening now written exchanges (Ok Answered) =
+    (x : Exchange F) × Stands F answers bytes cuts held opening now written (exchanges ++ x ∷ []) × (x.outcome ≢ silence)
+StepsAs F answers bytes cuts held opening now written exchanges (Ok Silent) =
+    (x : Exchange F) × Stands F answers bytes cuts held opening now written (exchanges ++ x ∷ []) × (x.outcome ≡ silence)
+StepsAs F answers bytes cuts held opening now written exchanges (Ok MoreRead) = Stands F answers bytes cuts held opening now written exchanges
+StepsAs F answers bytes cuts held opening now written exchanges (Ok Hungry) =
+    Stands F answers bytes cuts held opening now written exchanges × Served F answers bytes cuts opening now written (remaining held)
+StepsAs F answers bytes cuts held opening now written exchanges (Ok Ended) =
+    (held ≡ []) × EndsAs F answers bytes cuts opening now written (Ok tt)
+StepsAs F answers bytes cuts held opening now written exchanges (Err error) = (error ≢ TurnLimit) × EndsAs F answers bytes cuts opening now written (Err error)

@@ -11,13 +11,13 @@ pub enum ProcessError {
     /// The sink failed; a front of a reply may have been written.
     #[error("write fault")]
     WriteFault,
-    /// Twenty offsets in a row, which came with one read, have no frame.
+    /// Over RTU: twenty offsets in a row, which came with one read, have no frame.
     #[error("too many retries")]
     TooManyRetries,
-    /// The input ended within a frame.
+    /// The input ended within a frame or unit.
     #[error("bytes remaining")]
     BytesRemaining,
-    /// The PDU of a frame is no request, for this reason.
+    /// The PDU of a frame or unit is no request, for this reason.
     #[error("invalid request: {0}")]
     InvalidRequest(Reason),
     /// The service answered a response whose PDU would have so many bytes, more than 253.
@@ -26,6 +26,12 @@ pub enum ProcessError {
     /// As many reads gave bytes as were allowed.
     #[error("turn limit")]
     TurnLimit,
+    /// Over TCP: the header of a unit tells a length of 0.
+    #[error("invalid length")]
+    InvalidLength,
+    /// Over TCP: a whole unit is of another protocol than Modbus, which has this number.
+    #[error("invalid protocol {0}")]
+    InvalidProtocol(u16),
     /// Memory was refused.
     #[error("no memory")]
     NoMemory,
@@ -34,13 +40,13 @@ pub enum ProcessError {
 /// What one step of a connection did.
 #[derive(Clone, Copy, Debug, PartialEq, Eq)]
 pub enum Step {
-    /// It asked the service about a frame and wrote the reply.
+    /// It asked the service about a request and wrote the reply.
     Answered,
-    /// It asked the service about a frame, and there is no reply.
+    /// It asked the service about a request, and there is no reply.
     Silent,
-    /// There was no frame, and a read gave bytes.
+    /// There was no whole frame or unit, and a read gave bytes.
     MoreRead,
-    /// There is no frame, and it may not read.
+    /// There is no whole frame or unit, and it may not read.
     Hungry,
     /// The input ended with nothing held.
     Ended,

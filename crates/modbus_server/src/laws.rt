@@ -1,25 +1,51 @@
 //! Laws on the definitions alone.
 
-ghost use Rattle.std.specs.Prelude.{◌≡◌, ℕ, List, Option, Some, None};
+ghost use Rattle.std.specs.Prelude.{◌≡◌, ℕ, List};
 ghost use Rattle.modbus_rtu.specs.Leftmost.{IsLeftmost};
+ghost use Rattle.modbus_tcp.specs.Stream.{Rest, IsSplit};
+ghost use Rattle.modbus_frame.specs.declared.tcp.Header.{Header};
 ghost use Rattle.modbus_server.specs.Service.{Exchange, Run};
-ghost use Rattle.modbus_server.specs.Serving.{Served, Failing};
-ghost use Rattle.modbus_server.specs.FirstFault.{IsFirstFault};
+ghost use Rattle.modbus_server.specs.Serving.{Served, Halt, remaining};
+ghost use Rattle.modbus_server.specs.FirstFault.{HasFault, IsFirstFault};
+ghost use Rattle.modbus_server.specs.FirstUnit.{HasUnitFault, IsFirstUnitFault};
+ghost use Rattle.modbus_server.specs.Rtu.{rtu};
+ghost use Rattle.modbus_server.specs.Tcp.{tcp};
 
 use crate::service::Service;
 
-/// What a call names is what fails first in what it read, by offset, in one and the same run.
+/// What a call over RTU frames names is what fails first in what it read, by offset, in one and the same run; it names nothing where
+/// nothing fails.
 pub fn failing_place<V: Service>()
-    ensures { (bytes cuts written : List ℕ) (opening now : V) (failing : Option Failing)
-        → (s : Served V.answers bytes cuts opening now written failing)
-        → (all : List Exchange) × Run V.answers opening all now × IsFirstFault bytes cuts s.frames all failing }
+    ensures { (bytes cuts written : List ℕ) (opening now : V) (halt : Halt)
+        → Served rtu V.answers bytes cuts opening now written halt
+        → (all : List (Exchange rtu)) × Run rtu V.answers opening all now × ((frames : List ℕ) (stop : ℕ) → IsLeftmost bytes frames stop → IsFirstFault bytes cuts frames all halt) }
 {}
 
 /// The failing place is one: two kinds of fault are not both the first, and none is first where there is none. So a call whose
 /// bytes have a failing place names it, unless a fault of the source or sink or want of memory came before.
 pub fn one_failing_place()
-    ensures one { (bytes cuts frames : List ℕ) (all : List Exchange) (stop : ℕ) (fault other : Failing) → IsLeftmost bytes frames stop
-        → IsFirstFault bytes cuts frames all (Some fault) → IsFirstFault bytes cuts frames all (Some other) → fault ≡ other }
-    ensures none { (bytes cuts frames : List ℕ) (all : List Exchange) (fault : Failing)
-        → IsFirstFault bytes cuts frames all None → IsFirstFault bytes cuts frames all (Some fault) → ⊥ }
+    ensures one { (bytes cuts frames : List ℕ) (all : List (Exchange rtu)) (stop place at : ℕ) (fault other : Halt) → IsLeftmost bytes frames stop
+        → HasFault bytes cuts frames all place fault → HasFault bytes cuts frames all at other
+        → IsFirstFault bytes cuts frames all fault → IsFirstFault bytes cuts frames all other → fault ≡ other }
+    ensures none { (bytes cuts frames left : List ℕ) (all : List (Exchange rtu)) (place : ℕ) (fault : Halt)
+        → IsFirstFault bytes cuts frames all (remaining left) → HasFault bytes cuts frames all place fault → ⊥ }
+{}
+
+/// What a call over TCP names is what fails first in what it read, unit by unit and then the rest, in one and the same run; it names
+/// nothing where nothing fails.
+pub fn failing_unit<V: Service>()
+    ensures { (bytes cuts written : List ℕ) (opening now : V) (halt : Halt)
+        → Served tcp V.answers bytes cuts opening now written halt
+        → (all : List (Exchange tcp)) × Run tcp V.answers opening all now
+        × ((units : List (Header × List ℕ)) (rest : List ℕ) (kind : Rest) → IsSplit bytes units rest kind → IsFirstUnitFault units kind all halt) }
+{}
+
+/// What fails first in a stream of units is one, so a call whose bytes have it names it, unless a fault of the source or sink or want
+/// of memory came before.
+pub fn one_failing_unit()
+    ensures one { (units : List (Header × List ℕ)) (kind : Rest) (all : List (Exchange tcp)) (place at : ℕ) (fault other : Halt)
+        → HasUnitFault units kind all place fault → HasUnitFault units kind all at other
+        → IsFirstUnitFault units kind all fault → IsFirstUnitFault units kind all other → fault ≡ other }
+    ensures none { (units : List (Header × List ℕ)) (kind : Rest) (left : List ℕ) (all : List (Exchange tcp)) (place : ℕ) (fault : Halt)
+        → IsFirstUnitFault units kind all (remaining left) → HasUnitFault units kind all place fault → ⊥ }
 {}

@@ -1,15 +1,20 @@
 //! Modbus servers: a service answers the requests of one connection, whatever pieces its bytes come in.
 //!
-//! `Service` is what answers requests. `rtu::Connection` takes one step after another: it looks for the next frame in the bytes that
-//! it holds, asks the service and writes the reply, or reads once. `rtu_over_tcp::process` runs it until the input ends.
+//! `Service` is what answers requests. `rtu::Connection` and `tcp::Connection` take one step after another: they look for the next
+//! request in the bytes that they hold, ask the service and write the reply, or read once. `rtu_over_tcp::process` and `tcp::process`
+//! run them until the input ends.
 #![tactic(auto)]
 
 mod answer;
+mod connection;
 mod error;
+mod intake;
 pub mod laws;
+mod process;
 pub mod rtu;
 pub mod rtu_over_tcp;
 mod service;
+pub mod tcp;
 #[cfg(test)]
 mod tests;
 

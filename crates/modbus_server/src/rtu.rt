@@ -1,252 +1,83 @@
-//! The RTU side of a server: one connection, step by step.
-ghost use Rattle.std.specs.Prelude.{◌≡◌, ◌≢◌, ℕ, ◌<◌, ◌≤◌, ◌++◌, ◌↔◌, List, [], false, length, IsTrue, Ok, Err, IfOk};
-ghost use Rattle.modbus_link.specs.Outside.{Rose, Advances, Extends, bytes_read, bytes_appended, cuts_made, shifted};
+//! The RTU side of a server (MODBUS over Serial Line V1.02, section 2.5.1): a connection takes RTU frames, step by step.
+ghost use Rattle.std.specs.Prelude.{◌≡◌, ◌<◌, ◌-◌, length};
+ghost use Rattle.modbus_rtu.specs.declared.verdict.Verdict.TheVariants.{Open};
+ghost use Rattle.modbus_rtu.specs.Frame.{verdict};
 ghost use Rattle.modbus_rtu.specs.Inbox.{parts};
-ghost use Rattle.modbus_server.specs.Service.{Exchange, output, Runs};
-ghost use Rattle.modbus_server.specs.Answer.{CausesLong};
-ghost use Rattle.modbus_server.specs.Serving.{Serving, StepsAs};
-ghost use Rattle.modbus_server.specs.Sending.{SendsAs, ReadsAs, ReadsOnce, EndsInput, HoldsAfter, IsUnasked, ReadsIfMay, StaysOpen};
-ghost use Rattle.modbus_server.specs.Rooms.{HaveRoom, totals};
+ghost use Rattle.modbus_server.specs.Rtu.{rtu};
 
-use crate::answer::answer;
-use crate::error::{ProcessError, Step};
-use crate::service::Service;
-use modbus_link::{Both, Failed, Sink, Source, write_all};
-use modbus_rtu::{Inbox, RtuError, RtuFrame};
+use crate::intake::{FillError, FramedRequest, Intake, TakeError};
+use bytes::BytesMut;
+use modbus_frame::rtu::{Header, ResponseAdu};
+use modbus_frame::{EncodeError, ExceptionResponse, Response, ResponsePdu, SlaveId};
+use modbus_link::{Failed, Source};
+use modbus_rtu::{Inbox, RtuError, RtuFrame, ServerCodec};
 use std::alloc::{AllocError, Global};
-use std::marker::Model;
 
-/// The bytes of one connection that were read and not used yet.
-///
-/// It is open until a step answers an error or `Ended`.
-#[derive(Drop)]
-pub struct Connection {
-    inbox: Inbox,
-    is_open: bool,
-}
+/// A connection of RTU frames: the bytes that were read and not used yet, taken step by step as frames.
+pub type Connection = crate::connection::Connection<Inbox>;
 
-/// A contract sees the bytes that are held, and whether the connection is open.
-impl Model for Connection {
-    ghost use Rattle.modbus_server.specs.State.{State};
+impl FramedRequest for RtuFrame {
+    ghost framing = { rtu };
 
-    ghost Value = { State };
+    ghost parts = { parts };
 
-    ghost view = { λ connection. record { held = connection.inbox; is_open = connection.is_open } };
-}
-
-/// Answers a frame, and writes the reply as one piece.
-fn send_answer<L: Sink, V: Service>(
-    alloc: Global,
-    link: &mut L,
-    service: &mut V,
-    message: &RtuFrame,
-) -> Result<Step, ProcessError>
-    ensures source { L.input link.new ≡ L.input link.old }
-    ensures sink { Extends (L.output link.old) (L.output link.new) }
-    ensures sends { IsTrue (L.output link.old).told → SendsAs V.answers (parts message.now) service.old (bytes_appended (L.output link.old) (L.output link.new)) service.new result }
-    ensures runs { Runs V.answers service.old service.new }
-    ensures read_fault { result ≢ Err ProcessError.ReadFault }
-    ensures write_fault { result ≡ Err ProcessError.WriteFault → Rose (L.output link.old).faults (L.output link.new).faults }
-    ensures too_long { CausesLong V.answers result }
-    ensures step { result ≢ Ok Step.MoreRead × result ≢ Ok Step.Hungry × result ≢ Ok Step.Ended × result ≢ Err ProcessError.BytesRemaining × result ≢ Err ProcessError.TurnLimit }
-{
-    match answer(alloc, service, message) {
-        Err(error) => Err(error),
-        Ok(None) => Ok(Step::Silent),
-        Ok(Some(bytes)) => match write_all(link, bytes.as_slice()) {
-            Ok(()) => Ok(Step::Answered),
-            Err(Failed) => Err(ProcessError::WriteFault),
-        },
-    }
-}
-
-/// Reads once.
-fn read_more<L: Source>(inbox: &mut Inbox, link: &mut L) -> Result<Step, ProcessError>
-    requires { length inbox.old < 268 }
-    ensures source { Advances (L.input link.old) (L.input link.new) }
-    ensures sink { L.output link.new ≡ L.output link.old }
-    ensures reads { IsTrue (L.input link.old).told → ReadsAs inbox.old (bytes_read (L.input link.old) (L.input link.new)) (cuts_made (L.input link.old) (L.input link.new)) (L.input link.new).left inbox.new result }
-    ensures held { result ≡ Ok Step.MoreRead → length inbox.new ≤ 268 }
-    ensures read_fault { result ≡ Err ProcessError.ReadFault → Rose (L.input link.old).faults (L.input link.new).faults }
-    ensures step { result ≢ Ok Step.Answered × result ≢ Ok Step.Silent × result ≢ Ok Step.Hungry × result ≢ Err ProcessError.WriteFault × result ≢ Err ProcessError.TurnLimit }
-    ensures not_long { (size : ℕ) → result ≢ Err (ProcessError.ResponseTooLong size) }
-{
-    let was_empty = inbox.is_empty();
-    match inbox.fill(link) {
-        Err(Failed) => Err(ProcessError::ReadFault),
-        Ok(0) => {
-            if was_empty {
-                Ok(Step::Ended)
-            } else {
-                Err(ProcessError::BytesRemaining)
-            }
-        }
-        Ok(_) => Ok(Step::MoreRead),
-    }
-}
-
-/// Answers the next frame, or reads once where there is none.
-fn step_inbox<L: Source + Sink, V: Service>(
-    inbox: &mut Inbox,
-    alloc: Global,
-    link: &mut L,
-    service: &mut V,
-    may_read: bool,
-) -> Result<Step, ProcessError>
-    ensures source { Advances (L.input link.old) (L.input link.new) }
-    ensures sink { Extends (L.output link.old) (L.output link.new) }
-
-    ensures stands { IsTrue (L.input link.old).told → IsTrue (L.output link.old).told
-        → (bytes cuts written : List ℕ) (opening : V) (exchanges : List Exchange)
-        → Serving V.answers bytes cuts inbox.old opening service.old exchanges → written ≡ output exchanges
-        → StepsAs V.answers (bytes ++ bytes_read (L.input link.old) (L.input link.new))
-        (cuts ++ totals (shifted (length bytes) (cuts_made (L.input link.old) (L.input link.new))))
-        inbox.new opening service.new
-        (written ++ bytes_appended (L.output link.old) (L.output link.new)) exchanges result }
-    ensures rooms { IsTrue (L.input link.old).told
-        → (bytes cuts : List ℕ) (opening : V) (exchanges : List Exchange)
-        → Serving V.answers bytes cuts inbox.old opening service.old exchanges
-        → HaveRoom bytes (cuts_made (L.input link.old) (L.input link.new)) }
-
-    ensures reads { IsTrue (L.input link.old).told → ReadsOnce result (length (cuts_made (L.input link.old) (L.input link.new))) }
-    ensures ended { IsTrue (L.input link.old).told → EndsInput result (L.input link.new).left }
-    ensures may { ReadsIfMay result may_read }
-    ensures idle { may_read ≡ false → L.input link.new ≡ L.input link.old }
-    ensures runs { Runs V.answers service.old service.new }
-    ensures unasked { IsUnasked service.old result service.new }
-    ensures held { HoldsAfter (length inbox.old) result (length inbox.new) }
-    ensures read_fault { result ≡ Err ProcessError.ReadFault → Rose (L.input link.old).faults (L.input link.new).faults }
-    ensures too_long { CausesLong V.answers result }
-    ensures write_fault { result ≡ Err ProcessError.WriteFault → Rose (L.output link.old).faults (L.output link.new).faults }
-{
-    match inbox.next() {
-        Err(RtuError::TooManyRetries) => Err(ProcessError::TooManyRetries),
-        Err(RtuError::Invalid(_)) => unreachable!(),
-        Err(RtuError::NoMemory) => unreachable!(),
-        Ok(Some(message)) => send_answer(alloc, link, service, &message),
-        Ok(None) => {
-            if may_read {
-                read_more(inbox, link)
-            } else {
-                Ok(Step::Hungry)
-            }
-        }
-    }
-}
-
-impl Connection {
-    /// A connection that holds no byte. It takes the room for all bytes that it will ever hold.
-    ///
-    /// # Errors
-    /// `AllocError` where memory is refused.
-    pub fn open(alloc: Global) -> Result<Connection, AllocError>
-        ensures held { IfOk result (λ connection. connection.held ≡ []) }
-        ensures open { IfOk result (λ connection. IsTrue connection.is_open) }
-    {
-        Ok(Connection {
-            inbox: Inbox::open(alloc)?,
-            is_open: true,
-        })
+    fn slave(&self) -> SlaveId {
+        self.slave
     }
 
-    /// Whether a step may be taken: no step answered an error or `Ended` yet.
-    pub fn is_open(&self) -> bool
-        ensures { result ≡ self.now.is_open }
-    {
-        self.is_open
+    fn pdu(&self) -> &[u8] {
+        self.pdu.as_slice()
     }
 
-    /// Takes one step with one object as source and sink: looks for the next frame in the held bytes; where there is one, asks the
-    /// service once and writes the reply; where there is none, reads once if `may_read`.
-    ///
-    /// # Errors
-    /// The fault that stands at this step, after the replies to all frames before it.
-    pub fn step_link<L: Source + Sink, V: Service>(
-        &mut self,
+    fn frame_answer(
+        &self,
         alloc: Global,
-        link: &mut L,
-        service: &mut V,
-        may_read: bool,
-    ) -> Result<Step, ProcessError>
-        requires { IsTrue self.old.is_open }
-        ensures source { Advances (L.input link.old) (L.input link.new) }
-        ensures sink { Extends (L.output link.old) (L.output link.new) }
-
-        // For all bytes, cuts, opening state and written bytes for which the connection stands, it stands after an Ok for these with
-        // what was read and appended in this step; after an error this says what was answered and written.
-        ensures stands { IsTrue (L.input link.old).told → IsTrue (L.output link.old).told
-            → (bytes cuts written : List ℕ) (opening : V) (exchanges : List Exchange)
-            → Serving V.answers bytes cuts self.old.held opening service.old exchanges → written ≡ output exchanges
-            → StepsAs V.answers (bytes ++ bytes_read (L.input link.old) (L.input link.new))
-            (cuts ++ totals (shifted (length bytes) (cuts_made (L.input link.old) (L.input link.new))))
-            self.new.held opening service.new
-            (written ++ bytes_appended (L.output link.old) (L.output link.new)) exchanges result }
-        ensures rooms { IsTrue (L.input link.old).told
-            → (bytes cuts : List ℕ) (opening : V) (exchanges : List Exchange)
-            → Serving V.answers bytes cuts self.old.held opening service.old exchanges
-            → HaveRoom bytes (cuts_made (L.input link.old) (L.input link.new)) }
-
-        ensures reads { IsTrue (L.input link.old).told → ReadsOnce result (length (cuts_made (L.input link.old) (L.input link.new))) }
-        ensures ended { IsTrue (L.input link.old).told → EndsInput result (L.input link.new).left }
-        ensures may { ReadsIfMay result may_read }
-        ensures idle { may_read ≡ false → L.input link.new ≡ L.input link.old }
-        ensures runs { Runs V.answers service.old service.new }
-        ensures unasked { IsUnasked service.old result service.new }
-        ensures held { HoldsAfter (length self.old.held) result (length self.new.held) }
-        ensures open { StaysOpen result self.new.is_open }
-        ensures read_fault { result ≡ Err ProcessError.ReadFault → Rose (L.input link.old).faults (L.input link.new).faults }
-        ensures too_long { CausesLong V.answers result }
-        ensures write_fault { result ≡ Err ProcessError.WriteFault → Rose (L.output link.old).faults (L.output link.new).faults }
-    {
-        let result = step_inbox(&mut self.inbox, alloc, link, service, may_read);
-        self.is_open = match result {
-            Ok(Step::Ended) => false,
-            Ok(_) => true,
-            Err(_) => false,
+        answer: Result<Response, ExceptionResponse>,
+    ) -> Result<BytesMut, EncodeError> {
+        let mut bytes = BytesMut::new(alloc);
+        let adu = ResponseAdu {
+            hdr: Header {
+                slave_id: self.slave,
+            },
+            pdu: ResponsePdu(answer),
         };
-        result
+        ServerCodec::new().encode(alloc, adu, &mut bytes)?;
+        Ok(bytes)
+    }
+}
+
+impl Intake for Inbox {
+    type Request = RtuFrame;
+
+    ghost held = { λ inbox. inbox };
+
+    ghost is_waiting = { λ inbox. (length inbox < 268) × (verdict inbox 0 ≡ Open) };
+
+    ghost room = { λ held. 268 - length held };
+
+    ghost most = { 268 };
+
+    fn open(alloc: Global) -> Result<Inbox, AllocError> {
+        Inbox::open(alloc)
     }
 
-    /// Takes one step with a source and a sink; its contract is that of `step_link`.
-    ///
-    /// # Errors
-    /// Those of `step_link`.
-    pub fn step<S: Source, K: Sink, V: Service>(
-        &mut self,
-        alloc: Global,
-        source: &mut S,
-        sink: &mut K,
-        service: &mut V,
-        may_read: bool,
-    ) -> Result<Step, ProcessError>
-        requires { IsTrue self.old.is_open }
-        ensures source { Advances (S.input source.old) (S.input source.new) }
-        ensures sink { Extends (K.output sink.old) (K.output sink.new) }
+    fn is_empty(&self) -> bool {
+        self.is_empty()
+    }
 
-        ensures stands { IsTrue (S.input source.old).told → IsTrue (K.output sink.old).told
-            → (bytes cuts written : List ℕ) (opening : V) (exchanges : List Exchange)
-            → Serving V.answers bytes cuts self.old.held opening service.old exchanges → written ≡ output exchanges
-            → StepsAs V.answers (bytes ++ bytes_read (S.input source.old) (S.input source.new))
-            (cuts ++ totals (shifted (length bytes) (cuts_made (S.input source.old) (S.input source.new))))
-            self.new.held opening service.new
-            (written ++ bytes_appended (K.output sink.old) (K.output sink.new)) exchanges result }
-        ensures rooms { IsTrue (S.input source.old).told
-            → (bytes cuts : List ℕ) (opening : V) (exchanges : List Exchange)
-            → Serving V.answers bytes cuts self.old.held opening service.old exchanges
-            → HaveRoom bytes (cuts_made (S.input source.old) (S.input source.new)) }
+    fn take(&mut self, _alloc: Global) -> Result<Option<RtuFrame>, TakeError> {
+        match self.next() {
+            Ok(frame) => Ok(frame),
+            Err(RtuError::TooManyRetries) => Err(TakeError::TooManyRetries),
+            Err(RtuError::Invalid(_)) => unreachable!(),
+            Err(RtuError::NoMemory) => unreachable!(),
+        }
+    }
 
-        ensures reads { IsTrue (S.input source.old).told → ReadsOnce result (length (cuts_made (S.input source.old) (S.input source.new))) }
-        ensures ended { IsTrue (S.input source.old).told → EndsInput result (S.input source.new).left }
-        ensures may { ReadsIfMay result may_read }
-        ensures idle { may_read ≡ false → S.input source.new ≡ S.input source.old }
-        ensures runs { Runs V.answers service.old service.new }
-        ensures unasked { IsUnasked service.old result service.new }
-        ensures held { HoldsAfter (length self.old.held) result (length self.new.held) }
-        ensures open { StaysOpen result self.new.is_open }
-        ensures read_fault { result ≡ Err ProcessError.ReadFault → Rose (S.input source.old).faults (S.input source.new).faults }
-        ensures too_long { CausesLong V.answers result }
-        ensures write_fault { result ≡ Err ProcessError.WriteFault → Rose (K.output sink.old).faults (K.output sink.new).faults }
-    {
-        self.step_link(alloc, &mut Both::new(source, sink), service, may_read)
+    fn fill<S: Source>(&mut self, _alloc: Global, source: &mut S) -> Result<usize, FillError> {
+        match self.fill(source) {
+            Ok(count) => Ok(count),
+            Err(Failed) => Err(FillError::Failed),
+        }
     }
 }

@@ -5,60 +5,18 @@ ghost use Rattle.modbus_server.specs.Service.{Runs};
 ghost use Rattle.modbus_server.specs.Answer.{CausesLong};
 ghost use Rattle.modbus_server.specs.Serving.{EndsAs};
 ghost use Rattle.modbus_server.specs.Complete.{IsCleanLine, RepliesFit};
-ghost use Rattle.modbus_server.specs.Sending.{EndsRead, SpendsTurns};
+ghost use Rattle.modbus_server.specs.Sending.{EndsRead, SpendsTurns, BreaksAs};
 ghost use Rattle.modbus_server.specs.Rooms.{HaveRooms, totals};
+ghost use Rattle.modbus_server.specs.Rtu.{rtu};
 
-use crate::error::{ProcessError, Step};
-use crate::rtu::Connection;
+use crate::error::ProcessError;
 use crate::service::Service;
 use modbus_link::{Both, Sink, Source};
+use modbus_rtu::Inbox;
 use std::alloc::Global;
 
-/// Takes one step after another of a connection that was just opened.
-fn serve_link<L: Source + Sink, V: Service>(
-    connection: &mut Connection,
-    alloc: Global,
-    link: &mut L,
-    service: &mut V,
-    turns: u64,
-) -> Result<(), ProcessError>
-    requires empty { connection.old.held ≡ [] }
-    requires ready { IsTrue connection.old.is_open }
-    ensures source { Advances (L.input link.old) (L.input link.new) }
-    ensures sink { Extends (L.output link.old) (L.output link.new) }
-
-    // One run of the service over the leftmost frames of what was read, and what was written of its replies.
-    ensures served { IsTrue (L.input link.old).told → IsTrue (L.output link.old).told
-        → EndsAs V.answers (bytes_read (L.input link.old) (L.input link.new))
-        (totals (cuts_made (L.input link.old) (L.input link.new)))
-        service.old service.new (bytes_appended (L.output link.old) (L.output link.new)) result }
-    ensures ended { IsTrue (L.input link.old).told → EndsRead result (L.input link.new).left }
-
-    ensures runs { Runs V.answers service.old service.new }
-
-    ensures read_fault { result ≡ Err ProcessError.ReadFault → Rose (L.input link.old).faults (L.input link.new).faults }
-    ensures too_long { CausesLong V.answers result }
-    ensures write_fault { result ≡ Err ProcessError.WriteFault → Rose (L.output link.old).faults (L.output link.new).faults }
-    ensures turns { IsTrue (L.input link.old).told → SpendsTurns result (length (cuts_made (L.input link.old) (L.input link.new))) turns }
-
-    ensures rooms { IsTrue (L.input link.old).told → IsTrue (L.output link.old).told
-        → HaveRooms (bytes_read (L.input link.old) (L.input link.new)) 0 (cuts_made (L.input link.old) (L.input link.new)) }
-{
-    let mut left = turns;
-    'steps: loop {
-        match connection.step_link(alloc, link, service, left > 0) {
-            Err(error) => return Err(error),
-            Ok(Step::Hungry) => return Err(ProcessError::TurnLimit),
-            Ok(Step::Ended) => return Ok(()),
-            Ok(Step::MoreRead) => left -= 1,
-            Ok(Step::Answered) => {}
-            Ok(Step::Silent) => {}
-        }
-    }
-}
-
 /// Serves one object as source and sink until its input ends, with at most `turns` reads that give bytes. Its contract is that of
-/// `process`, but for the promise that a clean line is served to its end.
+/// `process`.
 ///
 /// # Errors
 /// Those of `process`.
@@ -73,25 +31,31 @@ pub fn process_link<L: Source + Sink, V: Service>(
 
     // One run of the service over the leftmost frames of what was read, and what was written of its replies.
     ensures served { IsTrue (L.input link.old).told → IsTrue (L.output link.old).told
-        → EndsAs V.answers (bytes_read (L.input link.old) (L.input link.new))
+        → EndsAs rtu V.answers (bytes_read (L.input link.old) (L.input link.new))
         (totals (cuts_made (L.input link.old) (L.input link.new)))
         service.old service.new (bytes_appended (L.output link.old) (L.output link.new)) result }
     ensures ended { IsTrue (L.input link.old).told → EndsRead result (L.input link.new).left }
 
-    ensures runs { Runs V.answers service.old service.new }
+    ensures runs { Runs rtu V.answers service.old service.new }
 
     ensures read_fault { result ≡ Err ProcessError.ReadFault → Rose (L.input link.old).faults (L.input link.new).faults }
-    ensures too_long { CausesLong V.answers result }
+    ensures breaks { BreaksAs rtu result }
+    ensures too_long { CausesLong rtu V.answers result }
     ensures write_fault { result ≡ Err ProcessError.WriteFault → Rose (L.output link.old).faults (L.output link.new).faults }
     ensures turns { IsTrue (L.input link.old).told → SpendsTurns result (length (cuts_made (L.input link.old) (L.input link.new))) turns }
 
-    ensures rooms { IsTrue (L.input link.old).told → IsTrue (L.output link.old).told
-        → HaveRooms (bytes_read (L.input link.old) (L.input link.new)) 0 (cuts_made (L.input link.old) (L.input link.new)) }
+    ensures rooms { IsTrue (L.input link.old).told
+        → HaveRooms rtu (bytes_read (L.input link.old) (L.input link.new)) 0 (cuts_made (L.input link.old) (L.input link.new)) }
+
+    // A clean line is served to its end.
+    ensures complete { IsTrue (L.input link.old).told → IsTrue (L.output link.old).told
+        → (clean : IsCleanLine rtu (L.input link.old).left) → RepliesFit rtu V.answers service.old clean.messages
+        → length (L.input link.old).left < turns
+        → (Rose (L.input link.old).faults (L.input link.new).faults → ⊥)
+        → (Rose (L.output link.old).faults (L.output link.new).faults → ⊥)
+        → (result ≡ Ok tt) ⊎ (result ≡ Err ProcessError.NoMemory) }
 {
-    match Connection::open(alloc) {
-        Err(_) => Err(ProcessError::NoMemory),
-        Ok(mut connection) => serve_link(&mut connection, alloc, link, service, turns),
-    }
+    crate::process::process::<Inbox, L, V>(alloc, link, service, turns)
 }
 
 /// Serves a source and a sink until the input ends, with at most `turns` reads that give bytes.
@@ -121,24 +85,25 @@ pub fn process<S: Source, K: Sink, V: Service>(
     ensures sink { Extends (K.output sink.old) (K.output sink.new) }
 
     ensures served { IsTrue (S.input source.old).told → IsTrue (K.output sink.old).told
-        → EndsAs V.answers (bytes_read (S.input source.old) (S.input source.new))
+        → EndsAs rtu V.answers (bytes_read (S.input source.old) (S.input source.new))
         (totals (cuts_made (S.input source.old) (S.input source.new)))
         service.old service.new (bytes_appended (K.output sink.old) (K.output sink.new)) result }
     ensures ended { IsTrue (S.input source.old).told → EndsRead result (S.input source.new).left }
 
-    ensures runs { Runs V.answers service.old service.new }
+    ensures runs { Runs rtu V.answers service.old service.new }
 
     ensures read_fault { result ≡ Err ProcessError.ReadFault → Rose (S.input source.old).faults (S.input source.new).faults }
-    ensures too_long { CausesLong V.answers result }
+    ensures breaks { BreaksAs rtu result }
+    ensures too_long { CausesLong rtu V.answers result }
     ensures write_fault { result ≡ Err ProcessError.WriteFault → Rose (K.output sink.old).faults (K.output sink.new).faults }
     ensures turns { IsTrue (S.input source.old).told → SpendsTurns result (length (cuts_made (S.input source.old) (S.input source.new))) turns }
 
-    ensures rooms { IsTrue (S.input source.old).told → IsTrue (K.output sink.old).told
-        → HaveRooms (bytes_read (S.input source.old) (S.input source.new)) 0 (cuts_made (S.input source.old) (S.input source.new)) }
+    ensures rooms { IsTrue (S.input source.old).told
+        → HaveRooms rtu (bytes_read (S.input source.old) (S.input source.new)) 0 (cuts_made (S.input source.old) (S.input source.new)) }
 
     // A clean line is served to its end.
     ensures complete { IsTrue (S.input source.old).told → IsTrue (K.output sink.old).told
-        → IsCleanLine (S.input source.old).left → RepliesFit V.answers service.old (S.input source.old).left
+        → (clean : IsCleanLine rtu (S.input source.old).left) → RepliesFit rtu V.answers service.old clean.messages
         → length (S.input source.old).left < turns
         → (Rose (S.input source.old).faults (S.input source.new).faults → ⊥)
         → (Rose (K.output sink.old).faults (K.output sink.new).faults → ⊥)

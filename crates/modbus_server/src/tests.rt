@@ -3,8 +3,8 @@ ghost use Rattle.std.specs.Prelude.{◌≡◌};
 
 use crate::rtu::Connection;
 use crate::rtu_over_tcp::{process, process_link};
-use crate::{Forward, ProcessError, Service, ServiceError, Step};
-use modbus_frame::{Response, SlaveRequest, Words};
+use crate::{Forward, ProcessError, Service, ServiceError, Step, tcp};
+use modbus_frame::{Reason, Response, SlaveRequest, Words};
 use modbus_link::{Both, MemorySink, MemorySource};
 use std::alloc::Global;
 use std::test::Fail;
@@ -135,6 +135,132 @@ fn a_step_reads_answers_or_ends(rt: HostRuntime) -> Result<(), Fail> {
     let answered = connection.step(alloc, &mut source, &mut sink, &mut service, false);
     assert_eq!(rt; answered, Ok(Step::Answered));
     assert_eq!(rt; sink.bytes(), TWO.as_slice());
+    assert!(rt; connection.is_open());
+    let ended = connection.step(alloc, &mut source, &mut sink, &mut service, true);
+    assert_eq!(rt; ended, Ok(Step::Ended));
+    assert!(rt; !connection.is_open());
+    Ok(())
+}
+
+/// A read of one register from address 0 by unit 255, transaction 0x0102.
+const READ_UNIT: [u8; 12] = [
+    0x01, 0x02, 0x00, 0x00, 0x00, 0x06, 0xFF, 0x03, 0x00, 0x00, 0x00, 0x01,
+];
+
+/// The register 0x0020 in reply.
+const UNIT: [u8; 11] = [
+    0x01, 0x02, 0x00, 0x00, 0x00, 0x05, 0xFF, 0x03, 0x02, 0x00, 0x20,
+];
+
+#[test]
+fn a_service_answers_a_unit(rt: HostRuntime) -> Result<(), Fail> {
+    let alloc = rt.alloc();
+    let mut service = SameWords {
+        words: Vec::from_slice(alloc, &[0x0020])?,
+        calls: 0,
+    };
+    let mut source = MemorySource::new(alloc, &READ_UNIT, &[], &[])?;
+    let mut sink = MemorySink::new(alloc, 64, 64, &[])?;
+    assert_eq!(rt;
+        tcp::process(alloc, &mut source, &mut sink, &mut service, u64::MAX),
+        Ok(())
+    );
+    assert_eq!(rt; sink.bytes(), UNIT.as_slice());
+
+    // In pieces of one byte, and with a sink that takes one byte at a time.
+    let stops = [1, 2, 3, 4, 5, 6, 7, 8, 9, 10, 11];
+    let mut source = MemorySource::new(alloc, &READ_UNIT, &stops, &[])?;
+    let mut sink = MemorySink::new(alloc, 64, 1, &[])?;
+    assert_eq!(rt;
+        tcp::process_link(
+            alloc,
+            &mut Both::new(&mut source, &mut sink),
+            &mut Forward(&mut service),
+            u64::MAX
+        ),
+        Ok(())
+    );
+    assert_eq!(rt; sink.bytes(), UNIT.as_slice());
+    assert_eq!(rt; service.calls, 2);
+    Ok(())
+}
+
+/// Serves the units with a service that answers the register 0x0020, and gives the answer and what was written.
+fn served(
+    alloc: Global,
+    input: &[u8],
+    read_fails: &[u64],
+    write_fails: &[u64],
+    turns: u64,
+) -> Result<(Result<(), ProcessError>, MemorySink), Fail> {
+    let mut service = SameWords {
+        words: Vec::from_slice(alloc, &[0x0020])?,
+        calls: 0,
+    };
+    let mut source = MemorySource::new(alloc, input, &[], read_fails)?;
+    let mut sink = MemorySink::new(alloc, 64, 64, write_fails)?;
+    let result = tcp::process(alloc, &mut source, &mut sink, &mut service, turns);
+    Ok((result, sink))
+}
+
+#[test]
+fn each_end_of_a_stream_of_units_has_its_answer(rt: HostRuntime) -> Result<(), Fail> {
+    let alloc = rt.alloc();
+    let mut both = [0; 24];
+    both[..12].copy_from_slice(&READ_UNIT);
+    both[12..].copy_from_slice(&READ_UNIT);
+
+    let (result, sink) = served(alloc, &both[..23], &[], &[], u64::MAX)?;
+    assert_eq!(rt; result, Err(ProcessError::BytesRemaining));
+    assert_eq!(rt; sink.bytes(), UNIT.as_slice());
+
+    // A length of 0, another protocol, and a PDU that is no request.
+    both[16] = 0;
+    both[17] = 0;
+    let (result, sink) = served(alloc, &both, &[], &[], u64::MAX)?;
+    assert_eq!(rt; result, Err(ProcessError::InvalidLength));
+    assert_eq!(rt; sink.bytes(), UNIT.as_slice());
+    both[17] = 6;
+    both[15] = 7;
+    let (result, sink) = served(alloc, &both, &[], &[], u64::MAX)?;
+    assert_eq!(rt; result, Err(ProcessError::InvalidProtocol(7)));
+    assert_eq!(rt; sink.bytes(), UNIT.as_slice());
+    both[15] = 0;
+    both[17] = 5;
+    let (result, sink) = served(alloc, &both[..23], &[], &[], u64::MAX)?;
+    assert_eq!(rt;
+        result,
+        Err(ProcessError::InvalidRequest(Reason::UnexpectedEnd))
+    );
+    assert_eq!(rt; sink.bytes(), UNIT.as_slice());
+
+    let (result, _) = served(alloc, &READ_UNIT, &[1], &[], u64::MAX)?;
+    assert_eq!(rt; result, Err(ProcessError::ReadFault));
+    let (result, _) = served(alloc, &READ_UNIT, &[], &[0], u64::MAX)?;
+    assert_eq!(rt; result, Err(ProcessError::WriteFault));
+    let (result, sink) = served(alloc, &READ_UNIT, &[], &[], 1)?;
+    assert_eq!(rt; result, Err(ProcessError::TurnLimit));
+    assert_eq!(rt; sink.bytes(), UNIT.as_slice());
+    Ok(())
+}
+
+#[test]
+fn a_connection_of_units_reads_answers_or_ends(rt: HostRuntime) -> Result<(), Fail> {
+    let alloc = rt.alloc();
+    let mut service = SameWords {
+        words: Vec::from_slice(alloc, &[0x0020])?,
+        calls: 0,
+    };
+    let mut source = MemorySource::new(alloc, &READ_UNIT, &[], &[])?;
+    let mut sink = MemorySink::new(alloc, 64, 64, &[])?;
+    let mut connection = tcp::Connection::open(alloc)?;
+    let hungry = connection.step(alloc, &mut source, &mut sink, &mut service, false);
+    assert_eq!(rt; hungry, Ok(Step::Hungry));
+    let more = connection.step(alloc, &mut source, &mut sink, &mut service, true);
+    assert_eq!(rt; more, Ok(Step::MoreRead));
+    let answered = connection.step(alloc, &mut source, &mut sink, &mut service, false);
+    assert_eq!(rt; answered, Ok(Step::Answered));
+    assert_eq!(rt; sink.bytes(), UNIT.as_slice());
     assert!(rt; connection.is_open());
     let ended = connection.step(alloc, &mut source, &mut sink, &mut service, true);
     assert_eq!(rt; ended, Ok(Step::Ended));

@@ -4,7 +4,7 @@ use Rattle.modbus_server.specs.Serving.{EndsAs}
 use Rattle.modbus_server.specs.Rooms.{totals}
 use Rattle.modbus_server.specs.Complete.{IsCleanLine, RepliesFit}
 use Rattle.modbus_server.specs.declared.error.ProcessError.TheVariants.{NoMemory}
-use Rattle.modbus_server.proofs.Completing.{complete}
+use Rattle.modbus_server.specs.Rtu.{rtu}
 use Rattle.modbus_server.proofs.Reading.{moved}
 use Rattle.modbus_server.proofs.rtu_over_tcp.process.Goals as goal
 
@@ -14,7 +14,7 @@ returns-clause-served g c =
     let f : c.process_link.new.link.source.now ≡ c.source-1.given.0 = search rules in
     let h : c.new.result.sink.now ≡ c.args.sink.now = search rules in
     let i : c.process_link.new.link.sink.now ≡ c.sink-1.given.0 = search rules in
-    moved (λ a b k m. IsTrue (g.S.Ends.input a).told → IsTrue (g.K.Ends.output k).told → EndsAs g.V.Service.answers (bytes_read (g.S.Ends.input a) (g.S.Ends.input b))
+    moved (λ a b k m. IsTrue (g.S.Ends.input a).told → IsTrue (g.K.Ends.output k).told → EndsAs rtu g.V.Service.answers (bytes_read (g.S.Ends.input a) (g.S.Ends.input b))
     (totals (cuts_made (g.S.Ends.input a) (g.S.Ends.input b))) c.args.service.now c.process_link.new.service (bytes_appended (g.K.Ends.output k) (g.K.Ends.output m)) c.process_link.result)
     c.new.result.source.now c.args.source.now c.process_link.new.link.source.now c.source-1.given.0
     c.new.result.sink.now c.args.sink.now c.process_link.new.link.sink.now c.sink-1.given.0 e f h i c.process_link.ensures.served
@@ -26,14 +26,10 @@ returns-clause-complete g c =
     let h : c.new.result.sink.now ≡ c.args.sink.now = search rules in
     let i : c.process_link.new.link.sink.now ≡ c.sink-1.given.0 = search rules in
     moved (λ a b k m. IsTrue (g.S.Ends.input a).told → IsTrue (g.K.Ends.output k).told
-    → IsCleanLine (g.S.Ends.input a).left → RepliesFit g.V.Service.answers c.args.service.now (g.S.Ends.input a).left
+    → (clean : IsCleanLine rtu (g.S.Ends.input a).left) → RepliesFit rtu g.V.Service.answers c.args.service.now clean.messages
     → length (g.S.Ends.input a).left < c.args.turns
     → (Rose (g.S.Ends.input a).faults (g.S.Ends.input b).faults → ⊥)
     → (Rose (g.K.Ends.output k).faults (g.K.Ends.output m).faults → ⊥)
     → (c.process_link.result ≡ Ok tt) ⊎ (c.process_link.result ≡ Err NoMemory))
     c.new.result.source.now c.args.source.now c.process_link.new.link.source.now c.source-1.given.0
-    c.new.result.sink.now c.args.sink.now c.process_link.new.link.sink.now c.sink-1.given.0 e f h i
-    (λ told told' clean fit few no_read no_write.
-    complete g.V.Service.answers _ _ _ _ _ _ c.args.turns c.process_link.result (c.process_link.ensures.source.content told) (c.process_link.ensures.served told told')
-    (c.process_link.ensures.ended told) (c.process_link.ensures.turns told) clean fit few
-    (λ bad. no_read (c.process_link.ensures.read_fault bad)) (λ bad. no_write (c.process_link.ensures.write_fault bad)))
+    c.new.result.sink.now c.args.sink.now c.process_link.new.link.sink.now c.sink-1.given.0 e f h i c.process_link.ensures.complete

@@ -1,0 +1,72 @@
+-- The exchanges of a run, beside the messages that were asked in them.
+use Rattle.std.proofs.Common.{◌≡◌, ◌⊎◌, inl, inr, ℕ, ◌<◌, List, [], ◌∷◌, ◌++◌, map, length, refl, sym, ap, ◌∙◌, subst, arith, Ok, Err, length-append}
+use Rattle.std.specs.Prelude.{All, Contains}
+use Rattle.std.proofs.lemmas.List.Elements.{All-contains, Contains-append_right}
+use Rattle.modbus_frame.specs.declared.fault.Reason.{Reason}
+use Rattle.modbus_pdu.specs.RequestOf.{request_of}
+use Rattle.modbus_server.specs.Framing.{Framing, Message}
+use Rattle.modbus_server.specs.Service.{Exchange, Question, Fits, told_size, asked_of, asks}
+
+-- none of the exchanges that fit is too long
+pub all_fit : (F : Framing) (xs earlier later : List (Exchange F)) (x : Exchange F) (size : ℕ) → All (Fits F) xs → xs ≡ earlier ++ x ∷ later → size ≡ told_size F x → 253 < size → ⊥
+all_fit F xs earlier later x size fit e is long =
+    let within : Contains (earlier ++ x ∷ later) x = Contains-append_right earlier (x ∷ later) x (0, omega arith, refl) in
+    let fits : Fits F x = All-contains (Fits F) xs x fit (subst (λ ys. Contains ys x) (sym e) within) in
+    omega arith
+
+-- one more exchange is the last, or the rest fits
+pub last_or_within : (F : Framing) (xs earlier later : List (Exchange F)) (y x : Exchange F) → xs ++ y ∷ [] ≡ earlier ++ x ∷ later → ((rest : List (Exchange F)) × (xs ≡ earlier ++ x ∷ rest)) ⊎ (length earlier ≡ length xs)
+last_or_within F [] [] later y x e = inr refl
+last_or_within F [] (z ∷ earlier) [] y x e = absurd (omega (arith, ap length e, length-append earlier (x ∷ [])))
+last_or_within F [] (z ∷ earlier) (w ∷ later) y x e = absurd (omega (arith, ap length e, length-append earlier (x ∷ w ∷ later)))
+last_or_within F (a ∷ xs) [] later y x e = inl (xs, (let h : a ≡ x = cc in ap (λ z. z ∷ xs) h))
+last_or_within F (a ∷ xs) (z ∷ earlier) later y x e =
+    let h : a ≡ z = cc in
+    let rest : xs ++ y ∷ [] ≡ earlier ++ x ∷ later = cc in
+    elim (last_or_within F xs earlier later y x rest) [
+      | inl (r, same) ↦ inl (r, cc (h, same))
+      | inr same ↦ inr (omega arith)
+    ]
+
+-- the item after so many
+pub same_after : {A : Type 0} (xs ys : List A) (x y : A) (later after : List A) → xs ++ x ∷ later ≡ ys ++ y ∷ after → length xs ≡ length ys → x ≡ y
+same_after [] [] x y later after e n = cc
+same_after [] (z ∷ ys) x y later after e n = absurd (omega arith)
+same_after (z ∷ xs) [] x y later after e n = absurd (omega arith)
+same_after (z ∷ xs) (w ∷ ys) x y later after e n =
+    let rest : xs ++ x ∷ later ≡ ys ++ y ∷ after = cc in
+    same_after xs ys x y later after rest (omega arith)
+
+-- none of the messages that were asked is refused
+pub no_refusal : (F : Framing) (earlier : List (Message F)) (message : Message F) (later : List (Message F)) (xs : List (Exchange F)) (reason : Reason)
+    → map (asked_of F) (earlier ++ message ∷ later) ≡ map (asks F) xs → request_of message.1 ≡ Err reason → ⊥
+no_refusal F [] message later [] reason e bad = cc
+no_refusal F [] message later (x ∷ xs) reason e bad =
+    let first : asked_of F message ≡ asks F x = cc in
+    let ok : request_of message.1 ≡ Ok x.request = ap (λ (q : Question F). q.1) first in
+    let clash : Err reason ≡ Ok x.request = sym bad ∙ ok in
+    cc
+no_refusal F (m ∷ earlier) message later [] reason e bad = cc
+no_refusal F (m ∷ earlier) message later (x ∷ xs) reason e bad =
+    let rest : map (asked_of F) (earlier ++ message ∷ later) ≡ map (asks F) xs = cc in
+    no_refusal F earlier message later xs reason rest bad
+
+-- as many were asked as there are exchanges
+pub as_many : (F : Framing) (messages : List (Message F)) (xs : List (Exchange F)) → map (asked_of F) messages ≡ map (asks F) xs → length messages ≡ length xs
+as_many F [] [] e = refl
+as_many F [] (x ∷ xs) e = cc
+as_many F (m ∷ messages) [] e = cc
+as_many F (m ∷ messages) (x ∷ xs) e =
+    let rest : map (asked_of F) messages ≡ map (asks F) xs = cc in
+    let same = as_many F messages xs rest in omega arith
+
+-- an item before the end of a front stands in the front
+pub within_front : {A : Type 0} (front tail earlier : List A) (x : A) (later : List A) → front ++ tail ≡ earlier ++ x ∷ later → length earlier < length front
+    → (middle : List A) × (front ≡ earlier ++ x ∷ middle)
+within_front [] tail earlier x later e less = absurd (omega arith)
+within_front (f ∷ front) tail [] x later e less = (front, (let same : f ≡ x = cc in ap (λ y. y ∷ front) same))
+within_front (f ∷ front) tail (z ∷ earlier) x later e less =
+    let first : f ≡ z = cc in
+    let rest : front ++ tail ≡ earlier ++ x ∷ later = cc in
+    let inner = within_front front tail earlier x later rest (omega arith) in
+    (inner.0, cc (first, inner.1))
