@@ -1,10 +1,15 @@
 -- The device that the program serves.
-use Rattle.std.specs.Prelude.{ℕ, zero, suc, ◌-◌, ◌%◌, ◌==◌, Bool, true, List, [], ◌∷◌, ◌++◌, Result, if◌then◌else◌}
+use Rattle.std.specs.Prelude.{ℕ, zero, suc, ◌-◌, ◌%◌, ◌==◌, Bool, true, false, List, [], ◌∷◌, ◌++◌, Result, if◌then◌else◌}
 use Rattle.modbus_server.specs.declared.error.ProcessError.{ProcessError}
+use Rattle.modbus_server.specs.Framing.{Framing as Messages}
+use Rattle.modbus_server.specs.Rtu.{rtu}
+use Rattle.modbus_server.specs.Tcp.{tcp}
 use Rattle.modbus_server.specs.Serving.{EndsAs}
 use Rattle.modbus_store.specs.Tables.{Tables}
 use Rattle.modbus_store.specs.Opening.{zeros_of}
 use Rattle.modbus_store.specs.Step.{StepsTo}
+use Rattle.modbus_app.specs.declared.words.Framing.{Framing}
+use Rattle.modbus_app.specs.declared.words.Framing.TheVariants.{Rtu, Tcp}
 use Rattle.modbus_app.specs.declared.words.Form.{Form}
 
 -- a table of so many entries, each made of its address
@@ -25,14 +30,24 @@ same i = i
 abbrev pub down : ℕ → ℕ
 down i = 65535 - i
 
-abbrev pub seeded_tables : ℕ → Tables
-seeded_tables size = record { coils = entries_by third size; discrete_inputs = entries_by odd size; holding_registers = entries_by same size; input_registers = entries_by down size; broadcast = true }
+abbrev pub seeded_tables : ℕ → Bool → Tables
+seeded_tables size broadcast = record { coils = entries_by third size; discrete_inputs = entries_by odd size; holding_registers = entries_by same size; input_registers = entries_by down size; broadcast = broadcast }
 
--- four tables of the form's size; a broadcast has its effect and no answer
+-- on a serial line a request to slave 0 is a broadcast, which has its effect and no answer; over TCP it is answered like any other
+abbrev pub broadcasts_of : Framing → Bool
+broadcasts_of Rtu = true
+broadcasts_of Tcp = false
+
+-- four tables of the form's size
 abbrev pub opening : Form → Tables
-opening form = if form.seeded then seeded_tables form.size
-    else zeros_of (record { coils = form.size; discrete_inputs = form.size; holding_registers = form.size; input_registers = form.size }) true
+opening form = if form.seeded then seeded_tables form.size (broadcasts_of form.framing)
+    else zeros_of (record { coils = form.size; discrete_inputs = form.size; holding_registers = form.size; input_registers = form.size }) (broadcasts_of form.framing)
+
+-- how the requests of a framing stand in the bytes of a connection
+abbrev pub messages_of : Framing → Messages
+messages_of Rtu = rtu
+messages_of Tcp = tcp
 
 -- how serving the device ended, over all that was read and written; its tables are then those after one run over the requests
 abbrev pub Serves : Form → List ℕ → List ℕ → List ℕ → Result (Unit {0}) ProcessError → Type 0
-Serves form bytes cuts written result = (now : Tables) × EndsAs StepsTo bytes cuts (opening form) now written result
+Serves form bytes cuts written result = (now : Tables) × EndsAs (messages_of form.framing) StepsTo bytes cuts (opening form) now written result

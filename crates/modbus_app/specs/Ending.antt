@@ -3,15 +3,17 @@ use Rattle.std.specs.Prelude.{◌≡◌, ◌-◌, ◌^◌, ℕ, length, IsTrue, 
 use Rattle.modbus_link.specs.Outside.{Input, Output, Rose, bytes_read, bytes_appended, cuts_made, IsFront}
 use Rattle.modbus_server.specs.declared.error.ProcessError.{ProcessError}
 use Rattle.modbus_server.specs.declared.error.ProcessError.TheVariants.{ReadFault, WriteFault, TurnLimit}
-use Rattle.modbus_server.specs.Sending.{EndsRead}
+use Rattle.modbus_server.specs.Sending.{EndsRead, BreaksAs}
 use Rattle.modbus_server.specs.Rooms.{totals}
 use Rattle.modbus_app.specs.declared.words.Form.{Form}
-use Rattle.modbus_app.specs.Device.{Serves}
+use Rattle.modbus_app.specs.Device.{Serves, messages_of}
 use Rattle.modbus_app.specs.Status.{status_of, line_of}
 
 pub record EndsWithFault (form : Form) (input input' : Input) (output output' said said' : Output) (status : ℕ) : Type 0 where
   pub error : ProcessError
   pub is : status_of error ≡ Some status
+  -- it is a fault that the framing has
+  pub breaks : BreaksAs {X = Unit {0}} (messages_of form.framing) (Err error)
   -- its cause, and what was answered and written before it
   pub served : IsTrue input.told → IsTrue output.told
       → Serves form (bytes_read input input') (totals (cuts_made input input')) (bytes_appended output output') (Err error)

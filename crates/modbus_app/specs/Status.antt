@@ -1,9 +1,10 @@
 -- The status and the text of each ending of the program.
 use Rattle.std.specs.Prelude.{ℕ, List, [], ◌++◌, codes, Option, Some, None}
+use Rattle.std.specs.Fmt.{decimal}
 use Rattle.modbus_frame.specs.declared.fault.Reason.{Reason}
 use Rattle.modbus_frame.specs.declared.fault.Reason.TheVariants as reason
 use Rattle.modbus_server.specs.declared.error.ProcessError.{ProcessError}
-use Rattle.modbus_server.specs.declared.error.ProcessError.TheVariants.{ReadFault, WriteFault, TooManyRetries, BytesRemaining, InvalidRequest, ResponseTooLong, TurnLimit, NoMemory}
+use Rattle.modbus_server.specs.declared.error.ProcessError.TheVariants.{ReadFault, WriteFault, TooManyRetries, BytesRemaining, InvalidRequest, ResponseTooLong, TurnLimit, InvalidLength, InvalidProtocol, NoMemory}
 
 -- a response that is too long has none, since the device gives no such response
 abbrev pub status_of : ProcessError → Option ℕ
@@ -13,6 +14,8 @@ status_of TooManyRetries = Some 5
 status_of BytesRemaining = Some 6
 status_of (InvalidRequest reason) = Some 7
 status_of TurnLimit = Some 8
+status_of InvalidLength = Some 9
+status_of (InvalidProtocol protocol) = Some 10
 status_of NoMemory = Some 11
 status_of (ResponseTooLong size) = None
 
@@ -40,5 +43,7 @@ line_of TooManyRetries = codes "modbus: too many retries\n"
 line_of BytesRemaining = codes "modbus: bytes remaining\n"
 line_of (InvalidRequest reason) = codes "modbus: invalid request: " ++ reason_text reason ++ codes "\n"
 line_of TurnLimit = codes "modbus: turn limit\n"
+line_of InvalidLength = codes "modbus: invalid length\n"
+line_of (InvalidProtocol protocol) = codes "modbus: invalid protocol " ++ decimal protocol ++ codes "\n"
 line_of NoMemory = codes "modbus: no memory\n"
 line_of (ResponseTooLong size) = []

@@ -2,6 +2,8 @@
 use Rattle.std.specs.Prelude.{ℕ, ◌+◌, ◌-◌, ◌*◌, ◌&&◌, nat_le, Bool, true, false, List, [], ◌∷◌, map, fold, length, codes, String, string_bytes, Option, Some, None, if◌then◌else◌}
 use Rattle.std.specs.Str.{bytes_eq}
 use Rattle.std.specs.declared.alloc.Global.{Global}
+use Rattle.modbus_app.specs.declared.words.Framing.{Framing}
+use Rattle.modbus_app.specs.declared.words.Framing.TheVariants.{Rtu, Tcp}
 use Rattle.modbus_app.specs.declared.words.Form.{Form}
 
 -- an ASCII digit
@@ -20,19 +22,21 @@ number text = fold (λ value byte. value * 10 + (byte - 48)) 0 text
 abbrev pub size_named : List ℕ → Option ℕ
 size_named text = if nat_le (length text) 5 && are_digits text && nat_le 1 (number text) && nat_le (number text) 0x10000 then Some (number text) else None
 
-abbrev pub match_size : Option ℕ → Bool → Option Form
-match_size None seeded = None
-match_size (Some size) seeded = Some (record { size = size; seeded = seeded })
+-- the framing that a word names
+abbrev pub framing_of_word : List ℕ → Option Framing
+framing_of_word word = if bytes_eq word (codes "rtu") then Some Rtu else if bytes_eq word (codes "tcp") then Some Tcp else None
 
--- a size with or without a seed
-abbrev pub form_text : List ℕ → Bool → Option Form
-form_text size seeded = match_size (size_named size) seeded
+-- a framing and a size, where both are there
+abbrev pub form_with : Option Framing → Option ℕ → Bool → Option Form
+form_with (Some framing) (Some size) seeded = Some (record { framing = framing; size = size; seeded = seeded })
+form_with (Some framing) None seeded = None
+form_with None size seeded = None
 
--- what the words ask for: `rtu`, `rtu size` or `rtu size seeded`
+-- what the words ask for: `rtu`, `rtu size`, `rtu size seeded`, `tcp` or `tcp size`; a table has 1024 entries where no size is given
 abbrev pub form_of : List (List ℕ) → Option Form
-form_of (word ∷ []) = if bytes_eq word (codes "rtu") then Some (record { size = 1024; seeded = false }) else None
-form_of (word ∷ size ∷ []) = if bytes_eq word (codes "rtu") then form_text size false else None
-form_of (word ∷ size ∷ last ∷ []) = if bytes_eq word (codes "rtu") && bytes_eq last (codes "seeded") then form_text size true else None
+form_of (word ∷ []) = form_with (framing_of_word word) (Some 1024) false
+form_of (word ∷ size ∷ []) = form_with (framing_of_word word) (size_named size) false
+form_of (word ∷ size ∷ last ∷ []) = if bytes_eq word (codes "rtu") && bytes_eq last (codes "seeded") then form_with (Some Rtu) (size_named size) true else None
 form_of _ = None
 
 abbrev pub asked : List (String Global) → Option Form

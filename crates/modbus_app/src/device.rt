@@ -1,8 +1,8 @@
 //! The device that the program serves.
 ghost use Rattle.std.specs.Prelude.{◌≡◌, ◌≤◌, IfOk};
-ghost use Rattle.modbus_app.specs.Device.{entries_by, third, odd, same, down, seeded_tables, opening};
+ghost use Rattle.modbus_app.specs.Device.{entries_by, third, odd, same, down, seeded_tables, broadcasts_of, opening};
 
-use crate::words::Form;
+use crate::words::{Form, Framing};
 use modbus_frame::{Coil, Word};
 use modbus_store::{RegisterStore, Sizes, StoreError};
 use std::alloc::{AllocError, Global};
@@ -53,9 +53,9 @@ fn complements(alloc: Global, size: u32) -> Result<Vec<Word>, AllocError>
     Ok(table)
 }
 
-fn seeded(alloc: Global, size: u32) -> Result<RegisterStore, StoreError>
+fn seeded(alloc: Global, size: u32, broadcast: bool) -> Result<RegisterStore, StoreError>
     requires { size ≤ 0x10000 }
-    ensures { IfOk result (λ store. store ≡ seeded_tables size) }
+    ensures { IfOk result (λ store. store ≡ seeded_tables size broadcast) }
 {
     let Ok(coils) = thirds(alloc, size) else {
         return Err(StoreError::NoMemory);
@@ -75,8 +75,18 @@ fn seeded(alloc: Global, size: u32) -> Result<RegisterStore, StoreError>
         &discrete_inputs,
         &holding_registers,
         &input_registers,
-        true,
+        broadcast,
     )
+}
+
+/// Whether slave 0 stands for all devices: on a serial line, where nobody answers, and not over TCP.
+fn has_broadcasts(framing: Framing) -> bool
+    ensures { result ≡ broadcasts_of framing }
+{
+    match framing {
+        Framing::Rtu => true,
+        Framing::Tcp => false,
+    }
 }
 
 /// The device of a form, as it begins.
@@ -84,8 +94,9 @@ pub fn open(alloc: Global, form: Form) -> Result<RegisterStore, StoreError>
     requires { form.size ≤ 0x10000 }
     ensures { IfOk result (λ store. store ≡ opening form) }
 {
+    let broadcast = has_broadcasts(form.framing);
     if form.seeded {
-        return seeded(alloc, form.size);
+        return seeded(alloc, form.size, broadcast);
     }
     let sizes = Sizes {
         coils: form.size,
@@ -93,5 +104,5 @@ pub fn open(alloc: Global, form: Form) -> Result<RegisterStore, StoreError>
         holding_registers: form.size,
         input_registers: form.size,
     };
-    RegisterStore::new(alloc, sizes, true)
+    RegisterStore::new(alloc, sizes, broadcast)
 }

@@ -1,9 +1,12 @@
 //! The statuses of the program, and the lines that tell them.
-ghost use Rattle.std.specs.Prelude.{◌≡◌, ◌≢◌, ℕ, IsTrue, Some};
+ghost use Rattle.std.specs.Prelude.{◌≡◌, ◌≢◌, ℕ, ◌+◌, ◌≤◌, ◌++◌, length, IsTrue, Some};
+ghost use Rattle.arrayvec.specs.ArrayString.{array_string_len};
 ghost use Rattle.modbus_link.specs.Outside.{Rose, Extends, bytes_appended, IsFront};
-ghost use Rattle.modbus_server.specs.declared.error.ProcessError.TheVariants.{ResponseTooLong};
+ghost use Rattle.modbus_server.specs.declared.error.ProcessError.TheVariants.{ResponseTooLong, InvalidProtocol};
 ghost use Rattle.modbus_app.specs.Status.{status_of, line_of, usage_line};
 
+use arrayvec::ArrayString;
+use itoa::Buffer;
 use modbus_frame::Reason;
 use modbus_link::{Sink, write_all};
 use modbus_server::ProcessError;
@@ -14,6 +17,9 @@ pub const USAGE: u8 = 2;
 /// The line of a usage fault.
 pub const USAGE_LINE: &str =
     "modbus: usage: rtu [size [seeded]] | tcp [size] | make n | listen-rtu port | listen-tcp port\n";
+
+/// The length of the longest line of another protocol.
+const PROTOCOL_LINE: usize = 31;
 
 /// The status of a fault. A response that is too long has none.
 pub fn status(error: ProcessError) -> u8
@@ -29,6 +35,8 @@ pub fn status(error: ProcessError) -> u8
         ProcessError::BytesRemaining => 6,
         ProcessError::InvalidRequest(_) => 7,
         ProcessError::TurnLimit => 8,
+        ProcessError::InvalidLength => 9,
+        ProcessError::InvalidProtocol(_) => 10,
         ProcessError::NoMemory => 11,
         ProcessError::ResponseTooLong(_) => unreachable!(),
     }
@@ -54,8 +62,32 @@ fn refusal_line(reason: Reason) -> &'static str
     }
 }
 
-/// The line of a fault.
-pub fn line(error: ProcessError) -> &'static str
+/// Appends a text for which there is room.
+fn push(line: &mut ArrayString<PROTOCOL_LINE>, text: &str)
+    requires { array_string_len line.old + length text.now ≤ 31 }
+    ensures { line.new.bytes ≡ line.old.bytes ++ text.now }
+{
+    match line.try_push_str(text) {
+        Ok(()) => {}
+        Err(_) => unreachable!(),
+    }
+}
+
+/// The line of a unit of another protocol.
+fn protocol_line(protocol: u16) -> ArrayString<PROTOCOL_LINE>
+    ensures { result.bytes ≡ line_of (InvalidProtocol protocol) }
+{
+    let mut digits = Buffer::new();
+    let mut line = ArrayString::new();
+    push(&mut line, "modbus: invalid protocol ");
+    push(&mut line, digits.format(protocol));
+    push(&mut line, "\n");
+    line
+}
+
+/// The line of a fault whose text is always the same.
+fn line(error: ProcessError) -> &'static str
+    requires { (protocol : ℕ) → error ≢ InvalidProtocol protocol }
     ensures { result.now ≡ line_of error }
 {
     match error {
@@ -65,6 +97,8 @@ pub fn line(error: ProcessError) -> &'static str
         ProcessError::BytesRemaining => "modbus: bytes remaining\n",
         ProcessError::InvalidRequest(reason) => refusal_line(reason),
         ProcessError::TurnLimit => "modbus: turn limit\n",
+        ProcessError::InvalidLength => "modbus: invalid length\n",
+        ProcessError::InvalidProtocol(_) => unreachable!(),
         ProcessError::NoMemory => "modbus: no memory\n",
         ProcessError::ResponseTooLong(_) => "",
     }
@@ -78,4 +112,17 @@ pub fn report<E: Sink>(errors: &mut E, line: &str)
         → bytes_appended (E.output errors.old) (E.output errors.new) ≡ line.now }
 {
     let _ = write_all(errors, line.as_bytes());
+}
+
+/// Writes the line of a fault, as far as the sink takes it.
+pub fn report_fault<E: Sink>(errors: &mut E, error: ProcessError)
+    ensures sink { Extends (E.output errors.old) (E.output errors.new) }
+    ensures front { IsTrue (E.output errors.old).told → IsFront (bytes_appended (E.output errors.old) (E.output errors.new)) (line_of error) }
+    ensures whole { IsTrue (E.output errors.old).told → (Rose (E.output errors.old).faults (E.output errors.new).faults → ⊥)
+        → bytes_appended (E.output errors.old) (E.output errors.new) ≡ line_of error }
+{
+    match error {
+        ProcessError::InvalidProtocol(protocol) => report(errors, protocol_line(protocol).as_str()),
+        other => report(errors, line(other)),
+    }
 }

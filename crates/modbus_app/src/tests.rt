@@ -253,3 +253,131 @@ fn faults_have_their_status_and_lose_no_reply(rt: HostRuntime) -> Result<(), Fai
     assert_eq!(rt; errors.bytes(), usage.as_bytes());
     Ok(())
 }
+
+/// A read of one register from address 0 of unit 255, and its reply.
+const READ_UNIT: [u8; 12] = [
+    0x00, 0x00, 0x00, 0x00, 0x00, 0x06, 0xFF, 0x03, 0x00, 0x00, 0x00, 0x01,
+];
+
+const UNIT_ZERO: [u8; 11] = [
+    0x00, 0x00, 0x00, 0x00, 0x00, 0x05, 0xFF, 0x03, 0x02, 0x00, 0x00,
+];
+
+/// The words over this input give this status, these replies and this text.
+fn expect_tcp(
+    rt: &impl Abort,
+    alloc: Global,
+    words: &[&str],
+    input: &[u8],
+    status: u8,
+    replies: &[u8],
+    text: &str,
+) -> Result<(), Fail> {
+    let (found, sink, errors) = ran(alloc, words, input, &[3, 10], &[], &[])?;
+    assert_eq!(rt; found, status);
+    assert_eq!(rt; sink.bytes(), replies);
+    assert_eq!(rt; errors.bytes(), text.as_bytes());
+    Ok(())
+}
+
+#[test]
+fn units_are_answered_one_by_one(rt: HostRuntime) -> Result<(), Fail> {
+    let alloc = rt.alloc();
+    expect_tcp(&rt, alloc, &["tcp"], &READ_UNIT, 0, &UNIT_ZERO, "")?;
+    expect_tcp(&rt, alloc, &["tcp"], b"", 0, b"", "")?;
+    // Unit 0 is answered, here that the device lacks the function.
+    let report = [0x00, 0x09, 0x00, 0x00, 0x00, 0x02, 0x00, 0x11];
+    let lacking = [0x00, 0x09, 0x00, 0x00, 0x00, 0x03, 0x00, 0x91, 0x01];
+    expect_tcp(&rt, alloc, &["tcp"], &report, 0, &lacking, "")?;
+    // A write and a read of register 1 by unit 0.
+    let write_and_read = [
+        0x00, 0x01, 0x00, 0x00, 0x00, 0x06, 0x00, 0x06, 0x00, 0x01, 0x00, 0x03, 0x00, 0x02, 0x00,
+        0x00, 0x00, 0x06, 0x00, 0x03, 0x00, 0x01, 0x00, 0x01,
+    ];
+    let written_and_read = [
+        0x00, 0x01, 0x00, 0x00, 0x00, 0x06, 0x00, 0x06, 0x00, 0x01, 0x00, 0x03, 0x00, 0x02, 0x00,
+        0x00, 0x00, 0x05, 0x00, 0x03, 0x02, 0x00, 0x03,
+    ];
+    expect_tcp(
+        &rt,
+        alloc,
+        &["tcp"],
+        &write_and_read,
+        0,
+        &written_and_read,
+        "",
+    )?;
+    // With tables of 1 entry there is no register 1.
+    let read_second = [
+        0x00, 0x00, 0x00, 0x00, 0x00, 0x06, 0xFF, 0x03, 0x00, 0x01, 0x00, 0x01,
+    ];
+    let outside = [0x00, 0x00, 0x00, 0x00, 0x00, 0x03, 0xFF, 0x83, 0x02];
+    expect_tcp(&rt, alloc, &["tcp", "1"], &read_second, 0, &outside, "")?;
+    expect_tcp(&rt, alloc, &["tcp", "1"], &READ_UNIT, 0, &UNIT_ZERO, "")
+}
+
+#[test]
+fn units_with_faults_have_their_status(rt: HostRuntime) -> Result<(), Fail> {
+    let alloc = rt.alloc();
+    let no_length = [0x00, 0x01, 0x00, 0x00, 0x00, 0x00, 0xFF];
+    expect_tcp(
+        &rt,
+        alloc,
+        &["tcp"],
+        &no_length,
+        9,
+        b"",
+        "modbus: invalid length\n",
+    )?;
+    let foreign = [0x00, 0x01, 0x00, 0x05, 0x00, 0x02, 0x01, 0x11];
+    expect_tcp(
+        &rt,
+        alloc,
+        &["tcp"],
+        &foreign,
+        10,
+        b"",
+        "modbus: invalid protocol 5\n",
+    )?;
+    let foreign = [0x00, 0x01, 0xFF, 0xFF, 0x00, 0x02, 0x01, 0x11];
+    expect_tcp(
+        &rt,
+        alloc,
+        &["tcp"],
+        &foreign,
+        10,
+        b"",
+        "modbus: invalid protocol 65535\n",
+    )?;
+    let coil = [
+        0x00, 0x01, 0x00, 0x00, 0x00, 0x06, 0x01, 0x05, 0x00, 0x00, 0x12, 0x34,
+    ];
+    let invalid = "modbus: invalid request: invalid coil value\n";
+    expect_tcp(&rt, alloc, &["tcp"], &coil, 7, b"", invalid)?;
+    // A reply to an earlier unit is written whole.
+    let mut input = Vec::from_slice(alloc, &READ_UNIT)?;
+    input.extend_from_slice(&READ_UNIT[..6])?;
+    expect_tcp(
+        &rt,
+        alloc,
+        &["tcp"],
+        &input,
+        6,
+        &UNIT_ZERO,
+        "modbus: bytes remaining\n",
+    )?;
+    let mut input = Vec::from_slice(alloc, &READ_UNIT)?;
+    input.extend_from_slice(&no_length)?;
+    expect_tcp(
+        &rt,
+        alloc,
+        &["tcp"],
+        &input,
+        9,
+        &UNIT_ZERO,
+        "modbus: invalid length\n",
+    )?;
+    let (status, _sink, _errors) = ran(alloc, &["tcp", "8", "seeded"], &READ_UNIT, &[], &[], &[])?;
+    assert_eq!(rt; status, 2);
+    Ok(())
+}

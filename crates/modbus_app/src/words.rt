@@ -1,6 +1,6 @@
 //! The words of the command line.
 ghost use Rattle.std.specs.Prelude.{◌≡◌, ◌≤◌, [], ◌∷◌, length, IfSome, Some, None, if◌then◌else◌};
-ghost use Rattle.modbus_app.specs.Words.{are_digits, number, size_named, form_of, form_text, asked};
+ghost use Rattle.modbus_app.specs.Words.{are_digits, number, size_named, framing_of_word, form_with, form_of, asked};
 
 /// The number that these digits show; `None` where there is another byte.
 fn number_of(text: &[u8]) -> Option<u32>
@@ -32,23 +32,55 @@ pub fn table_size(word: &str) -> Option<u32>
     }
 }
 
-/// How the program serves a line: how many entries each table has, and whether they are seeded.
+/// What frames the requests.
+#[derive(Clone, Copy, Debug, PartialEq, Eq)]
+pub enum Framing {
+    /// RTU frames.
+    Rtu,
+    /// Units with an MBAP header.
+    Tcp,
+}
+
+/// What the program serves: which framing, how many entries each table has, and whether they are seeded.
 #[derive(Clone, Copy, Debug, PartialEq, Eq)]
 pub struct Form {
+    /// What frames the requests.
+    pub framing: Framing,
     /// The entries of each table.
     pub size: u32,
     /// Whether the tables begin with a pattern, and not with zeros.
     pub seeded: bool,
 }
 
-/// The form of words that have a size.
-fn sized(size: &str, seeded: bool) -> Option<Form>
-    ensures exact { result ≡ form_text size.now seeded }
+/// The entries of a table where no size is given.
+const DEFAULT_SIZE: u32 = 1024;
+
+/// The framing that a word names.
+fn framing_named(word: &str) -> Option<Framing>
+    ensures { result ≡ framing_of_word word.now }
+{
+    if word == "rtu" {
+        return Some(Framing::Rtu);
+    }
+    if word == "tcp" {
+        return Some(Framing::Tcp);
+    }
+    None
+}
+
+/// The form of a framing and a size, where both are there.
+fn form_with(framing: Option<Framing>, size: Option<u32>, seeded: bool) -> Option<Form>
+    requires { IfSome size (λ size. size ≤ 0x10000) }
+    ensures exact { result ≡ form_with framing size seeded }
     ensures size { IfSome result (λ form. form.size ≤ 0x10000) }
 {
-    match table_size(size) {
-        Some(size) => Some(Form { size, seeded }),
-        None => None,
+    match (framing, size) {
+        (Some(framing), Some(size)) => Some(Form {
+            framing,
+            size,
+            seeded,
+        }),
+        _ => None,
     }
 }
 
@@ -56,23 +88,14 @@ fn one_word(word: &str) -> Option<Form>
     ensures exact { result ≡ form_of (word.now ∷ []) }
     ensures size { IfSome result (λ form. form.size ≤ 0x10000) }
 {
-    if word != "rtu" {
-        return None;
-    }
-    Some(Form {
-        size: 1024,
-        seeded: false,
-    })
+    form_with(framing_named(word), Some(DEFAULT_SIZE), false)
 }
 
 fn two_words(word: &str, size: &str) -> Option<Form>
     ensures exact { result ≡ form_of (word.now ∷ size.now ∷ []) }
     ensures size { IfSome result (λ form. form.size ≤ 0x10000) }
 {
-    if word != "rtu" {
-        return None;
-    }
-    sized(size, false)
+    form_with(framing_named(word), table_size(size), false)
 }
 
 fn three_words(word: &str, size: &str, last: &str) -> Option<Form>
@@ -82,10 +105,10 @@ fn three_words(word: &str, size: &str, last: &str) -> Option<Form>
     if word != "rtu" || last != "seeded" {
         return None;
     }
-    sized(size, true)
+    form_with(Some(Framing::Rtu), table_size(size), true)
 }
 
-/// What the words ask for: `rtu`, `rtu size` or `rtu size seeded`; `None` where they are no such form.
+/// What the words ask for: `rtu`, `rtu size`, `rtu size seeded`, `tcp` or `tcp size`; `None` where they are no such form.
 pub fn read_words(words: &[String]) -> Option<Form>
     ensures exact { result ≡ asked words.now }
     ensures size { IfSome result (λ form. form.size ≤ 0x10000) }

@@ -29,7 +29,7 @@ returns-in-Ok-clause-ok g c = λ form named is told told'. (
 pub returns-in-Err-clause-fault : goal.returns-in-Err-clause-fault
 returns-in-Err-clause-fault g c = λ form named some.
     let base : EndsWithFault c.in-Some.form (g.S.Ends.input c.args.source.now) (g.S.Ends.input c.serve.new.source) (g.K.Ends.output c.args.sink.now) (g.K.Ends.output c.serve.new.sink)
-    (g.E.Ends.output c.args.errors.now) (g.E.Ends.output c.report-in-Err.new.errors) c.status.result = search rules in
+    (g.E.Ends.output c.args.errors.now) (g.E.Ends.output c.report_fault.new.errors) c.status.result = search rules in
     subst (λ (f : Form). EndsWithFault f (g.S.Ends.input c.args.source.now) (g.S.Ends.input c.serve.new.source) (g.K.Ends.output c.args.sink.now) (g.K.Ends.output c.serve.new.sink)
-    (g.E.Ends.output c.args.errors.now) (g.E.Ends.output c.report-in-Err.new.errors) c.status.result)
+    (g.E.Ends.output c.args.errors.now) (g.E.Ends.output c.report_fault.new.errors) c.status.result)
     (same_form c.in-Some.form form _ c.in-Some.ensures.exact named) base
