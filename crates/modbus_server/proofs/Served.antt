@@ -1,5 +1,5 @@
 -- What a connection stands for, carried over one message.
-use Rattle.std.proofs.Common.{◌≡◌, inl, inr, ℕ, List, [], ◌∷◌, ◌++◌, map, refl, sym, ap, ◌∙◌, subst, arith, Result, Ok, Err, append-nil}
+use Rattle.std.proofs.Common.{◌≡◌, ◌≢◌, inl, inr, ℕ, List, [], ◌∷◌, ◌++◌, map, refl, sym, ap, ◌∙◌, subst, arith, Result, Ok, Err, append-nil}
 use Rattle.std.proofs.lemmas.List.{map-append}
 use Rattle.std.proofs.lemmas.List.Elements.{All-append, All-cons, All-nil}
 use Rattle.std.proofs.lemmas.Grind.{flat_map-append}
@@ -16,7 +16,7 @@ use Rattle.modbus_server.specs.Answer as answer
 use Rattle.modbus_server.specs.declared.intake.TakeError.{TakeError}
 use Rattle.modbus_server.specs.declared.intake.TakeError.TheVariants as take
 use Rattle.modbus_server.specs.Taking.{TakesNext, fault_of}
-use Rattle.modbus_server.specs.Serving.{Serving, Served, Halt, Halts, broken, refused, too_long, IsCutShort, ServesOn, StepsAs}
+use Rattle.modbus_server.specs.Serving.{Serving, Served, Halt, Halts, broken, refused, too_long, IsCutShort, ServesOn, AreAllAnswered, ReadsLast, StepsAs}
 use Rattle.modbus_server.specs.Sending.{SendsAs, AnswersOnce}
 
 module _ (F : Framing) where
@@ -138,3 +138,46 @@ module _ (F : Framing) where
         takes_step parts held' take.InvalidLength b = ((λ e. cc), served (broken no_length) now (b, refl))
         takes_step parts held' (take.InvalidProtocol protocol) b = ((λ e. cc), served (broken (foreign protocol)) now (b, refl))
         takes_step parts held' take.NoMemory stands = ((λ e. cc), (held, exchanges, s, cut_nowhere))
+
+-- what is answered comes before a read
+module _ (F : Framing) (bytes cuts : List ℕ) (exchanges : List (Exchange F)) where
+  pub reads_last : (result : Result Step ProcessError) → AreAllAnswered F bytes cuts exchanges → ReadsLast F bytes cuts exchanges result
+  reads_last (Ok MoreRead) all = all
+  reads_last (Ok Hungry) all = all
+  reads_last (Ok Ended) all = all
+  reads_last (Ok Answered) all = tt
+  reads_last (Ok Silent) all = tt
+  reads_last (Err ReadFault) all = all
+  reads_last (Err BytesRemaining) all = all
+  reads_last (Err WriteFault) all = tt
+  reads_last (Err TooManyRetries) all = tt
+  reads_last (Err (InvalidRequest reason)) all = tt
+  reads_last (Err (ResponseTooLong size)) all = tt
+  reads_last (Err TurnLimit) all = tt
+  reads_last (Err InvalidLength) all = tt
+  reads_last (Err (InvalidProtocol protocol)) all = tt
+  reads_last (Err NoMemory) all = tt
+
+  pub answers_first : (result : Result Step ProcessError) → result ≢ Ok MoreRead → result ≢ Ok Hungry → result ≢ Ok Ended → result ≢ Err ReadFault → result ≢ Err BytesRemaining
+      → ReadsLast F bytes cuts exchanges result
+  answers_first (Ok MoreRead) a b d e f = absurd (a refl)
+  answers_first (Ok Hungry) a b d e f = absurd (b refl)
+  answers_first (Ok Ended) a b d e f = absurd (d refl)
+  answers_first (Ok Answered) a b d e f = tt
+  answers_first (Ok Silent) a b d e f = tt
+  answers_first (Err ReadFault) a b d e f = absurd (e refl)
+  answers_first (Err BytesRemaining) a b d e f = absurd (f refl)
+  answers_first (Err WriteFault) a b d e f = tt
+  answers_first (Err TooManyRetries) a b d e f = tt
+  answers_first (Err (InvalidRequest reason)) a b d e f = tt
+  answers_first (Err (ResponseTooLong size)) a b d e f = tt
+  answers_first (Err TurnLimit) a b d e f = tt
+  answers_first (Err InvalidLength) a b d e f = tt
+  answers_first (Err (InvalidProtocol protocol)) a b d e f = tt
+  answers_first (Err NoMemory) a b d e f = tt
+
+  pub takes_first : (error : TakeError) → ReadsLast F bytes cuts exchanges (Err (fault_of error))
+  takes_first take.TooManyRetries = tt
+  takes_first take.InvalidLength = tt
+  takes_first (take.InvalidProtocol protocol) = tt
+  takes_first take.NoMemory = tt

@@ -99,6 +99,20 @@ ServesOn F answers bytes cuts held opening now exchanges (Ok Hungry) = Serving F
 ServesOn F answers bytes cuts held opening now exchanges (Ok Ended) = Unit {0}
 ServesOn F answers bytes cuts held opening now exchanges (Err error) = Unit {0}
 
+-- all messages of these bytes were answered in these exchanges
+abbrev pub AreAllAnswered : (F : Framing) → List ℕ → List ℕ → List (Exchange F) → Type 0
+AreAllAnswered F bytes cuts exchanges =
+    (messages : List (Message F)) × (left : List ℕ) × F.IsAll bytes cuts left messages × (map (asked_of F) messages ≡ map (asks F) exchanges)
+
+-- a step reads, or is hungry, only after all messages of the bytes that it had
+abbrev pub ReadsLast : (F : Framing) → List ℕ → List ℕ → List (Exchange F) → Result Step ProcessError → Type 0
+ReadsLast F bytes cuts exchanges (Ok MoreRead) = AreAllAnswered F bytes cuts exchanges
+ReadsLast F bytes cuts exchanges (Ok Hungry) = AreAllAnswered F bytes cuts exchanges
+ReadsLast F bytes cuts exchanges (Ok Ended) = AreAllAnswered F bytes cuts exchanges
+ReadsLast F bytes cuts exchanges (Err ReadFault) = AreAllAnswered F bytes cuts exchanges
+ReadsLast F bytes cuts exchanges (Err BytesRemaining) = AreAllAnswered F bytes cuts exchanges
+ReadsLast F bytes cuts exchanges _ = Unit {0}
+
 -- what a step did, after these exchanges; the bytes, the cuts and what was written are those after it
 abbrev pub StepsAs : (F : Framing) → {S : Type 0} → (S → ℕ → Asked → Outcome → S → Type 0) → List ℕ → List ℕ → List ℕ → S → S → List ℕ → List (Exchange F) → Result Step ProcessError → Type 0
 StepsAs F answers bytes cuts held opening now written exchanges (Ok Answered) =

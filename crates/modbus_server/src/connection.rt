@@ -3,7 +3,7 @@ ghost use Rattle.std.specs.Prelude.{◌≡◌, ◌≢◌, ℕ, ◌<◌, ◌≤�
 ghost use Rattle.modbus_link.specs.Outside.{Rose, Advances, Extends, bytes_read, bytes_appended, cuts_made, shifted};
 ghost use Rattle.modbus_server.specs.Service.{Exchange, output, Runs};
 ghost use Rattle.modbus_server.specs.Answer.{CausesLong};
-ghost use Rattle.modbus_server.specs.Serving.{Serving, ServesOn, StepsAs};
+ghost use Rattle.modbus_server.specs.Serving.{Serving, ServesOn, ReadsLast, StepsAs};
 ghost use Rattle.modbus_server.specs.Sending.{SendsAs, AnswersOnce, ReadsAs, ReadsOnce, EndsInput, HoldsAfter, IsUnasked, ReadsIfMay, StaysOpen, BreaksAs};
 ghost use Rattle.modbus_server.specs.Taking.{fault_of};
 ghost use Rattle.modbus_server.specs.Rooms.{HaveRoom, totals};
@@ -134,6 +134,9 @@ fn step_intake<I: Intake, L: Source + Sink, V: Service>(
         → ServesOn I.Request.framing V.answers (bytes ++ bytes_read (L.input link.old) (L.input link.new))
         (cuts ++ totals (shifted (length bytes) (cuts_made (L.input link.old) (L.input link.new))))
         (I.held intake.new) opening service.new exchanges result }
+    ensures last { (bytes cuts : List ℕ) (opening : V) (exchanges : List (Exchange I.Request.framing))
+        → Serving I.Request.framing V.answers bytes cuts (I.held intake.old) opening service.old exchanges
+        → ReadsLast I.Request.framing bytes cuts exchanges result }
     ensures rooms { IsTrue (L.input link.old).told
         → (bytes cuts : List ℕ) (opening : V) (exchanges : List (Exchange I.Request.framing))
         → Serving I.Request.framing V.answers bytes cuts (I.held intake.old) opening service.old exchanges
@@ -219,6 +222,11 @@ impl<I: Intake> Connection<I> {
             → ServesOn I.Request.framing V.answers (bytes ++ bytes_read (L.input link.old) (L.input link.new))
             (cuts ++ totals (shifted (length bytes) (cuts_made (L.input link.old) (L.input link.new))))
             self.new.held opening service.new exchanges result }
+
+        // It reads only where no request can be taken from the held bytes.
+        ensures last { (bytes cuts : List ℕ) (opening : V) (exchanges : List (Exchange I.Request.framing))
+            → Serving I.Request.framing V.answers bytes cuts self.old.held opening service.old exchanges
+            → ReadsLast I.Request.framing bytes cuts exchanges result }
         ensures rooms { IsTrue (L.input link.old).told
             → (bytes cuts : List ℕ) (opening : V) (exchanges : List (Exchange I.Request.framing))
             → Serving I.Request.framing V.answers bytes cuts self.old.held opening service.old exchanges
@@ -275,6 +283,9 @@ impl<I: Intake> Connection<I> {
             → ServesOn I.Request.framing V.answers (bytes ++ bytes_read (S.input source.old) (S.input source.new))
             (cuts ++ totals (shifted (length bytes) (cuts_made (S.input source.old) (S.input source.new))))
             self.new.held opening service.new exchanges result }
+        ensures last { (bytes cuts : List ℕ) (opening : V) (exchanges : List (Exchange I.Request.framing))
+            → Serving I.Request.framing V.answers bytes cuts self.old.held opening service.old exchanges
+            → ReadsLast I.Request.framing bytes cuts exchanges result }
         ensures rooms { IsTrue (S.input source.old).told
             → (bytes cuts : List ℕ) (opening : V) (exchanges : List (Exchange I.Request.framing))
             → Serving I.Request.framing V.answers bytes cuts self.old.held opening service.old exchanges

@@ -3,7 +3,7 @@ use Rattle.modbus_link.specs.Outside.{bytes_read, bytes_appended, cuts_made, shi
 use Rattle.modbus_server.specs.declared.error.Step.TheVariants.{Hungry}
 use Rattle.modbus_server.specs.Serving.{ServesOn, StepsAs}
 use Rattle.modbus_server.specs.Rooms.{totals}
-use Rattle.modbus_server.proofs.Served.{sends_step, takes_step, serves_on}
+use Rattle.modbus_server.proofs.Served.{sends_step, takes_step, serves_on, reads_last, answers_first, takes_first}
 use Rattle.modbus_server.proofs.Reading.{unread, unwritten, kept, reads_step, read_rooms, served_all, serves_read}
 use Rattle.modbus_server.proofs.connection.step_intake.Goals as goal
 
@@ -99,3 +99,21 @@ returns-else-may_read-clause-serves g c = λ told bytes cuts opening exchanges s
     unread (λ b t. ServesOn F g.V.Service.answers b t held opening c.args.service.now exchanges (Ok Hungry))
     bytes cuts (g.L.Ends.input c.args.link.now) (g.L.Ends.input c.args.link.now) refl
     (kept F g.V.Service.answers bytes cuts (g.I.Intake.held c.args.intake.now) held opening c.args.service.now exchanges s after.0)
+
+pub returns-in-Err-clause-last : goal.returns-in-Err-clause-last
+returns-in-Err-clause-last g c = λ bytes cuts opening exchanges s. rw c.take_fault.ensures (takes_first g.I.Request.FramedRequest.framing bytes cuts exchanges c.in-Err.error)
+
+pub returns-in-Ok-Some-clause-last : goal.returns-in-Ok-Some-clause-last
+returns-in-Ok-Some-clause-last g c = λ bytes cuts opening exchanges s.
+    let step = c.send_answer.ensures.step in
+    answers_first g.I.Request.FramedRequest.framing bytes cuts exchanges c.send_answer.result step.0 step.1 step.2 c.send_answer.ensures.read_fault step.3
+
+pub returns-then-may_read-clause-last : goal.returns-then-may_read-clause-last
+returns-then-may_read-clause-last g c = λ bytes cuts opening exchanges s.
+    let after = (rw c.in-Ok-None.field-0-is at c.in-Ok-None.ensures.takes) bytes cuts s.taken s.stands in
+    reads_last g.I.Request.FramedRequest.framing bytes cuts exchanges c.read_more.result (s.taken, g.I.Intake.held c.take.new.self, after.1, s.asked)
+
+pub returns-else-may_read-clause-last : goal.returns-else-may_read-clause-last
+returns-else-may_read-clause-last g c = λ bytes cuts opening exchanges s.
+    let after = (rw c.in-Ok-None.field-0-is at c.in-Ok-None.ensures.takes) bytes cuts s.taken s.stands in
+    (s.taken, g.I.Intake.held c.take.new.self, after.1, s.asked)

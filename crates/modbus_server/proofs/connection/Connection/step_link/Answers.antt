@@ -5,3 +5,6 @@ returns-clause-rooms g c = rw (← c.self.view_is) c.step_intake-result.ensures.
 
 pub returns-clause-serves : goal.returns-clause-serves
 returns-clause-serves g c = rw (← c.self.view_is) c.step_intake-result.ensures.serves
+
+pub returns-clause-last : goal.returns-clause-last
+returns-clause-last g c = rw (← c.self.view_is) c.step_intake-result.ensures.last
