@@ -1,10 +1,12 @@
 -- The exchanges of a run, beside the messages that were asked in them.
-use Rattle.std.proofs.Common.{◌≡◌, ◌⊎◌, inl, inr, ℕ, ◌<◌, List, [], ◌∷◌, ◌++◌, map, length, refl, sym, ap, ◌∙◌, subst, arith, Ok, Err, length-append}
+use Rattle.std.proofs.Common.{◌≡◌, ◌⊎◌, inl, inr, ℕ, ◌<◌, ◌≤◌, List, [], ◌∷◌, ◌++◌, map, length, refl, sym, ap, ◌∙◌, subst, arith, Ok, Err, length-append}
 use Rattle.std.specs.Prelude.{All, Contains}
 use Rattle.std.proofs.lemmas.List.Elements.{All-contains, Contains-append_right}
 use Rattle.modbus_frame.specs.declared.fault.Reason.{Reason}
 use Rattle.modbus_pdu.specs.RequestOf.{request_of}
 use Rattle.modbus_server.specs.Framing.{Framing, Message}
+use Rattle.modbus_server.specs.Serving.{Halt, remaining, broken, refused, too_long}
+use Rattle.modbus_server.specs.First.{IsFirst}
 use Rattle.modbus_server.specs.Service.{Exchange, Question, Fits, told_size, asked_of, asks}
 
 -- none of the exchanges that fit is too long
@@ -70,3 +72,30 @@ within_front (f ∷ front) tail (z ∷ earlier) x later e less =
     let rest : front ++ tail ≡ earlier ++ x ∷ later = cc in
     let inner = within_front front tail earlier x later rest (omega arith) in
     (inner.0, cc (first, inner.1))
+
+-- a message that is refused was asked in no exchange
+pub asked_well : (F : Framing) (message : Message F) (x : Exchange F) (reason : Reason) → request_of message.1 ≡ Err reason → asked_of F message ≡ asks F x → ⊥
+asked_well F message x reason bad asked =
+    let ok : request_of message.1 ≡ Ok x.request = ap (λ (q : Question F). q.1) asked in
+    let clash : Err reason ≡ Ok x.request = sym bad ∙ ok in
+    cc
+
+-- two kinds of fault are not both the first, where one place has one kind
+module _ (Fails : ℕ → Halt → Type 0) (none_left : (place : ℕ) (left : List ℕ) → Fails place (remaining left) → ⊥)
+    (same_at : (place : ℕ) (f g : Halt) → Fails place f → Fails place g → f ≡ g) where
+  abbrev Places : Halt → Type 0
+  Places halt = (place : ℕ) × Fails place halt × ((other : ℕ) (fault : Halt) → Fails other fault → place ≤ other)
+
+  places : (place : ℕ) (halt : Halt) → Fails place halt → IsFirst Fails halt → Places halt
+  places place (remaining left) h first = absurd (none_left place left h)
+  places place (broken fault) h first = first
+  places place (refused reason) h first = first
+  places place (too_long size) h first = first
+
+  same_first : (f g : Halt) → Places f → Places g → f ≡ g
+  same_first f g (p, a, first) (q, b, first') =
+      let same : q ≡ p = omega (arith, first q g b, first' p f a) in
+      same_at p f g a (subst (λ r. Fails r g) same b)
+
+  pub one_first : (p q : ℕ) (f g : Halt) → Fails p f → Fails q g → IsFirst Fails f → IsFirst Fails g → f ≡ g
+  one_first p q f g a b first first' = same_first f g (places p f a first) (places q g b first')

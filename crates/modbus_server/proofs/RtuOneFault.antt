@@ -1,19 +1,17 @@
 -- Two kinds of fault are not both the first.
-use Rattle.std.proofs.Common.{◌≡◌, ℕ, ◌+◌, ◌<◌, ◌≤◌, List, [], ◌++◌, refl, sym, ap, ◌∙◌, subst, arith, Ok, Err, append-nil}
+use Rattle.std.proofs.Common.{◌≡◌, ℕ, ◌+◌, ◌<◌, List, [], ◌++◌, refl, sym, ap, ◌∙◌, subst, arith, Err, append-nil}
 use Rattle.std.specs.Prelude.{Contains}
 use Rattle.std.proofs.lemmas.List.Elements.{All-contains}
-use Rattle.modbus_frame.specs.declared.fault.Reason.{Reason}
-use Rattle.modbus_pdu.specs.RequestOf.{request_of}
 use Rattle.modbus_rtu.specs.declared.verdict.Verdict.TheVariants.{Bad, Good}
 use Rattle.modbus_rtu.specs.Frame.{verdict}
 use Rattle.modbus_rtu.specs.Leftmost.{IsLeftmost, IsGood}
 use Rattle.modbus_rtu.specs.Stands.{HasCrowd, frame_at}
 use Rattle.modbus_rtu.proofs.Fronts.{crowd_still}
-use Rattle.modbus_server.specs.Service.{Exchange, told_size, asked_of, asks}
+use Rattle.modbus_server.specs.Service.{Exchange, told_size}
 use Rattle.modbus_server.specs.Framing.{crowd, no_length, foreign}
 use Rattle.modbus_server.specs.Rtu.{rtu}
 use Rattle.modbus_server.specs.Serving.{Halt, remaining, broken, refused, too_long}
-use Rattle.modbus_server.proofs.Asked.{same_after}
+use Rattle.modbus_server.proofs.Asked.{same_after, asked_well, one_first}
 use Rattle.modbus_server.specs.FirstFault.{HasFault, IsFirstFault}
 
 module _ (bytes cuts frames : List ℕ) (all : List (Exchange rtu)) (stop : ℕ) (reading : IsLeftmost bytes frames stop) where
@@ -34,12 +32,6 @@ module _ (bytes cuts frames : List ℕ) (all : List (Exchange rtu)) (stop : ℕ)
       let clash : Bad ≡ Good good.0 = sym bad ∙ good.1 in
       cc
 
-  asked_well : (place : ℕ) (reason : Reason) (x : Exchange rtu) → request_of (frame_at bytes place).1 ≡ Err reason → asked_of rtu (frame_at bytes place) ≡ asks rtu x → ⊥
-  asked_well place reason x bad asked =
-      let ok : request_of (frame_at bytes place).1 ≡ Ok x.request = ap (λ q. q.1) asked in
-      let clash : Err reason ≡ Ok x.request = sym bad ∙ ok in
-      cc
-
   same_at : (place : ℕ) (f g : Halt) → HasFault bytes cuts frames all place f → HasFault bytes cuts frames all place g → f ≡ g
   same_at place (remaining left) g h k = absurd h
   same_at place (broken no_length) g h k = absurd h
@@ -56,33 +48,16 @@ module _ (bytes cuts frames : List ℕ) (all : List (Exchange rtu)) (stop : ℕ)
   same_at place (refused r) (broken crowd) (within, bad) (k, c, is) = absurd (no_frame place k c is within)
   same_at place (refused r) (refused q) (within, bad) (within', bad') =
       let e : Err r ≡ Err q = sym bad ∙ bad' in cc
-  same_at place (refused r) (too_long n) (within, bad) (within', earlier, x, later, splits, count, asked, is, long) = absurd (asked_well place r x bad asked)
+  same_at place (refused r) (too_long n) (within, bad) (within', earlier, x, later, splits, count, asked, is, long) = absurd (asked_well rtu (frame_at bytes place) x r bad asked)
   same_at place (too_long n) (remaining left) h k = absurd k
   same_at place (too_long n) (broken no_length) h k = absurd k
   same_at place (too_long n) (broken (foreign protocol)) h k = absurd k
   same_at place (too_long n) (broken crowd) h (k, c, is) = absurd (no_frame place k c is h.0)
-  same_at place (too_long n) (refused q) (within, earlier, x, later, splits, count, asked, is, long) (within', bad) = absurd (asked_well place q x bad asked)
+  same_at place (too_long n) (refused q) (within, earlier, x, later, splits, count, asked, is, long) (within', bad) = absurd (asked_well rtu (frame_at bytes place) x q bad asked)
   same_at place (too_long n) (too_long m) (within, earlier, x, later, splits, count, asked, is, long) (within', earlier', x', later', splits', count', asked', is', long') =
       let e : x ≡ x' = same_after earlier earlier' x x' later later' (sym splits ∙ splits') (count ∙ sym count') in
       ap too_long (is ∙ ap (told_size rtu) e ∙ sym is')
 
-  -- the first place of a fault
-  abbrev Places : Halt → Type 0
-  Places halt = (place : ℕ) × HasFault bytes cuts frames all place halt × ((other : ℕ) (fault : Halt) → HasFault bytes cuts frames all other fault → place ≤ other)
-
-  places : (place : ℕ) (halt : Halt) → HasFault bytes cuts frames all place halt → IsFirstFault bytes cuts frames all halt → Places halt
-  places place (remaining left) h first = absurd h
-  places place (broken crowd) h first = first
-  places place (broken no_length) h first = first
-  places place (broken (foreign protocol)) h first = first
-  places place (refused r) h first = first
-  places place (too_long n) h first = first
-
-  same_first : (f g : Halt) → Places f → Places g → f ≡ g
-  same_first f g (p, a, first) (q, b, first') =
-      let same : q ≡ p = omega (arith, first q g b, first' p f a) in
-      same_at p f g a (subst (λ r. HasFault bytes cuts frames all r g) same b)
-
   pub one_fault : (p q : ℕ) (f g : Halt) → HasFault bytes cuts frames all p f → HasFault bytes cuts frames all q g
       → IsFirstFault bytes cuts frames all f → IsFirstFault bytes cuts frames all g → f ≡ g
-  one_fault p q f g a b first first' = same_first f g (places p f a first) (places q g b first')
+  one_fault = one_first (HasFault bytes cuts frames all) (λ place left h. h) same_at

@@ -1,5 +1,5 @@
 -- The failing place of a call over units is the first one.
-use Rattle.std.proofs.Common.{◌≡◌, inl, inr, ℕ, ◌≤◌, List, [], ◌∷◌, ◌++◌, map, length, refl, sym, ap, ◌∙◌, subst, arith, Ok, Err, length-append, append_assoc}
+use Rattle.std.proofs.Common.{◌≡◌, inl, inr, ℕ, ◌≤◌, List, [], ◌∷◌, ◌++◌, map, length, refl, sym, ap, ◌∙◌, subst, arith, Err, length-append, append_assoc}
 use Rattle.std.specs.Prelude.{All}
 use Rattle.std.proofs.lemmas.Bool.{cases_lt}
 use Rattle.modbus_frame.specs.Meaning.{Asked}
@@ -10,11 +10,11 @@ use Rattle.modbus_tcp.specs.Stream.{Rest, empty, unfinished, no_length, foreign,
 use Rattle.modbus_tcp.proofs.Splitting.{same_splitting, first_units}
 use Rattle.modbus_server.specs.Outcome.{Outcome}
 use Rattle.modbus_server.specs.Framing as framing
-use Rattle.modbus_server.specs.Service.{Exchange, Question, Run, Fits, told_size, asked_of, asks}
+use Rattle.modbus_server.specs.Service.{Exchange, Run, Fits, told_size, asked_of, asks}
 use Rattle.modbus_server.specs.Tcp.{tcp, IsNextUnit}
 use Rattle.modbus_server.specs.Serving.{Served, Halt, Halts, remaining, broken, refused, too_long}
 use Rattle.modbus_server.specs.FirstUnit.{HasUnitFault, IsFirstUnitFault}
-use Rattle.modbus_server.proofs.Asked.{all_fit, last_or_within, same_after, no_refusal, as_many, within_front}
+use Rattle.modbus_server.proofs.Asked.{all_fit, last_or_within, same_after, no_refusal, as_many, within_front, asked_well, one_first}
 use Rattle.modbus_server.proofs.Served.{run_more}
 
 -- a unit that comes next is the one after those that were taken
@@ -150,12 +150,6 @@ module _ (units : List (Header × List ℕ)) (kind : Rest) (all : List (Exchange
       → units ≡ earlier ++ message ∷ later → length earlier ≡ place → place ≡ length units → ⊥
   past_all earlier message later place splits count end = omega (arith, count, end, ap length splits, length-append earlier (message ∷ later))
 
-  asked_well : (message : Header × List ℕ) (x : Exchange tcp) (reason : Reason) → request_of message.1 ≡ Err reason → asked_of tcp message ≡ asks tcp x → ⊥
-  asked_well message x reason bad asked =
-      let ok : request_of message.1 ≡ Ok x.request = ap (λ (q : Question tcp). q.1) asked in
-      let clash : Err reason ≡ Ok x.request = sym bad ∙ ok in
-      cc
-
   same_at : (place : ℕ) (f g : Halt) → HasUnitFault units kind all place f → HasUnitFault units kind all place g → f ≡ g
   same_at place (remaining left) g h k = absurd h
   same_at place (broken framing.crowd) g h k = absurd h
@@ -181,35 +175,19 @@ module _ (units : List (Header × List ℕ)) (kind : Rest) (all : List (Exchange
       cc
   same_at place (refused reason) (too_long size) (earlier, message, later, splits, count, bad) (earlier', message', later', splits', count', before, x, after, is_all, many, asked, is, long) =
       let same : message' ≡ message = same_after earlier' earlier message' message later' later (sym splits' ∙ splits) (count' ∙ sym count) in
-      absurd (asked_well message x reason bad (ap (asked_of tcp) (sym same) ∙ asked))
+      absurd (asked_well tcp message x reason bad (ap (asked_of tcp) (sym same) ∙ asked))
   same_at place (too_long size) (remaining left) h k = absurd k
   same_at place (too_long size) (broken framing.crowd) h k = absurd k
   same_at place (too_long size) (broken framing.no_length) h k = absurd (past_all h.0 h.1 h.2 place h.3 h.4 k.0)
   same_at place (too_long size) (broken (framing.foreign protocol)) h k = absurd (past_all h.0 h.1 h.2 place h.3 h.4 k.0)
   same_at place (too_long size) (refused reason) (earlier', message', later', splits', count', before, x, after, is_all, many, asked, is, long) (earlier, message, later, splits, count, bad) =
       let same : message' ≡ message = same_after earlier' earlier message' message later' later (sym splits' ∙ splits) (count' ∙ sym count) in
-      absurd (asked_well message x reason bad (ap (asked_of tcp) (sym same) ∙ asked))
+      absurd (asked_well tcp message x reason bad (ap (asked_of tcp) (sym same) ∙ asked))
   same_at place (too_long size) (too_long other) (earlier, message, later, splits, count, before, x, after, is_all, many, asked, is, long)
       (earlier', message', later', splits', count', before', x', after', is_all', many', asked', is', long') =
       let same : x ≡ x' = same_after before before' x x' after after' (sym is_all ∙ is_all') (many ∙ sym many') in
       ap too_long (is ∙ ap (told_size tcp) same ∙ sym is')
 
-  abbrev UnitPlaces : Halt → Type 0
-  UnitPlaces halt = (place : ℕ) × HasUnitFault units kind all place halt × ((other : ℕ) (fault : Halt) → HasUnitFault units kind all other fault → place ≤ other)
-
-  places : (place : ℕ) (halt : Halt) → HasUnitFault units kind all place halt → IsFirstUnitFault units kind all halt → UnitPlaces halt
-  places place (remaining left) h first = absurd h
-  places place (broken framing.crowd) h first = first
-  places place (broken framing.no_length) h first = first
-  places place (broken (framing.foreign protocol)) h first = first
-  places place (refused reason) h first = first
-  places place (too_long size) h first = first
-
-  same_first : (f g : Halt) → UnitPlaces f → UnitPlaces g → f ≡ g
-  same_first f g (p, a, first) (q, b, first') =
-      let same : q ≡ p = omega (arith, first q g b, first' p f a) in
-      same_at p f g a (subst (λ r. HasUnitFault units kind all r g) same b)
-
   pub one_unit_fault : (p q : ℕ) (f g : Halt) → HasUnitFault units kind all p f → HasUnitFault units kind all q g
       → IsFirstUnitFault units kind all f → IsFirstUnitFault units kind all g → f ≡ g
-  one_unit_fault p q f g a b first first' = same_first f g (places p f a first) (places q g b first')
+  one_unit_fault = one_first (HasUnitFault units kind all) (λ place left h. h) same_at

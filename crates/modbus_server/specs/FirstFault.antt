@@ -1,11 +1,12 @@
 -- The failing place on a serial line, by offset.
-use Rattle.std.specs.Prelude.{◌≡◌, ℕ, ◌+◌, ◌<◌, ◌≤◌, List, ◌∷◌, ◌++◌, length, Contains, Err}
+use Rattle.std.specs.Prelude.{◌≡◌, ℕ, ◌+◌, ◌<◌, List, ◌∷◌, ◌++◌, length, Contains, Err}
 use Rattle.modbus_rtu.specs.Place.{frames_below}
 use Rattle.modbus_rtu.specs.Stands.{HasCrowd, frame_at}
 use Rattle.modbus_pdu.specs.RequestOf.{request_of}
 use Rattle.modbus_server.specs.Framing.{crowd}
 use Rattle.modbus_server.specs.Service.{Exchange, told_size, asked_of, asks}
 use Rattle.modbus_server.specs.Serving.{Halt, remaining, broken, refused, too_long}
+use Rattle.modbus_server.specs.First.{IsFirst}
 use Rattle.modbus_server.specs.Rtu.{rtu}
 
 -- something fails at a place, where the service was asked in all these exchanges, one for each of the first frames
@@ -18,8 +19,6 @@ HasFault bytes cuts frames all place (too_long size) =
     Contains frames place × (earlier : List (Exchange rtu)) × (x : Exchange rtu) × (later : List (Exchange rtu)) × (all ≡ earlier ++ x ∷ later)
     × (length earlier ≡ length (frames_below place frames)) × (asked_of rtu (frame_at bytes place) ≡ asks rtu x) × (size ≡ told_size rtu x) × (253 < size)
 
--- nothing fails, where some bytes are left after all frames; else it is the first place where something fails, by offset
+-- the first place, by offset, where something fails, or that nothing does
 abbrev pub IsFirstFault : List ℕ → List ℕ → List ℕ → List (Exchange rtu) → Halt → Type 0
-IsFirstFault bytes cuts frames all (remaining left) = (place : ℕ) (halt : Halt) → HasFault bytes cuts frames all place halt → ⊥
-IsFirstFault bytes cuts frames all halt =
-    (place : ℕ) × HasFault bytes cuts frames all place halt × ((other : ℕ) (fault : Halt) → HasFault bytes cuts frames all other fault → place ≤ other)
+IsFirstFault bytes cuts frames all halt = IsFirst (HasFault bytes cuts frames all) halt

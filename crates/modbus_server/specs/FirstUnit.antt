@@ -1,11 +1,12 @@
 -- The failing place in a stream of units: its first failing unit, else its rest.
-use Rattle.std.specs.Prelude.{◌≡◌, ℕ, ◌<◌, ◌≤◌, List, ◌∷◌, ◌++◌, length, Err}
+use Rattle.std.specs.Prelude.{◌≡◌, ℕ, ◌<◌, List, ◌∷◌, ◌++◌, length, Err}
 use Rattle.modbus_frame.specs.declared.tcp.Header.{Header}
 use Rattle.modbus_pdu.specs.RequestOf.{request_of}
 use Rattle.modbus_tcp.specs.Stream.{Rest, no_length, foreign}
 use Rattle.modbus_server.specs.Framing as framing
 use Rattle.modbus_server.specs.Service.{Exchange, told_size, asked_of, asks}
 use Rattle.modbus_server.specs.Serving.{Halt, remaining, broken, refused, too_long}
+use Rattle.modbus_server.specs.First.{IsFirst}
 use Rattle.modbus_server.specs.Tcp.{tcp}
 
 -- Something fails at a place, where the service was asked in all these exchanges, one for each of the first units. The place of a
@@ -23,8 +24,6 @@ HasUnitFault units kind all place (too_long size) =
     × (length earlier ≡ place) × (before : List (Exchange tcp)) × (x : Exchange tcp) × (after : List (Exchange tcp)) × (all ≡ before ++ x ∷ after)
     × (length before ≡ place) × (asked_of tcp message ≡ asks tcp x) × (size ≡ told_size tcp x) × (253 < size)
 
--- nothing fails, where some bytes are left after all units; else it is the first place where something fails
+-- the first place, unit by unit and then the rest, where something fails, or that nothing does
 abbrev pub IsFirstUnitFault : List (Header × List ℕ) → Rest → List (Exchange tcp) → Halt → Type 0
-IsFirstUnitFault units kind all (remaining left) = (place : ℕ) (halt : Halt) → HasUnitFault units kind all place halt → ⊥
-IsFirstUnitFault units kind all halt =
-    (place : ℕ) × HasUnitFault units kind all place halt × ((other : ℕ) (fault : Halt) → HasUnitFault units kind all other fault → place ≤ other)
+IsFirstUnitFault units kind all halt = IsFirst (HasUnitFault units kind all) halt

@@ -10,5 +10,6 @@ pub mod Rooms
 pub mod Complete
 pub mod Rtu
 pub mod Tcp
+pub mod First
 pub mod FirstFault
 pub mod FirstUnit
