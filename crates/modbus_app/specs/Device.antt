@@ -1,13 +1,15 @@
 -- The device that the program serves.
-use Rattle.std.specs.Prelude.{ℕ, zero, suc, ◌-◌, ◌%◌, ◌==◌, Bool, true, false, List, [], ◌∷◌, ◌++◌, Result, if◌then◌else◌}
+use Rattle.std.specs.Prelude.{ℕ, zero, suc, ◌-◌, ◌^◌, ◌%◌, ◌==◌, Bool, true, false, List, [], ◌∷◌, ◌++◌, Result, if◌then◌else◌}
+use Rattle.modbus_link.specs.Outside.{Input, Output}
 use Rattle.modbus_server.specs.declared.error.ProcessError.{ProcessError}
 use Rattle.modbus_server.specs.Framing.{Framing as Messages}
 use Rattle.modbus_server.specs.Rtu.{rtu}
 use Rattle.modbus_server.specs.Tcp.{tcp}
 use Rattle.modbus_server.specs.Serving.{EndsAs}
+use Rattle.modbus_server.specs.Stepping.{Ran}
 use Rattle.modbus_store.specs.Tables.{Tables}
 use Rattle.modbus_store.specs.Opening.{zeros_of}
-use Rattle.modbus_store.specs.Step.{StepsTo}
+use Rattle.modbus_store.specs.Step.{device}
 use Rattle.modbus_app.specs.declared.words.Framing.{Framing}
 use Rattle.modbus_app.specs.declared.words.Framing.TheVariants.{Rtu, Tcp}
 use Rattle.modbus_app.specs.declared.words.Form.{Form}
@@ -49,5 +51,10 @@ messages_of Rtu = rtu
 messages_of Tcp = tcp
 
 -- how serving the device ended, over all that was read and written; its tables are then those after one run over the requests
-abbrev pub Serves : Form → List ℕ → List ℕ → List ℕ → Result (Unit {0}) ProcessError → Type 0
-Serves form bytes cuts written result = (now : Tables) × EndsAs (messages_of form.framing) StepsTo bytes cuts (opening form) now written result
+abbrev pub Answers : Form → List ℕ → List ℕ → List ℕ → Result (Unit {0}) ProcessError → Type 0
+Answers form bytes cuts written result = (now : Tables) × EndsAs (messages_of form.framing) device bytes cuts (opening form) now written result
+
+-- serving the device, over a source and a sink, with no limit of turns but that of a counter of 64 bits
+pub record Serves (form : Form) (from to : Input) (sunk sinks : Output) (result : Result (Unit {0}) ProcessError) : Type 0 where
+  pub now : Tables
+  pub ran : Ran (messages_of form.framing) device (opening form) now from to sunk sinks (2 ^ 64 - 1) result

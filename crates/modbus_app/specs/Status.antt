@@ -1,6 +1,7 @@
 -- The status and the text of each ending of the program.
-use Rattle.std.specs.Prelude.{ℕ, List, [], ◌++◌, codes, Option, Some, None}
+use Rattle.std.specs.Prelude.{◌≡◌, ℕ, List, [], ◌++◌, codes, Option, Some, None, IsTrue, Result, Ok, Err}
 use Rattle.std.specs.Fmt.{decimal}
+use Rattle.modbus_link.specs.Outside.{Output, Rose, Extends, bytes_appended, IsFront}
 use Rattle.modbus_frame.specs.declared.fault.Reason.{Reason}
 use Rattle.modbus_frame.specs.declared.fault.Reason.TheVariants as reason
 use Rattle.modbus_server.specs.declared.error.ProcessError.{ProcessError}
@@ -18,6 +19,10 @@ status_of InvalidLength = Some 9
 status_of (InvalidProtocol protocol) = Some 10
 status_of NoMemory = Some 11
 status_of (ResponseTooLong size) = None
+
+abbrev pub ending_of : Result (Unit {0}) ProcessError → Option ℕ
+ending_of (Ok done) = Some 0
+ending_of (Err error) = status_of error
 
 abbrev pub usage_line : List ℕ
 usage_line = codes "modbus: usage: rtu [size [seeded]] | tcp [size] | make n | listen-rtu port | listen-tcp port\n"
@@ -47,3 +52,9 @@ line_of InvalidLength = codes "modbus: invalid length\n"
 line_of (InvalidProtocol protocol) = codes "modbus: invalid protocol " ++ decimal protocol ++ codes "\n"
 line_of NoMemory = codes "modbus: no memory\n"
 line_of (ResponseTooLong size) = []
+
+-- A line was written, or a front of it where the sink failed. What stood there before stays.
+pub record Reports (said told : Output) (line : List ℕ) : Type 0 where
+  pub grows : Extends said told
+  pub front : IsTrue said.told → IsFront (bytes_appended said told) line
+  pub whole : IsTrue said.told → (Rose said.faults told.faults → ⊥) → bytes_appended said told ≡ line

@@ -9,20 +9,38 @@ mod tests;
 mod words;
 
 use modbus_link::{ReadSource, WriteSink};
+use modbus_server::ProcessError;
+use std::alloc::AllocError;
 use std::process::ExitCode;
 use std::{env, io};
 
-fn main(rt: HostRuntime) -> io::Result<ExitCode> {
+/// The words after the program's name. Where one is not UTF-8 there are none, which are no form either.
+fn args(rt: &HostRuntime) -> Result<Vec<String>, AllocError> {
     let mut words = Vec::new(rt.alloc());
-    for word in env::args(&rt)?.skip(1) {
-        words.push(word)?;
+    match env::args(rt) {
+        Ok(all) => {
+            for word in all.skip(1) {
+                words.push(word)?;
+            }
+            Ok(words)
+        }
+        Err(error) if error.kind() == io::ErrorKind::OutOfMemory => Err(AllocError),
+        Err(_) => Ok(words),
     }
+}
+
+fn main(rt: HostRuntime) -> ExitCode {
+    let mut errors = WriteSink::new(rt.stderr());
+    let Ok(words) = args(&rt) else {
+        status::report_fault(&mut errors, ProcessError::NoMemory);
+        return ExitCode::from(status::NO_MEMORY);
+    };
     let status = run::run(
         rt.alloc(),
         &words,
         &mut ReadSource::new(rt.stdin()),
         &mut WriteSink::new(rt.stdout()),
-        &mut WriteSink::new(rt.stderr()),
+        &mut errors,
     );
-    Ok(ExitCode::from(status))
+    ExitCode::from(status)
 }

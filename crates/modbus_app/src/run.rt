@@ -1,56 +1,43 @@
 //! The top call.
-ghost use Rattle.std.specs.Prelude.{◌≡◌, ◌≢◌, ◌↔◌, ◌⊎◌, ◌<◌, ◌≤◌, ◌-◌, ◌^◌, ℕ, [], Ok, Err, Some, None, IsTrue, length};
-ghost use Rattle.modbus_link.specs.Outside.{Rose, Advances, Extends, bytes_read, bytes_appended, cuts_made, IsFront};
-ghost use Rattle.modbus_server.specs.declared.error.ProcessError.TheVariants.{ReadFault, WriteFault, TurnLimit, ResponseTooLong};
-ghost use Rattle.modbus_server.specs.Sending.{EndsRead, BreaksAs};
+ghost use Rattle.std.specs.Prelude.{◌≡◌, ◌≢◌, ◌↔◌, ◌⊎◌, ◌<◌, ◌-◌, ◌^◌, ℕ, [], Ok, Err, Some, None, IsTrue, length};
+ghost use Rattle.modbus_link.specs.Outside.{Rose, bytes_appended, cuts_made};
+ghost use Rattle.modbus_link.specs.Reads.{totals};
+ghost use Rattle.modbus_server.specs.declared.error.ProcessError.TheVariants.{ResponseTooLong};
 ghost use Rattle.modbus_server.specs.Complete.{IsCleanLine};
-ghost use Rattle.modbus_server.specs.Rooms.{HaveRooms, totals};
+ghost use Rattle.modbus_server.specs.Stepping.{Ran};
+ghost use Rattle.modbus_store.specs.Step.{device};
 ghost use Rattle.modbus_app.specs.Words.{asked};
 ghost use Rattle.modbus_app.specs.declared.words.Form.{Form};
-ghost use Rattle.modbus_app.specs.Device.{Serves, messages_of};
-ghost use Rattle.modbus_app.specs.Status.{usage_line};
-ghost use Rattle.modbus_app.specs.Ending.{EndsWithFault};
+ghost use Rattle.modbus_app.specs.Device.{Answers, messages_of};
+ghost use Rattle.modbus_app.specs.Ending.{IsUsageFault, Ends};
 
 use crate::device::open;
-use crate::status::{USAGE, USAGE_LINE, report, report_fault, status};
-use crate::words::{Form, Framing, read_words};
+use crate::status::{NO_MEMORY, USAGE, USAGE_LINE, report, report_fault, status};
+use crate::words::{Framing, read_words};
 use modbus_link::{Sink, Source};
 use modbus_server::{ProcessError, rtu_over_tcp, tcp};
+use modbus_store::RegisterStore;
 use std::alloc::Global;
 
-/// Serves the device of a form, with no limit of turns but that of a `u64`.
+/// Serves a device by frames or by ADUs, with no limit of turns but that of a `u64`.
 fn serve<S: Source, K: Sink>(
     alloc: Global,
-    form: Form,
+    framing: Framing,
+    store: &mut RegisterStore,
     source: &mut S,
     sink: &mut K,
 ) -> Result<(), ProcessError>
-    requires { form.size ≤ 0x10000 }
-    ensures source { Advances (S.input source.old) (S.input source.new) }
-    ensures sink { Extends (K.output sink.old) (K.output sink.new) }
-    ensures served { IsTrue (S.input source.old).told → IsTrue (K.output sink.old).told
-        → Serves form (bytes_read (S.input source.old) (S.input source.new)) (totals (cuts_made (S.input source.old) (S.input source.new)))
-        (bytes_appended (K.output sink.old) (K.output sink.new)) result }
-    ensures ended { IsTrue (S.input source.old).told → EndsRead result (S.input source.new).left }
-    ensures rooms { IsTrue (S.input source.old).told
-        → HaveRooms (messages_of form.framing) (bytes_read (S.input source.old) (S.input source.new)) 0 (cuts_made (S.input source.old) (S.input source.new)) }
-    ensures breaks { BreaksAs (messages_of form.framing) result }
-    ensures read_fault { result ≡ Err ReadFault → Rose (S.input source.old).faults (S.input source.new).faults }
-    ensures write_fault { result ≡ Err WriteFault → Rose (K.output sink.old).faults (K.output sink.new).faults }
-    ensures turn_limit { result ≡ Err TurnLimit → IsTrue (S.input source.old).told → length (cuts_made (S.input source.old) (S.input source.new)) ≡ 2 ^ 64 - 1 }
+    ensures ran { Ran (messages_of framing) device store.old store.new (S.input source.old) (S.input source.new) (K.output sink.old) (K.output sink.new) (2 ^ 64 - 1) result }
     ensures fits { (size : ℕ) → result ≢ Err (ResponseTooLong size) }
-    ensures complete { IsTrue (S.input source.old).told → IsTrue (K.output sink.old).told
-        → IsCleanLine (messages_of form.framing) (S.input source.old).left → length (S.input source.old).left < 2 ^ 64 - 1
+    ensures complete { IsTrue (S.input source.old).told → IsCleanLine (messages_of framing) (S.input source.old).left → length (S.input source.old).left < 2 ^ 64 - 1
         → (Rose (S.input source.old).faults (S.input source.new).faults → ⊥)
         → (Rose (K.output sink.old).faults (K.output sink.new).faults → ⊥)
         → (result ≡ Ok tt) ⊎ (result ≡ Err ProcessError.NoMemory) }
 {
-    match open(alloc, form) {
-        Err(_) => Err(ProcessError::NoMemory),
-        Ok(mut store) => match form.framing {
-            Framing::Rtu => rtu_over_tcp::process(alloc, source, sink, &mut store, u64::MAX),
-            Framing::Tcp => tcp::process(alloc, source, sink, &mut store, u64::MAX),
-        },
+    modbus_store::laws::answers_fit();
+    match framing {
+        Framing::Rtu => rtu_over_tcp::process(alloc, source, sink, store, u64::MAX),
+        Framing::Tcp => tcp::process(alloc, source, sink, store, u64::MAX),
     }
 }
 
@@ -80,34 +67,23 @@ pub fn run<S: Source, K: Sink, E: Sink>(
     sink: &mut K,
     errors: &mut E,
 ) -> u8
-    ensures source { Advances (S.input source.old) (S.input source.new) }
-    ensures sink { Extends (K.output sink.old) (K.output sink.new) }
-
     ensures usage { (result ≡ 2) ↔ (asked words.now ≡ None) }
-    ensures unread { result ≡ 2 → S.input source.new ≡ S.input source.old }
-    ensures unwritten { result ≡ 2 → K.output sink.new ≡ K.output sink.old }
+    ensures refused { asked words.now ≡ None
+        → IsUsageFault (S.input source.old) (S.input source.new) (K.output sink.old) (K.output sink.new) (E.output errors.old) (E.output errors.new) }
 
-    // The input ended with no uncovered offset open, or with nothing left after its units. What was appended is exactly the replies,
-    // framed for each request's slave or under its header, that one run of the device gives to the leftmost frames, or to the units, of
-    // the whole input in order.
+    // Status 0: the input ended with no uncovered offset open, or with nothing left after its ADUs. What was appended is exactly the
+    // replies, framed for each request's slave or under its header, that one run of the device gives to the leftmost frames, or to the
+    // ADUs, of the whole input in order.
     ensures ok { (form : Form) → asked words.now ≡ Some form → result ≡ 0 → IsTrue (S.input source.old).told → IsTrue (K.output sink.old).told
-        → Serves form (S.input source.old).left (totals (cuts_made (S.input source.old) (S.input source.new)))
+        → Answers form (S.input source.old).left (totals (cuts_made (S.input source.old) (S.input source.new)))
         (bytes_appended (K.output sink.old) (K.output sink.new)) (Ok tt) × ((S.input source.new).left ≡ []) }
 
-    // Each other status is that of a fault with its cause, and what was answered before it.
-    ensures fault { (form : Form) → asked words.now ≡ Some form → result ≢ 0
-        → EndsWithFault form (S.input source.old) (S.input source.new) (K.output sink.old) (K.output sink.new) (E.output errors.old) (E.output errors.new) result }
-
-    ensures rooms { (form : Form) → asked words.now ≡ Some form → IsTrue (S.input source.old).told
-        → HaveRooms (messages_of form.framing) (bytes_read (S.input source.old) (S.input source.new)) 0 (cuts_made (S.input source.old) (S.input source.new)) }
-
-    ensures silent { result ≡ 0 → E.output errors.new ≡ E.output errors.old }
-    ensures usage_front { result ≡ 2 → IsTrue (E.output errors.old).told → IsFront (bytes_appended (E.output errors.old) (E.output errors.new)) usage_line }
-    ensures usage_line { result ≡ 2 → IsTrue (E.output errors.old).told → (Rose (E.output errors.old).faults (E.output errors.new).faults → ⊥)
-        → bytes_appended (E.output errors.old) (E.output errors.new) ≡ usage_line }
+    // Each status is that of an answer of the server, with its cause, what was answered before it, and its text.
+    ensures ends { (form : Form) → asked words.now ≡ Some form
+        → Ends form (S.input source.old) (S.input source.new) (K.output sink.old) (K.output sink.new) (E.output errors.old) (E.output errors.new) result }
 
     // A clean line is served to its end.
-    ensures complete { (form : Form) → asked words.now ≡ Some form → IsTrue (S.input source.old).told → IsTrue (K.output sink.old).told
+    ensures complete { (form : Form) → asked words.now ≡ Some form → IsTrue (S.input source.old).told
         → IsCleanLine (messages_of form.framing) (S.input source.old).left → length (S.input source.old).left < 2 ^ 64 - 1
         → (Rose (S.input source.old).faults (S.input source.new).faults → ⊥)
         → (Rose (K.output sink.old).faults (K.output sink.new).faults → ⊥)
@@ -117,7 +93,11 @@ pub fn run<S: Source, K: Sink, E: Sink>(
         report(errors, USAGE_LINE);
         return USAGE;
     };
-    match serve(alloc, form, source, sink) {
+    let Ok(mut store) = open(alloc, form) else {
+        report_fault(errors, ProcessError::NoMemory);
+        return NO_MEMORY;
+    };
+    match serve(alloc, form.framing, &mut store, source, sink) {
         Ok(()) => 0,
         Err(error) => {
             report_fault(errors, error);

@@ -1,9 +1,8 @@
 //! The statuses of the program, and the lines that tell them.
-ghost use Rattle.std.specs.Prelude.{◌≡◌, ◌≢◌, ℕ, ◌+◌, ◌≤◌, ◌++◌, length, IsTrue, Some};
+ghost use Rattle.std.specs.Prelude.{◌≡◌, ◌≢◌, ℕ, ◌+◌, ◌≤◌, ◌++◌, length, Some};
 ghost use Rattle.arrayvec.specs.ArrayString.{array_string_len};
-ghost use Rattle.modbus_link.specs.Outside.{Rose, Extends, bytes_appended, IsFront};
 ghost use Rattle.modbus_server.specs.declared.error.ProcessError.TheVariants.{ResponseTooLong, InvalidProtocol};
-ghost use Rattle.modbus_app.specs.Status.{status_of, line_of, usage_line};
+ghost use Rattle.modbus_app.specs.Status.{status_of, line_of, usage_line, Reports};
 
 use arrayvec::ArrayString;
 use itoa::Buffer;
@@ -13,6 +12,9 @@ use modbus_server::ProcessError;
 
 /// The status of a usage fault.
 pub const USAGE: u8 = 2;
+
+/// The status of want of memory.
+pub const NO_MEMORY: u8 = 11;
 
 /// The line of a usage fault.
 pub const USAGE_LINE: &str =
@@ -37,7 +39,7 @@ pub fn status(error: ProcessError) -> u8
         ProcessError::TurnLimit => 8,
         ProcessError::InvalidLength => 9,
         ProcessError::InvalidProtocol(_) => 10,
-        ProcessError::NoMemory => 11,
+        ProcessError::NoMemory => NO_MEMORY,
         ProcessError::ResponseTooLong(_) => unreachable!(),
     }
 }
@@ -106,20 +108,14 @@ fn line(error: ProcessError) -> &'static str
 
 /// Writes a line, as far as the sink takes it.
 pub fn report<E: Sink>(errors: &mut E, line: &str)
-    ensures sink { Extends (E.output errors.old) (E.output errors.new) }
-    ensures front { IsTrue (E.output errors.old).told → IsFront (bytes_appended (E.output errors.old) (E.output errors.new)) line.now }
-    ensures whole { IsTrue (E.output errors.old).told → (Rose (E.output errors.old).faults (E.output errors.new).faults → ⊥)
-        → bytes_appended (E.output errors.old) (E.output errors.new) ≡ line.now }
+    ensures { Reports (E.output errors.old) (E.output errors.new) line.now }
 {
     let _ = write_all(errors, line.as_bytes());
 }
 
 /// Writes the line of a fault, as far as the sink takes it.
 pub fn report_fault<E: Sink>(errors: &mut E, error: ProcessError)
-    ensures sink { Extends (E.output errors.old) (E.output errors.new) }
-    ensures front { IsTrue (E.output errors.old).told → IsFront (bytes_appended (E.output errors.old) (E.output errors.new)) (line_of error) }
-    ensures whole { IsTrue (E.output errors.old).told → (Rose (E.output errors.old).faults (E.output errors.new).faults → ⊥)
-        → bytes_appended (E.output errors.old) (E.output errors.new) ≡ line_of error }
+    ensures { Reports (E.output errors.old) (E.output errors.new) (line_of error) }
 {
     match error {
         ProcessError::InvalidProtocol(protocol) => report(errors, protocol_line(protocol).as_str()),

@@ -20,8 +20,6 @@ pub mod rtu;
 mod server;
 mod slave;
 pub mod tcp;
-#[cfg(test)]
-mod tests;
 
 pub use crate::code::{ConformityLevel, ExceptionCode, FunctionCode, ReadCode};
 pub use crate::fault::{

@@ -4,7 +4,7 @@ use Rattle.std.proofs.lemmas.Grind.{common_steps}
 use Rattle.std.proofs.lemmas.List.{append-nil, length-drop, drop-drop}
 use Rattle.modbus_link.specs.Cuts.{cuts_of, kept_cut, memory_input}
 use Rattle.modbus_link.specs.Outside.{Gives, bytes_read, cuts_made, one_cut}
-use Rattle.modbus_link.proofs.Runs.{Gives-once, bytes_read-once, cuts_made-once, one_cut-one}
+use Rattle.modbus_link.specs.Runs.{Gives-once, bytes_read-once, cuts_made-once, one_cut-one}
 
 abbrev NoneFrom : ℕ → List ℕ → Type 0
 NoneFrom at rooms = (k : ℕ) → at ≤ k → get_or rooms k 0 ≡ 0

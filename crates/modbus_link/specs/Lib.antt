@@ -1,3 +1,9 @@
 pub mod Outside
+pub mod Runs
+pub mod Reads
+pub mod Passing
+pub mod Through
+pub mod Together
 pub mod Cuts
 pub mod Memory
+pub mod Line

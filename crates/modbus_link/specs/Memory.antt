@@ -1,5 +1,5 @@
 -- What the objects in memory keep, and what they mean as a source and a sink.
-use Rattle.std.specs.Prelude.{◌-◌, ◌^◌, ◌<◌, ◌≤◌, ◌+◌, ◌≡◌, ◌⊎◌, min, All, Contains, ℕ, true, List, [], length, replicate, ◌==◌, if◌then◌else◌}
+use Rattle.std.specs.Prelude.{◌-◌, ◌^◌, ◌<◌, ◌≤◌, ◌+◌, ◌≡◌, ◌⊎◌, min, All, Contains, ℕ, true, List, [], length, replicate, ◌==◌, if◌then◌else◌, Result, Ok, Err}
 use Rattle.modbus_link.specs.Outside.{Input, Output}
 use Rattle.modbus_link.specs.Cuts.{memory_input}
 
@@ -38,6 +38,11 @@ source_input source = memory_input source.bytes source.rooms source.given source
 -- the number after a call, of a counter that stays at its last number
 abbrev pub counted : ℕ → ℕ
 counted calls = min (calls + 1) (2 ^ 64 - 1)
+
+-- a call that succeeds leaves the count of faults as it was, and one that fails raises it by one
+abbrev pub CountsFault : {E : Type 0} → Result ℕ E → ℕ → ℕ → Type 0
+CountsFault (Ok n) old new = new ≡ old
+CountsFault (Err e) old new = new ≡ counted old
 
 -- the next call is one that fails
 abbrev pub FailsNow : List ℕ → ℕ → Type 0

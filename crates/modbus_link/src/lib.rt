@@ -2,17 +2,21 @@
 //!
 //! A `Source` gives bytes and a `Sink` takes them; both are described by what they mean, so that a contract above can say which
 //! bytes a call read and wrote, in which pieces, and what failed. There are sources and sinks in memory, which tell all that, and
-//! adapters over the readers and writers of std, which tell only how often they failed.
+//! adapters over the readers and writers of std, which tell only how often they failed. A `Link` has both ends and can be shut down.
 #![tactic(auto)]
 
 mod both;
+mod link;
 mod memory;
+mod memory_link;
 mod outside;
 mod real;
 mod write;
 
 pub use both::Both;
+pub use link::Link;
 pub use memory::{MemorySink, MemorySource};
+pub use memory_link::MemoryLink;
 pub use outside::{Ends, Failed, Sink, Source};
 pub use real::{ReadSource, WriteSink};
 pub use write::write_all;

@@ -2,7 +2,7 @@
 ghost use Rattle.std.specs.Prelude.{[], ◌≡◌, ◌↔◌, ℕ, ◌+◌, ◌<◌, ◌≤◌, length, All, Contains, IsTrue, IfOk, OnErr, IsErr, vec_len, vec_capacity, slice_index};
 ghost use Rattle.std.specs.Io.{ReadsAtMost, WritesAtMost};
 ghost use Rattle.modbus_link.specs.Outside.{Rose, Advances, Extends, bytes_appended, ReadIsTold, front_of, untold_input, untold_output};
-ghost use Rattle.modbus_link.specs.Memory.{SourceState, SinkState, source_input, sink_output, source_at_start, sink_at_start, FailsNow, GivesMost, KeepsSource, FailsToTake, taken_of, KeepsSink};
+ghost use Rattle.modbus_link.specs.Memory.{SourceState, SinkState, source_input, sink_output, source_at_start, sink_at_start, FailsNow, GivesMost, KeepsSource, CountsFault, FailsToTake, taken_of, KeepsSink};
 
 use crate::outside::{Ends, Failed, Sink, Source};
 use std::alloc::{AllocError, Global};
@@ -105,6 +105,7 @@ impl Source for MemorySource {
         ensures fails { IsErr result ↔ FailsNow self.old.fails self.old.calls }
         ensures most { IfOk result (GivesMost self.old (length room.old)) }
         ensures keeps { KeepsSource self.old self.new }
+        ensures counts { CountsFault result self.old.faults self.new.faults }
     {
         let call = self.calls;
         self.calls = call.saturating_add(1);
@@ -205,6 +206,7 @@ impl Sink for MemorySink {
         ensures fails { IsErr result ↔ FailsToTake self.old (length piece.now) }
         ensures takes { IfOk result (λ count. count ≡ taken_of self.old (length piece.now)) }
         ensures keeps { KeepsSink self.old self.new }
+        ensures counts { CountsFault result self.old.faults self.new.faults }
     {
         let call = self.calls;
         self.calls = call.saturating_add(1);
@@ -218,38 +220,5 @@ impl Sink for MemorySink {
             Ok(()) => Ok(count),
             Err(_) => unreachable!(),
         }
-    }
-}
-
-#[cfg(test)]
-mod tests {
-    use super::*;
-    use std::test::Fail;
-
-    #[test]
-    fn reads_stop_at_stops_and_fail_by_number(rt: HostRuntime) -> Result<(), Fail> {
-        let mut source = MemorySource::new(rt.alloc(), b"abcdef", &[2, 9], &[1])?;
-        let mut room = [0u8; 3];
-        assert_eq!(rt; source.read(&mut room), Ok(2));
-        assert_eq!(rt; room, *b"ab\0");
-        assert_eq!(rt; source.read(&mut room), Err(Failed));
-        assert_eq!(rt; source.read(&mut room), Ok(3));
-        assert_eq!(rt; room, *b"cde");
-        assert_eq!(rt; source.given(), 5);
-        assert_eq!(rt; source.read(&mut room), Ok(1));
-        assert_eq!(rt; source.read(&mut room), Ok(0));
-        Ok(())
-    }
-
-    #[test]
-    fn writes_take_what_is_free_and_fail_by_number(rt: HostRuntime) -> Result<(), Fail> {
-        let mut sink = MemorySink::new(rt.alloc(), 5, 3, &[1])?;
-        assert_eq!(rt; sink.write(b"abcd"), Ok(3));
-        assert_eq!(rt; sink.write(b"d"), Err(Failed));
-        assert_eq!(rt; sink.write(b"defg"), Ok(2));
-        assert_eq!(rt; sink.write(b"f"), Err(Failed));
-        assert_eq!(rt; sink.write(b""), Ok(0));
-        assert_eq!(rt; sink.bytes(), b"abcde".as_slice());
-        Ok(())
     }
 }

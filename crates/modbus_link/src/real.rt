@@ -1,12 +1,52 @@
 //! Adapters over the readers and writers of std, the trusted edge: they tell no content, only how often they failed.
+//!
+//! A call that a signal interrupts is tried again and is no fault, as with std's own `read_exact` and `write_all`.
 ghost use Rattle.std.specs.Prelude.{◌≡◌};
+ghost use Rattle.std.specs.Io.{ReadsAtMost, WritesAtMost};
 ghost use Rattle.modbus_link.specs.Outside.{untold_input, untold_output};
 
 use crate::outside::{Ends, Failed, Sink, Source};
-use std::io::{Read, Write};
+use std::io::{Error, ErrorKind, Read, Result as IoResult, Write};
 use std::marker::Model;
 
-/// A source over any reader.
+// One read, tried again where a signal interrupts it.
+fn read_once<R: Read>(reader: &mut R, room: &mut [u8]) -> IoResult<usize>
+    ensures { ReadsAtMost result room.new }
+{
+    for _ in 0..u64::MAX {
+        match reader.read(room) {
+            Err(error) if error.kind() == ErrorKind::Interrupted => {}
+            result => return result,
+        }
+    }
+    Err(Error::from(ErrorKind::Interrupted))
+}
+
+// One write, tried again where a signal interrupts it.
+fn write_once<W: Write>(writer: &mut W, piece: &[u8]) -> IoResult<usize>
+    ensures { WritesAtMost result piece.now }
+{
+    for _ in 0..u64::MAX {
+        match writer.write(piece) {
+            Err(error) if error.kind() == ErrorKind::Interrupted => {}
+            result => return result,
+        }
+    }
+    Err(Error::from(ErrorKind::Interrupted))
+}
+
+// One flush, tried again where a signal interrupts it.
+fn flush_once<W: Write>(writer: &mut W) -> IoResult<()> {
+    for _ in 0..u64::MAX {
+        match writer.flush() {
+            Err(error) if error.kind() == ErrorKind::Interrupted => {}
+            result => return result,
+        }
+    }
+    Err(Error::from(ErrorKind::Interrupted))
+}
+
+/// A source over any reader. A read that a signal interrupts is tried again.
 #[derive(Drop)]
 pub struct ReadSource<R> {
     reader: R,
@@ -37,7 +77,7 @@ impl<R: Read> Ends for ReadSource<R> {
 
 impl<R: Read> Source for ReadSource<R> {
     fn read(&mut self, room: &mut [u8]) -> Result<usize, Failed> {
-        match self.reader.read(room) {
+        match read_once(&mut self.reader, room) {
             Ok(count) => Ok(count),
             Err(_) => {
                 self.faults = self.faults.saturating_add(1);
@@ -47,7 +87,7 @@ impl<R: Read> Source for ReadSource<R> {
     }
 }
 
-/// A sink over any writer, which it flushes after each write.
+/// A sink over any writer, which it flushes after each write. A write or flush that a signal interrupts is tried again.
 #[derive(Drop)]
 pub struct WriteSink<W> {
     writer: W,
@@ -79,11 +119,11 @@ impl<W: Write> Ends for WriteSink<W> {
 impl<W: Write> Sink for WriteSink<W> {
     /// Writes and flushes. A writer that takes nothing of a piece that isn't empty has failed.
     fn write(&mut self, piece: &[u8]) -> Result<usize, Failed> {
-        let taken = match self.writer.write(piece) {
+        let taken = match write_once(&mut self.writer, piece) {
             Ok(count) if count > 0 || piece.is_empty() => Some(count),
             _ => None,
         };
-        let is_flushed = self.writer.flush().is_ok();
+        let is_flushed = flush_once(&mut self.writer).is_ok();
         match taken {
             Some(count) if is_flushed => Ok(count),
             _ => {
@@ -91,35 +131,5 @@ impl<W: Write> Sink for WriteSink<W> {
                 Err(Failed)
             }
         }
-    }
-}
-
-#[cfg(test)]
-mod tests {
-    use super::*;
-    use std::io;
-    use std::test::Fail;
-
-    #[test]
-    fn a_reader_is_read_to_its_end(rt: HostRuntime) {
-        let mut source = ReadSource::new(b"abc".as_slice());
-        let mut room = [0u8; 2];
-        assert_eq!(rt; source.read(&mut room), Ok(2));
-        assert_eq!(rt; room, *b"ab");
-        assert_eq!(rt; source.read(&mut room), Ok(1));
-        assert_eq!(rt; room, *b"cb");
-        assert_eq!(rt; source.read(&mut room), Ok(0));
-    }
-
-    #[test]
-    fn a_writer_takes_what_fits_and_then_fails(rt: HostRuntime) {
-        let mut buffer = [0u8; 3];
-        {
-            let mut sink = WriteSink::new(buffer.as_mut_slice());
-            assert_eq!(rt; sink.write(b"ab"), Ok(2));
-            assert_eq!(rt; sink.write(b"cd"), Ok(1));
-            assert_eq!(rt; sink.write(b"d"), Err(Failed));
-        }
-        assert_eq!(rt; buffer, *b"abc");
     }
 }

@@ -1,5 +1,6 @@
 pub mod Sizes
 pub mod Bits
+pub mod CoilsRead
 pub mod Again
 pub mod First
 pub mod Unpacked
@@ -9,3 +10,4 @@ pub mod ObjectsBack
 pub mod ReadObjects
 pub mod ResponsesBack
 pub mod WriteObjects
+pub mod PlacesAfter

@@ -1,7 +1,8 @@
 -- The requests that read back from their PDUs, and the sizes of PDUs.
-use Rattle.std.specs.Prelude.{◌≡◌, ℕ, ◌+◌, ◌*◌, ◌<◌, ◌≤◌, ◌^◌, length, Ok, ⊤}
+use Rattle.std.specs.Prelude.{◌≡◌, ℕ, ◌+◌, ◌*◌, ◌<◌, ◌^◌, length, Ok, ⊤}
 use Rattle.std.specs.List.{AllByRecursion}
 use Rattle.modbus_frame.specs.Meaning.{Asked, ReadCoils, ReadDiscreteInputs, WriteSingleCoil, WriteMultipleCoils, ReadInputRegisters, ReadHoldingRegisters, WriteSingleRegister, WriteMultipleRegisters, ReportServerId, MaskWriteRegister, ReadWriteMultipleRegisters, ReadDeviceIdentification, Custom}
+use Rattle.modbus_pdu.specs.Coding.{Fits}
 use Rattle.modbus_pdu.specs.Fields.{packed_size}
 use Rattle.modbus_pdu.specs.RequestOf.{request_of, IsModelled}
 use Rattle.modbus_pdu.specs.RequestPdu.{request_pdu}
@@ -36,9 +37,9 @@ abbrev pub IsReadable : Asked → Type 0
 IsReadable (Custom code bytes) = (code < 0x80) × (IsModelled code → ⊥)
 IsReadable r = ⊤
 
--- a request that fits, in at most 253 bytes, is what its PDU reads as
+-- a request that fits is what its PDU reads as
 abbrev pub ReadsBack : Asked → Type 0
-ReadsBack r = IsReadable r → length (request_pdu r) ≤ 253 → request_of (request_pdu r) ≡ Ok r
+ReadsBack r = IsReadable r → Fits (request_pdu r) → request_of (request_pdu r) ≡ Ok r
 
 -- How many bytes the PDU of a request has.
 abbrev pub request_size : Asked → ℕ

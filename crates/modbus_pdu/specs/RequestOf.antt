@@ -6,6 +6,7 @@ use Rattle.modbus_frame.specs.declared.fault.Reason.{Reason}
 use Rattle.modbus_frame.specs.declared.fault.Reason.TheVariants as reason
 use Rattle.modbus_frame.specs.declared.code.ReadCode.{ReadCode}
 use Rattle.modbus_frame.specs.Meaning.{Asked, ReadCoils, ReadDiscreteInputs, WriteSingleCoil, WriteMultipleCoils, ReadInputRegisters, ReadHoldingRegisters, WriteSingleRegister, WriteMultipleRegisters, ReportServerId, MaskWriteRegister, ReadWriteMultipleRegisters, ReadDeviceIdentification, Custom}
+use Rattle.modbus_pdu.specs.declared.limits.TheConstants.{MAX_PDU}
 use Rattle.modbus_pdu.specs.Fields.{word_at, words_of, coils_of, coil_of}
 use Rattle.modbus_pdu.specs.Reading.{◌>>=◌, read_code_or}
 
@@ -31,7 +32,7 @@ single_coil_of pdu =
 -- left of them is not looked at.
 unfoldable pub coils_written_of : List ℕ → Result (ℕ × List Bool) Reason
 coils_written_of pdu =
-    if nat_lt 253 (length pdu) then Err reason.SizeExceeded
+    if nat_lt MAX_PDU (length pdu) then Err reason.SizeExceeded
     else if nat_lt (length pdu) 6 then Err reason.UnexpectedEnd
     else if nat_lt (length pdu) (6 + slice_index pdu 5) then Err reason.TooShort
     else if nat_lt (8 * slice_index pdu 5) (word_at pdu 3) then Err reason.InvalidQuantity
@@ -53,7 +54,7 @@ registers_at place pdu =
 -- Write Multiple Registers (6.12): an address at place 1, registers from place 3 on.
 unfoldable pub words_written_of : List ℕ → Result (ℕ × List ℕ) Reason
 words_written_of pdu =
-    if nat_lt 253 (length pdu) then Err reason.SizeExceeded
+    if nat_lt MAX_PDU (length pdu) then Err reason.SizeExceeded
     else (registers_at 3 pdu >>= λ registers. Ok (word_at pdu 1, registers))
 
 -- Report Server ID (6.13): the function code alone.
@@ -71,7 +72,7 @@ three_words_of pdu =
 -- write's address at place 5, registers from place 7 on.
 unfoldable pub read_write_of : List ℕ → Result (ℕ × ℕ × ℕ × List ℕ) Reason
 read_write_of pdu =
-    if nat_lt 253 (length pdu) then Err reason.SizeExceeded
+    if nat_lt MAX_PDU (length pdu) then Err reason.SizeExceeded
     else (registers_at 7 pdu >>= λ registers. Ok (word_at pdu 1, word_at pdu 3, word_at pdu 5, registers))
 
 -- Read Device Identification (6.21): the MEI type 0E at place 1, the read code at place 2, the object
@@ -80,7 +81,7 @@ unfoldable pub identification_of : List ℕ → Result (ReadCode × ℕ) Reason
 identification_of pdu =
     if nat_lt (length pdu) 2 then Err reason.UnexpectedEnd
     else if slice_index pdu 1 == 0x0E then
-    (if nat_lt 253 (length pdu) then Err reason.SizeExceeded
+    (if nat_lt MAX_PDU (length pdu) then Err reason.SizeExceeded
     else if nat_lt (length pdu) 3 then Err reason.UnexpectedEnd
     else (read_code_or (slice_index pdu 2) >>= λ code.
     if nat_lt (length pdu) 4 then Err reason.UnexpectedEnd

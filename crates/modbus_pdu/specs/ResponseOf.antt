@@ -2,7 +2,7 @@
 -- PDU. Place 0 is the function code. Of several reasons it is the first one of the kind's list. Codes
 -- and bytes are hexadecimal.
 -- (MODBUS Application Protocol V1.1b3, sections 4.1, 6 and 7)
-use Rattle.std.specs.Prelude.{ℕ, zero, suc, ◌+◌, ◌-◌, ◌*◌, ◌/◌, ◌%◌, Bool, true, false, List, [], ◌∷◌, length, take, drop, slice_index, ◌==◌, nat_lt, Some, None, Result, Ok, Err, if◌then◌else◌}
+use Rattle.std.specs.Prelude.{ℕ, zero, suc, ◌+◌, ◌-◌, ◌*◌, ◌/◌, ◌%◌, Bool, true, false, List, [], ◌∷◌, length, take, drop, slice_index, ◌==◌, nat_lt, Some, None, Result, Ok, Err, if◌then◌else◌, ⊤}
 use Rattle.modbus_frame.specs.declared.fault.Reason.{Reason}
 use Rattle.modbus_frame.specs.declared.fault.Reason.TheVariants as reason
 use Rattle.modbus_frame.specs.declared.code.ConformityLevel.{ConformityLevel}
@@ -12,6 +12,7 @@ use Rattle.modbus_frame.specs.declared.response.Response.{Response}
 use Rattle.modbus_frame.specs.declared.response.Response.TheVariants as response
 use Rattle.modbus_frame.specs.declared.response.ExceptionResponse.{ExceptionResponse}
 use Rattle.modbus_frame.specs.Codes.{function_of, exception_of, level_of}
+use Rattle.modbus_pdu.specs.declared.limits.TheConstants.{MAX_PDU}
 use Rattle.modbus_pdu.specs.Fields.{words_of, coils_of}
 use Rattle.modbus_pdu.specs.Reading.{◌>>=◌, read_code_or}
 use Rattle.modbus_pdu.specs.RequestOf.{two_words_of, single_coil_of, three_words_of}
@@ -21,7 +22,7 @@ use Rattle.modbus_pdu.specs.RequestOf.{two_words_of, single_coil_of, three_words
 unfoldable pub coils_read_of : List ℕ → Result (List Bool) Reason
 coils_read_of pdu =
     let count = slice_index pdu 1 in
-    if nat_lt 253 (length pdu) then Err reason.SizeExceeded
+    if nat_lt MAX_PDU (length pdu) then Err reason.SizeExceeded
     else if nat_lt (length pdu) 2 then Err reason.UnexpectedEnd
     else if nat_lt (length pdu) (2 + count) then Err reason.TooShort
     else if nat_lt (2 + count) (length pdu) then Err reason.UndecodedData
@@ -32,7 +33,7 @@ coils_read_of pdu =
 unfoldable pub words_read_of : List ℕ → Result (List ℕ) Reason
 words_read_of pdu =
     let count = slice_index pdu 1 in
-    if nat_lt 253 (length pdu) then Err reason.SizeExceeded
+    if nat_lt MAX_PDU (length pdu) then Err reason.SizeExceeded
     else if nat_lt (length pdu) 2 then Err reason.UnexpectedEnd
     else if count % 2 == 1 then Err reason.InvalidQuantity
     else if nat_lt (length pdu) (2 + count) then Err reason.UnexpectedEnd
@@ -51,7 +52,7 @@ run_status_of status =
 unfoldable pub server_id_of : List ℕ → Result (ℕ × Bool × List ℕ) Reason
 server_id_of pdu =
     let count = slice_index pdu 1 in
-    if nat_lt 253 (length pdu) then Err reason.SizeExceeded
+    if nat_lt MAX_PDU (length pdu) then Err reason.SizeExceeded
     else if nat_lt (length pdu) 2 then Err reason.UnexpectedEnd
     else if nat_lt count 2 then Err reason.TooShort
     else if nat_lt (length pdu) 4 then Err reason.UnexpectedEnd
@@ -82,6 +83,10 @@ objects_at (suc n) place pdu =
     object_at place pdu >>= λ first.
     objects_at n first.1 pdu >>= λ others. Ok (first.0 ∷ others.0, others.1)
 
+-- the place after what was read, or its refusal
+abbrev pub place_after : {A : Type 0} → Result (A × ℕ) Reason → Result ℕ Reason
+place_after read = read >>= λ x. Ok x.1
+
 -- the conformity level of a number, or its refusal
 abbrev pub level_or : ℕ → Result ConformityLevel Reason
 level_or number = elim (level_of number) [ None ↦ Err (reason.InvalidConformity number) | Some level ↦ Ok level ]
@@ -93,7 +98,7 @@ unfoldable pub device_identification_of : List ℕ → Result ReadDeviceIdentifi
 device_identification_of pdu =
     if nat_lt (length pdu) 2 then Err reason.UnexpectedEnd
     else if slice_index pdu 1 == 0x0E then
-    (if nat_lt 253 (length pdu) then Err reason.SizeExceeded
+    (if nat_lt MAX_PDU (length pdu) then Err reason.SizeExceeded
     else if nat_lt (length pdu) 3 then Err reason.UnexpectedEnd
     else (read_code_or (slice_index pdu 2) >>= λ code.
     if nat_lt (length pdu) 4 then Err reason.UnexpectedEnd
@@ -145,3 +150,24 @@ response_result_of pdu =
     if nat_lt (length pdu) 1 then Err reason.UnexpectedEnd
     else if nat_lt (slice_index pdu 0) 0x80 then (response_of pdu >>= λ answer. Ok (Ok answer))
     else (exception_response_of pdu >>= λ refusal. Ok (Err refusal))
+
+-- the responses that carry a list or bytes of their own; all others are a few numbers
+abbrev pub CarriesMemory : Response → Type 0
+CarriesMemory (response.ReadCoils coils) = ⊤
+CarriesMemory (response.ReadDiscreteInputs coils) = ⊤
+CarriesMemory (response.ReadInputRegisters words) = ⊤
+CarriesMemory (response.ReadHoldingRegisters words) = ⊤
+CarriesMemory (response.ReadWriteMultipleRegisters words) = ⊤
+CarriesMemory (response.ReportServerId id run extra) = ⊤
+CarriesMemory (response.ReadDeviceIdentification found) = ⊤
+CarriesMemory (response.Custom code bytes) = ⊤
+CarriesMemory (response.WriteSingleCoil address coil) = ⊥
+CarriesMemory (response.WriteSingleRegister address word) = ⊥
+CarriesMemory (response.WriteMultipleCoils address quantity) = ⊥
+CarriesMemory (response.WriteMultipleRegisters address quantity) = ⊥
+CarriesMemory (response.MaskWriteRegister address and_mask or_mask) = ⊥
+
+-- the same of what a server's PDU stands for: an exception is two numbers
+abbrev pub AnswerCarriesMemory : Result Response ExceptionResponse → Type 0
+AnswerCarriesMemory (Ok answer) = CarriesMemory answer
+AnswerCarriesMemory (Err refusal) = ⊥

@@ -1,5 +1,5 @@
 //! Coils as words, and packed eight a byte (V1.1b3, sections 6.1, 6.5 and 6.11).
-ghost use Rattle.std.specs.Prelude.{◌≡◌, ◌+◌, ◌*◌, ◌≤◌, ◌++◌, length, slice_index_or, false, OnErr, OnOk, IfOk};
+ghost use Rattle.std.specs.Prelude.{◌≡◌, ◌+◌, ◌*◌, ◌≤◌, ◌++◌, ◌∷◌, [], length, slice_index_or, false, OnErr, OnOk, IfOk};
 ghost use Rattle.bytes.specs.Filled.{UsesSpare};
 ghost use Rattle.modbus_pdu.specs.Fields.{bits_at, coil_of, coil_word, coils_of, packed, packed_size};
 
@@ -13,6 +13,7 @@ const OFF: u16 = 0x0000;
 
 /// The word that stands for a coil's state in a write of one coil: 0xFF00 for on, 0x0000 for off
 /// (V1.1b3, section 6.5).
+#[inline]
 pub fn bool_to_coil(state: bool) -> u16
     ensures { result ≡ coil_word state }
 {
@@ -22,6 +23,7 @@ pub fn bool_to_coil(state: bool) -> u16
 /// The coil's state that a word stands for (V1.1b3, section 6.5).
 ///
 /// `InvalidCoil` holds a word that is neither 0xFF00 nor 0x0000.
+#[inline]
 pub fn coil_to_bool(coil: u16) -> Result<bool, Reason>
     ensures { result ≡ coil_of coil }
 {
@@ -33,6 +35,7 @@ pub fn coil_to_bool(coil: u16) -> Result<bool, Reason>
 }
 
 /// How many bytes the coils take when they are packed, eight a byte (V1.1b3, section 6.11).
+#[inline]
 pub fn packed_coils_size(coils: &[Coil]) -> usize
     ensures { result ≡ packed_size (length coils.now) }
 {
@@ -47,11 +50,40 @@ pub fn decode_packed_coils(alloc: Global, bytes: &[u8], count: u16) -> Result<Co
     requires { count ≤ 8 * length bytes.now }
     ensures { IfOk result (λ coils. coils ≡ coils_of bytes.now count) }
 {
-    let mut coils = Vec::with_capacity(alloc, count as usize)?;
-    for i in 0..count as usize {
-        coils.push((bytes[i / 8] >> (i % 8)) % 2 == 1)?;
-    }
+    let mut coils = vec![in alloc; false; count as usize]?;
+    read_coils(coils.as_mut_slice(), bytes);
     Ok(Coils::new(coils))
+}
+
+/// Reads as many coils as there is room for, each whole byte at once.
+fn read_coils(coils: &mut [Coil], bytes: &[u8])
+    requires { length coils.old ≤ 8 * length bytes.now }
+    ensures { coils.new ≡ coils_of bytes.now (length coils.old) }
+{
+    let whole = coils.len() / 8;
+    for k in 0..whole {
+        read_byte(&mut coils[8 * k..8 * k + 8], bytes[k]);
+    }
+    for i in 8 * whole..coils.len() {
+        coils[i] = (bytes[i / 8] >> (i % 8)) % 2 == 1;
+    }
+}
+
+/// Reads the eight coils of a byte, the first in its lowest bit.
+#[inline]
+#[tactic(auto, using(crate::proofs::CoilsRead::eight_written))]
+fn read_byte(coils: &mut [Coil], byte: u8)
+    requires { length coils.old ≡ 8 }
+    ensures { coils.new ≡ coils_of (byte ∷ []) 8 }
+{
+    coils[0] = byte % 2 == 1;
+    coils[1] = (byte >> 1) % 2 == 1;
+    coils[2] = (byte >> 2) % 2 == 1;
+    coils[3] = (byte >> 3) % 2 == 1;
+    coils[4] = (byte >> 4) % 2 == 1;
+    coils[5] = (byte >> 5) % 2 == 1;
+    coils[6] = (byte >> 6) % 2 == 1;
+    coils[7] = (byte >> 7) % 2 == 1;
 }
 
 /// Appends the coils packed, where coil i is bit `i % 8` of byte `i / 8` and unused bits are 0
@@ -77,15 +109,45 @@ pub fn encode_packed_coils(
 }
 
 /// Appends the coils packed, where the buffer has room for them.
-#[tactic(auto, unfolding(crate::specs::Fields::packed))]
 pub(crate) fn put_packed_coils(buf: &mut BytesMut, coils: &[Coil])
     requires { packed_size (length coils.now) ≤ buf.old.spare }
     ensures items { buf.new.items ≡ buf.old.items ++ packed coils.now }
     ensures spare { buf.new.spare + packed_size (length coils.now) ≡ buf.old.spare }
 {
-    for k in 0..packed_coils_size(coils) {
-        buf.extend_reserved(&[packed_byte(coils, 8 * k)]);
+    let start = buf.len();
+    buf.advance_mut(packed_coils_size(coils));
+    write_packed_coils(&mut buf.as_mut_slice()[start..], coils);
+}
+
+/// Writes the coils packed, over as many bytes as they take, each whole byte at once.
+fn write_packed_coils(bytes: &mut [u8], coils: &[Coil])
+    requires { length bytes.old ≡ packed_size (length coils.now) }
+    ensures { bytes.new ≡ packed coils.now }
+{
+    let whole = coils.len() / 8;
+    for k in 0..whole {
+        bytes[k] = whole_byte(coils, 8 * k);
     }
+    if whole < bytes.len() {
+        bytes[whole] = packed_byte(coils, 8 * whole);
+    }
+}
+
+/// The eight coils from a place on, the first in the lowest bit.
+#[inline]
+#[tactic(auto, unfolding(crate::specs::Fields::bits_at))]
+fn whole_byte(coils: &[Coil], place: usize) -> u8
+    requires { place + 8 ≤ length coils.now }
+    ensures { result ≡ bits_at coils.now place 8 }
+{
+    u8::from(coils[place])
+        + 2 * u8::from(coils[place + 1])
+        + 4 * u8::from(coils[place + 2])
+        + 8 * u8::from(coils[place + 3])
+        + 16 * u8::from(coils[place + 4])
+        + 32 * u8::from(coils[place + 5])
+        + 64 * u8::from(coils[place + 6])
+        + 128 * u8::from(coils[place + 7])
 }
 
 /// The eight coils from a place on, the first in the lowest bit. Those past the end are off.

@@ -18,6 +18,7 @@ pub(crate) struct Cursor<'a> {
 
 impl<'a> Cursor<'a> {
     /// A cursor at the first byte.
+    #[inline]
     pub(crate) fn new(bytes: &'a [u8]) -> Cursor<'a>
         ensures start { result.at ≡ 0 }
         ensures bytes { result.bytes.now ≡ bytes.now }
@@ -26,6 +27,7 @@ impl<'a> Cursor<'a> {
     }
 
     /// The next byte.
+    #[inline]
     pub(crate) fn byte(&mut self) -> Result<u8, Reason>
         ensures value { result ≡ (if nat_lt (length self.old.bytes.now) (self.old.at + 1)
             then Err UnexpectedEnd else Ok (slice_index self.old.bytes.now self.old.at)) }
@@ -41,6 +43,7 @@ impl<'a> Cursor<'a> {
     }
 
     /// The next two bytes, the high one first.
+    #[inline]
     pub(crate) fn word(&mut self) -> Result<u16, Reason>
         ensures value { result ≡ (if nat_lt (length self.old.bytes.now) (self.old.at + 2)
             then Err UnexpectedEnd else Ok (word_at self.old.bytes.now self.old.at)) }
@@ -56,6 +59,7 @@ impl<'a> Cursor<'a> {
     }
 
     /// The bytes that are left.
+    #[inline]
     pub(crate) fn rest(&self) -> &'a [u8]
         ensures { result.now ≡ drop self.now.at self.now.bytes.now }
     {
@@ -63,8 +67,9 @@ impl<'a> Cursor<'a> {
     }
 
     /// The PDU may not be longer than an encoded one can be.
+    #[inline]
     pub(crate) fn check_size(&self) -> Result<(), Reason>
-        ensures { result ≡ (if nat_lt 253 (length self.now.bytes.now)
+        ensures { result ≡ (if nat_lt MAX_PDU (length self.now.bytes.now)
             then Err SizeExceeded else Ok tt) }
     {
         if self.bytes.len() > MAX_PDU {
@@ -74,6 +79,7 @@ impl<'a> Cursor<'a> {
     }
 
     /// Nothing may be left.
+    #[inline]
     pub(crate) fn finish(self) -> Result<(), Reason>
         ensures { result ≡ (if nat_lt self.entry.at (length self.entry.bytes.now)
             then Err UndecodedData else Ok tt) }

@@ -3,6 +3,7 @@
 //! A server that refuses a request answers with the request's function code plus 0x80, and the
 //! exception code (MODBUS Application Protocol V1.1b3, section 7).
 ghost use Rattle.std.specs.Prelude.{◌≡◌, ◌<◌, ◌++◌, OnOk, OnErr};
+ghost use Rattle.bytes.specs.Filled.{UsesSpare};
 ghost use Rattle.modbus_frame.specs.Codes.{function_number};
 ghost use Rattle.modbus_pdu.specs.ResponseOf.{exception_response_of};
 ghost use Rattle.modbus_pdu.specs.ResponsePdu.{exception_pdu};
@@ -36,8 +37,10 @@ pub fn decode_exception(pdu: &[u8]) -> Result<ExceptionResponse, Reason>
     }
 }
 
-/// Appends the PDU of an exception, two bytes (section 7). Without memory the buffer is left as it
-/// was. What memory it takes is of the buffer's own allocator.
+/// Appends the PDU of an exception, two bytes (section 7).
+///
+/// The one error is want of memory, which leaves the bytes of the buffer as they were and comes only where the buffer had no room
+/// for both. What memory it takes is of the buffer's own allocator.
 pub fn encode_exception_response_pdu(
     _alloc: Global,
     buf: &mut BytesMut,
@@ -46,6 +49,7 @@ pub fn encode_exception_response_pdu(
     requires { function_number response.function < 0x80 }
     ensures ok { OnOk result (buf.new.items ≡ buf.old.items ++ exception_pdu response) }
     ensures err { OnErr result (buf.new.items ≡ buf.old.items) }
+    ensures spare { UsesSpare result buf.old.spare buf.new.spare 2 }
 {
     buf.reserve(EXCEPTION_SIZE)?;
     put_byte(buf, response.function.value() + EXCEPTION_BIT);

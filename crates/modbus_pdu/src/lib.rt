@@ -15,10 +15,6 @@ mod request_encoder;
 mod response_decoder;
 mod response_encoder;
 mod response_laws;
-#[cfg(test)]
-mod response_tests;
-#[cfg(test)]
-mod tests;
 mod words;
 mod writing;
 
@@ -29,11 +25,11 @@ pub use crate::exception::{decode_exception, encode_exception_response_pdu};
 pub use crate::laws::{
     coils_are_packed, request_reads_back, requests_have_sizes, requests_read_back,
 };
-pub use crate::limits::TooLong;
+pub use crate::limits::{MAX_PDU, TooLong};
 pub use crate::request_decoder::decode_request;
 pub use crate::request_encoder::{encode_request_pdu, request_pdu_size};
 pub use crate::response_decoder::{decode_response, decode_response_pdu};
 pub use crate::response_encoder::{
     encode_response_pdu, encode_response_result_pdu, response_pdu_size, response_result_pdu_size,
 };
-pub use crate::response_laws::responses_read_back;
+pub use crate::response_laws::{responses_have_sizes, responses_read_back};

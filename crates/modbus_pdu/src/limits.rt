@@ -1,12 +1,14 @@
 //! The limit on the size of a PDU, and the number that marks device identification.
 ghost use Rattle.std.specs.Prelude.{◌≡◌, ◌<◌, ◌≤◌, ◌++◌, codes, IfOk, IfErr, Some};
 ghost use Rattle.std.specs.Fmt.{decimal};
+ghost use Rattle.modbus_frame.specs.declared.fault.EncodeError.TheVariants as encode;
 
+use modbus_frame::EncodeError;
 use std::error::Error;
 use std::fmt;
 
 /// The most bytes of a PDU (V1.1b3, section 4.1).
-pub(crate) const MAX_PDU: usize = 253;
+pub const MAX_PDU: usize = 253;
 
 /// The MEI type of device identification (V1.1b3, section 6.21).
 pub(crate) const MEI_DEVICE_IDENTIFICATION: u8 = 0x0E;
@@ -28,10 +30,19 @@ impl fmt::Display for TooLong {
 
 impl Error for TooLong {}
 
+impl From<TooLong> for EncodeError {
+    ghost from_gives = { λ fault error. error ≡ encode.TooLong fault.0 };
+
+    fn from(fault: TooLong) -> EncodeError {
+        EncodeError::TooLong(fault.0)
+    }
+}
+
 /// The size, where a PDU may have so many bytes.
+#[inline]
 pub(crate) fn within_limit(size: usize) -> Result<usize, TooLong>
-    ensures fits { IfOk result (λ found. (found ≡ size) × (size ≤ 253)) }
-    ensures long { IfErr result (λ error. (253 < size) × (error.0 ≡ size)) }
+    ensures fits { IfOk result (λ found. (found ≡ size) × (size ≤ MAX_PDU)) }
+    ensures long { IfErr result (λ error. (MAX_PDU < size) × (error.0 ≡ size)) }
 {
     if size <= MAX_PDU {
         Ok(size)

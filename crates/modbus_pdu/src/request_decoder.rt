@@ -2,7 +2,7 @@
 //!
 //! A reader for each layout of fields, and one that chooses by the function code. Each answers what
 //! its definition says of the places of the whole PDU.
-ghost use Rattle.std.specs.Prelude.{◌≡◌, ◌<◌, IfOk, IsOk, IsOkAnd};
+ghost use Rattle.std.specs.Prelude.{◌≡◌, ◌≢◌, ◌<◌, IfOk, IsOk, IsOkAnd};
 ghost use Rattle.modbus_frame.specs.Codes.{function_number};
 ghost use Rattle.modbus_frame.specs.Meaning.{meaning, function_asked};
 ghost use Rattle.modbus_pdu.specs.Reading.{Gives};
@@ -47,7 +47,7 @@ pub fn decode_request(alloc: Global, pdu: &[u8]) -> Result<Request<'static>, Pdu
 }
 
 /// The request that the function code asks for.
-#[tactic(auto, unfolding(crate::specs::RequestOf::asked_by, crate::specs::RequestOf::only_code_of))]
+#[tactic(auto, unfolding(crate::specs::RequestOf::asked_by))]
 fn request_by_code(
     alloc: Global,
     code: u8,
@@ -76,13 +76,34 @@ fn request_by_code(
             let (address, quantity) = two_words(cursor)?;
             Ok(Request::ReadInputRegisters(address, quantity))
         }
-        0x05 => {
-            let (address, coil) = single_coil(cursor)?;
-            Ok(Request::WriteSingleCoil(address, coil))
-        }
         0x06 => {
             let (address, word) = two_words(cursor)?;
             Ok(Request::WriteSingleRegister(address, word))
+        }
+        _ => request_of_other_fields(alloc, code, cursor),
+    }
+}
+
+/// The request that a function code asks for which is not that of an address and a word.
+// A call of its own, so that the short requests don't pay for the fields of the long ones.
+#[inline(never)]
+#[tactic(auto, unfolding(crate::specs::RequestOf::asked_by, crate::specs::RequestOf::only_code_of))]
+fn request_of_other_fields(
+    alloc: Global,
+    code: u8,
+    cursor: Cursor<'_>,
+) -> Result<Request<'static>, PduError>
+    requires start { cursor.at ≡ 1 }
+    requires other { (code ≢ 0x01) × (code ≢ 0x02) × (code ≢ 0x03) × (code ≢ 0x04) × (code ≢ 0x06) }
+    ensures value { Gives meaning result (asked_by code cursor.entry.bytes.now) }
+    ensures memory { result ≡ Err PduError.NoMemory
+        → IsOkAnd (asked_by code cursor.entry.bytes.now) CarriesList }
+    ensures code { IfOk result (λ request. function_number (function_asked (meaning request)) < 0x80) }
+{
+    match code {
+        0x05 => {
+            let (address, coil) = single_coil(cursor)?;
+            Ok(Request::WriteSingleCoil(address, coil))
         }
         0x0F => {
             let (address, coils) = coils_written(alloc, cursor)?;

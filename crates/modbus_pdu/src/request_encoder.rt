@@ -2,10 +2,11 @@
 ghost use Rattle.std.specs.Prelude.{◌≡◌, ◌≤◌, ◌+◌, ◌*◌, ◌++◌, ◌<◌, ◌^◌, ◌-◌, min, length, OnOk, OnErr, IfOk, IfErr};
 ghost use Rattle.bytes.specs.Filled.{UsesSpare};
 ghost use Rattle.modbus_frame.specs.Meaning.{meaning};
+ghost use Rattle.modbus_pdu.specs.Coding.{Fits, told_size};
 ghost use Rattle.modbus_pdu.specs.RequestPdu.{counted_registers, request_pdu};
 
 use crate::coils::{bool_to_coil, packed_coils_size, put_packed_coils};
-use crate::limits::{MEI_DEVICE_IDENTIFICATION, TooLong, within_limit};
+use crate::limits::{MAX_PDU, MEI_DEVICE_IDENTIFICATION, TooLong, within_limit};
 use crate::writing::{put_byte, put_word, put_words};
 use bytes::BytesMut;
 use modbus_frame::{Request, Word};
@@ -16,9 +17,9 @@ use std::alloc::{AllocError, Global};
 /// `TooLong` holds the size of a PDU that does not fit.
 pub fn request_pdu_size(request: &Request<'_>) -> Result<usize, TooLong>
     ensures fits { IfOk result (λ size. (size ≡ length (request_pdu (meaning request.now)))
-        × (size ≤ 253)) }
-    ensures long { IfErr result (λ error. (253 < length (request_pdu (meaning request.now)))
-        × (error.0 ≡ min (length (request_pdu (meaning request.now))) (2 ^ 64 - 1))) }
+        × (size ≤ MAX_PDU)) }
+    ensures long { IfErr result (λ error. (MAX_PDU < length (request_pdu (meaning request.now)))
+        × (error.0 ≡ told_size (request_pdu (meaning request.now)))) }
 {
     within_limit(request_len(request))
 }
@@ -33,7 +34,7 @@ pub fn encode_request_pdu(
     buf: &mut BytesMut,
     request: &Request<'_>,
 ) -> Result<(), AllocError>
-    requires { length (request_pdu (meaning request.now)) ≤ 253 }
+    requires { Fits (request_pdu (meaning request.now)) }
     ensures ok { OnOk result (buf.new.items ≡ buf.old.items ++ request_pdu (meaning request.now)) }
     ensures err { OnErr result (buf.new.items ≡ buf.old.items) }
     ensures spare { UsesSpare result buf.old.spare buf.new.spare
@@ -75,7 +76,7 @@ fn request_len(request: &Request<'_>) -> usize
 /// Appends the PDU of the request, where the buffer has room for it.
 #[tactic(auto, using(crate::proofs::Sizes::sizes), unfolding(crate::specs::RequestPdu::request_pdu))]
 fn put_request(buf: &mut BytesMut, request: &Request<'_>)
-    requires fits { length (request_pdu (meaning request.now)) ≤ 253 }
+    requires fits { Fits (request_pdu (meaning request.now)) }
     requires room { length (request_pdu (meaning request.now)) ≤ buf.old.spare }
     ensures items { buf.new.items ≡ buf.old.items ++ request_pdu (meaning request.now) }
     ensures spare { buf.new.spare + length (request_pdu (meaning request.now)) ≡ buf.old.spare }

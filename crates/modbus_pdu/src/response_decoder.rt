@@ -2,9 +2,9 @@
 //!
 //! A PDU is read from the left by a cursor. What it stands for, and which of several reasons is told,
 //! is defined by places of the whole PDU (MODBUS Application Protocol V1.1b3, section 6).
-ghost use Rattle.std.specs.Prelude.{◌≡◌};
+ghost use Rattle.std.specs.Prelude.{◌≡◌, ◌≤◌, length, Err, IfOk, IsOk, IsOkAnd};
 ghost use Rattle.modbus_pdu.specs.Reading.{Gives};
-ghost use Rattle.modbus_pdu.specs.ResponseOf.{coils_read_of, words_read_of, run_status_of, server_id_of, object_at, objects_at, device_identification_of, answered_by, response_of, response_result_of};
+ghost use Rattle.modbus_pdu.specs.ResponseOf.{AnswerCarriesMemory, CarriesMemory, coils_read_of, words_read_of, run_status_of, server_id_of, object_at, objects_at, place_after, device_identification_of, answered_by, response_of, response_result_of};
 
 use crate::coils::decode_packed_coils;
 use crate::cursor::Cursor;
@@ -29,7 +29,8 @@ const OFF: u8 = 0x00;
 #[tactic(auto, unfolding(crate::specs::ResponseOf::coils_read_of))]
 fn coils_read(alloc: Global, mut cursor: Cursor<'_>) -> Result<Coils, PduError>
     requires { cursor.at ≡ 1 }
-    ensures { Gives (λ coils. coils) result (coils_read_of cursor.entry.bytes.now) }
+    ensures value { Gives (λ coils. coils) result (coils_read_of cursor.entry.bytes.now) }
+    ensures memory { result ≡ Err PduError.NoMemory → IsOk (coils_read_of cursor.entry.bytes.now) }
 {
     cursor.check_size()?;
     let count = cursor.byte()?;
@@ -47,7 +48,8 @@ fn coils_read(alloc: Global, mut cursor: Cursor<'_>) -> Result<Coils, PduError>
 #[tactic(auto, unfolding(crate::specs::ResponseOf::words_read_of))]
 fn words_read(alloc: Global, mut cursor: Cursor<'_>) -> Result<Words, PduError>
     requires { cursor.at ≡ 1 }
-    ensures { Gives (λ words. words) result (words_read_of cursor.entry.bytes.now) }
+    ensures value { Gives (λ words. words) result (words_read_of cursor.entry.bytes.now) }
+    ensures memory { result ≡ Err PduError.NoMemory → IsOk (words_read_of cursor.entry.bytes.now) }
 {
     cursor.check_size()?;
     let count = cursor.byte()? as usize;
@@ -79,7 +81,8 @@ fn run_status(status: u8) -> Result<bool, Reason>
 #[tactic(auto, unfolding(crate::specs::ResponseOf::server_id_of))]
 fn server_id(alloc: Global, mut cursor: Cursor<'_>) -> Result<(u8, bool, Data), PduError>
     requires { cursor.at ≡ 1 }
-    ensures { Gives (λ x. (x.0, x.1, x.2)) result (server_id_of cursor.entry.bytes.now) }
+    ensures value { Gives (λ x. (x.0, x.1, x.2)) result (server_id_of cursor.entry.bytes.now) }
+    ensures memory { result ≡ Err PduError.NoMemory → IsOk (server_id_of cursor.entry.bytes.now) }
 {
     cursor.check_size()?;
     let count = cursor.byte()? as usize;
@@ -96,6 +99,35 @@ fn server_id(alloc: Global, mut cursor: Cursor<'_>) -> Result<(u8, bool, Data), 
         return Err(PduError::Refused(Reason::UndecodedData));
     }
     Ok((id, run, Data::new(Vec::from_slice(alloc, extra)?)))
+}
+
+/// The place after the object at a place.
+#[tactic(auto, unfolding(crate::specs::ResponseOf::object_at))]
+fn object_end(pdu: &[u8], place: usize) -> Result<usize, Reason>
+    requires { place ≤ length pdu.now }
+    ensures end { result ≡ place_after (object_at place pdu.now) }
+    ensures within { IfOk result (λ end. end ≤ length pdu.now) }
+{
+    if pdu.len() - place < 2 {
+        return Err(Reason::UnexpectedEnd);
+    }
+    let end = place + 2 + pdu[place + 1] as usize;
+    if end > pdu.len() {
+        return Err(Reason::InvalidObjectLength);
+    }
+    Ok(end)
+}
+
+/// The place after so many objects from a place on.
+fn objects_end(pdu: &[u8], place: usize, count: u8) -> Result<usize, Reason>
+    requires { place ≤ length pdu.now }
+    ensures { result ≡ place_after (objects_at count place pdu.now) }
+{
+    let mut end = place;
+    for _ in 0..count {
+        end = object_end(pdu, end)?;
+    }
+    Ok(end)
 }
 
 /// The object at the cursor, which then stands after it.
@@ -141,7 +173,8 @@ fn device_identification(
     alloc: Global,
     pdu: &Bytes,
 ) -> Result<ReadDeviceIdentificationResponse, PduError>
-    ensures { Gives (λ found. found) result (device_identification_of pdu.now) }
+    ensures value { Gives (λ found. found) result (device_identification_of pdu.now) }
+    ensures memory { result ≡ Err PduError.NoMemory → IsOk (device_identification_of pdu.now) }
 {
     let mut cursor = Cursor::new(pdu.as_slice());
     let _function = cursor.byte()?;
@@ -163,8 +196,11 @@ fn device_identification(
     let more_follows = cursor.byte()? == ON;
     let next_object_id = cursor.byte()?;
     let count = cursor.byte()?;
+    // All bytes are judged before memory is asked for.
+    if objects_end(pdu.as_slice(), cursor.at, count)? < pdu.len() {
+        return Err(PduError::Refused(Reason::UndecodedData));
+    }
     let found = read_objects(alloc, pdu, &mut cursor, count)?;
-    cursor.finish()?;
     Ok(ReadDeviceIdentificationResponse {
         read_code,
         conformity_level,
@@ -179,7 +215,8 @@ fn device_identification(
 fn answered(alloc: Global, code: u8, pdu: &Bytes, cursor: Cursor<'_>) -> Result<Response, PduError>
     requires bytes { cursor.bytes.now ≡ pdu.now }
     requires at { cursor.at ≡ 1 }
-    ensures { Gives (λ response. response) result (answered_by code pdu.now) }
+    ensures value { Gives (λ response. response) result (answered_by code pdu.now) }
+    ensures memory { result ≡ Err PduError.NoMemory → IsOkAnd (answered_by code pdu.now) CarriesMemory }
 {
     match code {
         0x01 => {
@@ -240,10 +277,12 @@ fn answered(alloc: Global, code: u8, pdu: &Bytes, cursor: Cursor<'_>) -> Result<
 /// The response of a PDU (section 6), or the first reason that refuses it.
 ///
 /// Function codes that have no kind of their own give `Custom`, also those of 0x80 and above.
-/// `NoMemory` comes only for want of memory.
+/// `NoMemory` comes only for want of memory, and only where the PDU is a response that carries a list
+/// or bytes of its own.
 #[tactic(auto, unfolding(crate::specs::ResponseOf::response_of))]
 pub fn decode_response(alloc: Global, pdu: Bytes) -> Result<Response, PduError>
     ensures response { Gives (λ response. response) result (response_of pdu) }
+    ensures memory { result ≡ Err PduError.NoMemory → IsOkAnd (response_of pdu) CarriesMemory }
 {
     let mut cursor = Cursor::new(pdu.as_slice());
     let code = cursor.byte()?;
@@ -253,10 +292,13 @@ pub fn decode_response(alloc: Global, pdu: Bytes) -> Result<Response, PduError>
 /// What a server's PDU stands for: a response, or from the function code 0x80 on an exception
 /// (section 7). Else the first reason that refuses it.
 ///
-/// An empty PDU is `UnexpectedEnd`, and `NoMemory` comes only for want of memory.
+/// An empty PDU is `UnexpectedEnd`. `NoMemory` comes only for want of memory, and only where the PDU
+/// is a response that carries a list or bytes of its own.
 #[tactic(auto, unfolding(crate::specs::ResponseOf::response_result_of))]
 pub fn decode_response_pdu(alloc: Global, pdu: Bytes) -> Result<ResponsePdu, PduError>
     ensures result { Gives (λ answer. answer.0) result (response_result_of pdu) }
+    ensures memory { result ≡ Err PduError.NoMemory
+        → IsOkAnd (response_result_of pdu) AnswerCarriesMemory }
 {
     match pdu.as_slice() {
         [] => Err(PduError::Refused(Reason::UnexpectedEnd)),

@@ -6,15 +6,16 @@
 ghost use Rattle.std.specs.Prelude.{◌≡◌, ◌+◌, ◌*◌, ◌≤◌, ◌<◌, ◌-◌, ◌^◌, ◌++◌, ◌∷◌, length, min, IfOk, IfErr, OnOk, OnErr};
 ghost use Rattle.std.specs.List.{AllByRecursion};
 ghost use Rattle.std.specs.Result.{ForErr};
+ghost use Rattle.bytes.specs.Filled.{UsesSpare};
 ghost use Rattle.modbus_frame.specs.Codes.{function_number};
-ghost use Rattle.modbus_pdu.specs.Coding.{Fits};
+ghost use Rattle.modbus_pdu.specs.Coding.{Fits, told_size};
 ghost use Rattle.modbus_pdu.specs.Fields.{packed, packed_size};
 ghost use Rattle.modbus_pdu.specs.Writing.{words};
 ghost use Rattle.modbus_pdu.specs.ResponsePdu.{flag, objects, device_identification_pdu, response_pdu, response_result_pdu};
 
 use crate::coils::{bool_to_coil, packed_coils_size, put_packed_coils};
 use crate::exception::{EXCEPTION_SIZE, encode_exception_response_pdu};
-use crate::limits::{MEI_DEVICE_IDENTIFICATION, TooLong, within_limit};
+use crate::limits::{MAX_PDU, MEI_DEVICE_IDENTIFICATION, TooLong, within_limit};
 use crate::writing::{put_byte, put_word, put_words};
 use bytes::BytesMut;
 use modbus_frame::{
@@ -67,9 +68,9 @@ fn response_len(response: &Response) -> usize
 ///
 /// `TooLong` tells the size where it is more, and usize::MAX where it is more than that.
 pub fn response_pdu_size(response: &Response) -> Result<usize, TooLong>
-    ensures fits { IfOk result (λ size. (size ≡ length (response_pdu response.now)) × (size ≤ 253)) }
-    ensures long { IfErr result (λ error. (253 < length (response_pdu response.now))
-        × (error.0 ≡ min (length (response_pdu response.now)) (2 ^ 64 - 1))) }
+    ensures fits { IfOk result (λ size. (size ≡ length (response_pdu response.now)) × (size ≤ MAX_PDU)) }
+    ensures long { IfErr result (λ error. (MAX_PDU < length (response_pdu response.now))
+        × (error.0 ≡ told_size (response_pdu response.now))) }
 {
     within_limit(response_len(response))
 }
@@ -81,9 +82,9 @@ pub fn response_pdu_size(response: &Response) -> Result<usize, TooLong>
 pub fn response_result_pdu_size(
     answer: &Result<Response, ExceptionResponse>,
 ) -> Result<usize, TooLong>
-    ensures fits { IfOk result (λ size. (size ≡ length (response_result_pdu answer.now)) × (size ≤ 253)) }
-    ensures long { IfErr result (λ error. (253 < length (response_result_pdu answer.now))
-        × (error.0 ≡ min (length (response_result_pdu answer.now)) (2 ^ 64 - 1))) }
+    ensures fits { IfOk result (λ size. (size ≡ length (response_result_pdu answer.now)) × (size ≤ MAX_PDU)) }
+    ensures long { IfErr result (λ error. (MAX_PDU < length (response_result_pdu answer.now))
+        × (error.0 ≡ told_size (response_result_pdu answer.now))) }
 {
     match answer {
         Ok(response) => response_pdu_size(response),
@@ -95,7 +96,8 @@ pub fn response_result_pdu_size(
 fn put_coils_read(buf: &mut BytesMut, code: u8, coils: &[Coil])
     requires fits { packed_size (length coils.now) < 256 }
     requires room { 2 + packed_size (length coils.now) ≤ buf.old.spare }
-    ensures { buf.new.items ≡ buf.old.items ++ code ∷ packed_size (length coils.now) ∷ packed coils.now }
+    ensures items { buf.new.items ≡ buf.old.items ++ code ∷ packed_size (length coils.now) ∷ packed coils.now }
+    ensures spare { buf.new.spare + 2 + packed_size (length coils.now) ≡ buf.old.spare }
 {
     put_byte(buf, code);
     put_byte(buf, packed_coils_size(coils) as u8);
@@ -106,7 +108,8 @@ fn put_coils_read(buf: &mut BytesMut, code: u8, coils: &[Coil])
 fn put_words_read(buf: &mut BytesMut, code: u8, registers: &[Word])
     requires fits { 2 * length registers.now < 256 }
     requires room { 2 + 2 * length registers.now ≤ buf.old.spare }
-    ensures { buf.new.items ≡ buf.old.items ++ code ∷ (2 * length registers.now) ∷ words registers.now }
+    ensures items { buf.new.items ≡ buf.old.items ++ code ∷ (2 * length registers.now) ∷ words registers.now }
+    ensures spare { buf.new.spare + 2 + 2 * length registers.now ≡ buf.old.spare }
 {
     put_byte(buf, code);
     put_byte(buf, (2 * registers.len()) as u8);
@@ -126,6 +129,7 @@ fn put_objects(buf: &mut BytesMut, found: &[DeviceIdObject])
     requires short { AllByRecursion (λ o. length o.value < 256) found.now }
     requires room { length (objects found.now) ≤ buf.old.spare }
     ensures items { buf.new.items ≡ buf.old.items ++ objects found.now }
+    ensures spare { buf.new.spare + length (objects found.now) ≡ buf.old.spare }
 {
     for object in found {
         put_byte(buf, object.id);
@@ -137,9 +141,10 @@ fn put_objects(buf: &mut BytesMut, found: &[DeviceIdObject])
 /// The PDU of a device identification.
 #[tactic(auto, using(crate::proofs::WriteObjects::object_facts), unfolding(crate::specs::ResponsePdu::device_identification_pdu))]
 fn put_device_identification(buf: &mut BytesMut, found: &ReadDeviceIdentificationResponse)
-    requires fits { length (device_identification_pdu found.now) ≤ 253 }
+    requires fits { Fits (device_identification_pdu found.now) }
     requires room { length (device_identification_pdu found.now) ≤ buf.old.spare }
-    ensures { buf.new.items ≡ buf.old.items ++ device_identification_pdu found.now }
+    ensures items { buf.new.items ≡ buf.old.items ++ device_identification_pdu found.now }
+    ensures spare { buf.new.spare + length (device_identification_pdu found.now) ≡ buf.old.spare }
 {
     let objects = found.device_id_objects.as_slice();
     put_byte(buf, 0x2B);
@@ -155,9 +160,10 @@ fn put_device_identification(buf: &mut BytesMut, found: &ReadDeviceIdentificatio
 /// The PDU of the response, for which there is room.
 #[tactic(auto, using(crate::proofs::Sizes::sizes), unfolding(crate::specs::ResponsePdu::response_pdu))]
 fn put_response(buf: &mut BytesMut, response: &Response)
-    requires fits { length (response_pdu response.now) ≤ 253 }
+    requires fits { Fits (response_pdu response.now) }
     requires room { length (response_pdu response.now) ≤ buf.old.spare }
-    ensures { buf.new.items ≡ buf.old.items ++ response_pdu response.now }
+    ensures items { buf.new.items ≡ buf.old.items ++ response_pdu response.now }
+    ensures spare { buf.new.spare + length (response_pdu response.now) ≡ buf.old.spare }
 {
     match response {
         Response::ReadCoils(coils) => put_coils_read(buf, 0x01, coils.as_slice()),
@@ -207,15 +213,18 @@ fn put_response(buf: &mut BytesMut, response: &Response)
 }
 
 /// Appends the PDU of a response that fits, for which `response_pdu_size` is `Ok` (section 6).
-/// Without memory the buffer is left as it was. What memory it takes is of the buffer's own allocator.
+///
+/// The one error is want of memory, which leaves the bytes of the buffer as they were and comes only where the buffer had no room
+/// for the whole PDU. What memory it takes is of the buffer's own allocator.
 pub fn encode_response_pdu(
     _alloc: Global,
     buf: &mut BytesMut,
     response: &Response,
 ) -> Result<(), AllocError>
-    requires { length (response_pdu response.now) ≤ 253 }
+    requires { Fits (response_pdu response.now) }
     ensures ok { OnOk result (buf.new.items ≡ buf.old.items ++ response_pdu response.now) }
     ensures err { OnErr result (buf.new.items ≡ buf.old.items) }
+    ensures spare { UsesSpare result buf.old.spare buf.new.spare (length (response_pdu response.now)) }
 {
     buf.reserve(response_len(response))?;
     put_response(buf, response);
@@ -223,8 +232,10 @@ pub fn encode_response_pdu(
 }
 
 /// Appends the PDU of a response or an exception that fits, for which `response_result_pdu_size` is
-/// `Ok` (sections 6 and 7). The function of an exception is below 0x80. Without memory the buffer is
-/// left as it was. What memory it takes is of the buffer's own allocator.
+/// `Ok` (sections 6 and 7). The function of an exception is below 0x80.
+///
+/// The one error is want of memory, which leaves the bytes of the buffer as they were and comes only where the buffer had no room
+/// for the whole PDU. What memory it takes is of the buffer's own allocator.
 pub fn encode_response_result_pdu(
     alloc: Global,
     buf: &mut BytesMut,
@@ -234,6 +245,7 @@ pub fn encode_response_result_pdu(
     requires fits { Fits (response_result_pdu answer.now) }
     ensures ok { OnOk result (buf.new.items ≡ buf.old.items ++ response_result_pdu answer.now) }
     ensures err { OnErr result (buf.new.items ≡ buf.old.items) }
+    ensures spare { UsesSpare result buf.old.spare buf.new.spare (length (response_result_pdu answer.now)) }
 {
     match answer {
         Ok(response) => encode_response_pdu(alloc, buf, response),

@@ -14,9 +14,17 @@ pub(crate) fn decode_words(
     requires { 2 * count ≤ length bytes.now }
     ensures { IfOk result (λ words. words.items ≡ words_of bytes.now count) }
 {
-    let mut words = Vec::with_capacity(alloc, count)?;
-    for i in 0..count {
-        words.push(u16::from_be_bytes([bytes[2 * i], bytes[2 * i + 1]]))?;
-    }
+    let mut words = vec![in alloc; 0; count]?;
+    read_words(words.as_mut_slice(), bytes);
     Ok(words)
+}
+
+/// Reads as many words as there is room for.
+fn read_words(words: &mut [Word], bytes: &[u8])
+    requires { 2 * length words.old ≤ length bytes.now }
+    ensures { words.new ≡ words_of bytes.now (length words.old) }
+{
+    for i in 0..words.len() {
+        words[i] = u16::from_be_bytes([bytes[2 * i], bytes[2 * i + 1]]);
+    }
 }

@@ -6,6 +6,7 @@ use bytes::BytesMut;
 use modbus_frame::Word;
 
 /// Appends a byte.
+#[inline]
 pub(crate) fn put_byte(buf: &mut BytesMut, byte: u8)
     requires { 1 ≤ buf.old.spare }
     ensures items { buf.new.items ≡ buf.old.items ++ byte ∷ [] }
@@ -15,6 +16,7 @@ pub(crate) fn put_byte(buf: &mut BytesMut, byte: u8)
 }
 
 /// Appends a number as two bytes, the high one first (V1.1b3, section 4.2).
+#[inline]
 pub(crate) fn put_word(buf: &mut BytesMut, number: u16)
     requires { 2 ≤ buf.old.spare }
     ensures items { buf.new.items ≡ buf.old.items ++ word number }
@@ -24,13 +26,25 @@ pub(crate) fn put_word(buf: &mut BytesMut, number: u16)
 }
 
 /// Appends numbers one after another, two bytes each.
-#[tactic(auto, unfolding(crate::specs::Writing::words))]
 pub(crate) fn put_words(buf: &mut BytesMut, numbers: &[Word])
     requires { 2 * length numbers.now ≤ buf.old.spare }
     ensures items { buf.new.items ≡ buf.old.items ++ words numbers.now }
     ensures spare { buf.new.spare + 2 * length numbers.now ≡ buf.old.spare }
 {
-    for number in numbers {
-        put_word(buf, *number);
+    let start = buf.len();
+    buf.advance_mut(2 * numbers.len());
+    write_words(&mut buf.as_mut_slice()[start..], numbers);
+}
+
+/// Writes numbers one after another, over as many bytes as they take.
+#[tactic(auto, unfolding(crate::specs::Writing::words))]
+fn write_words(bytes: &mut [u8], numbers: &[Word])
+    requires { length bytes.old ≡ 2 * length numbers.now }
+    ensures { bytes.new ≡ words numbers.now }
+{
+    for i in 0..numbers.len() {
+        let [high, low] = numbers[i].to_be_bytes();
+        bytes[2 * i] = high;
+        bytes[2 * i + 1] = low;
     }
 }

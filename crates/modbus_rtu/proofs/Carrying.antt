@@ -1,10 +1,6 @@
 -- What a call of an inbox carries on.
-use Rattle.std.proofs.Common.{◌≡◌, inl, inr, ℕ, ◌+◌, ◌-◌, ◌<◌, ◌≤◌, List, [], ◌∷◌, ◌++◌, length, drop, Option, Some, None, Result, Ok, Err, refl, sym, ap, ◌∙◌, arith, append-nil, length-append, length-drop}
+use Rattle.std.proofs.Common.{◌≡◌, ℕ, ◌+◌, ◌<◌, ◌≤◌, List, [], ◌∷◌, ◌++◌, length, drop, Option, Some, None, Result, Ok, Err, refl, ap, arith, length-drop}
 use Rattle.std.specs.Prelude.{IfOk, IfErr, IfSome}
-use Rattle.std.proofs.lemmas.Bool.{cases_lt}
-use Rattle.std.proofs.lemmas.Grind.{common_steps}
-use Rattle.modbus_link.specs.Outside.{Input, bytes_read, cuts_made, one_cut}
-use Rattle.modbus_link.specs.declared.outside.Failed.{Failed}
 use Rattle.modbus_rtu.proofs.Verdicts.{good_within}
 use Rattle.modbus_rtu.specs.declared.verdict.Verdict.TheVariants.{Open}
 use Rattle.modbus_rtu.specs.declared.search.Next.TheVariants.{Waiting}
@@ -14,7 +10,7 @@ use Rattle.modbus_rtu.specs.declared.inbox.RtuError.TheVariants as errors
 use Rattle.modbus_rtu.specs.Frame.{verdict}
 use Rattle.modbus_rtu.specs.Next.{IsNext}
 use Rattle.modbus_rtu.specs.Stands.{StandsFor, IsTakenNext, IsUsedUp}
-use Rattle.modbus_rtu.specs.Inbox.{Gives, StandsAfter, Fills, parts, totals_after}
+use Rattle.modbus_rtu.specs.Inbox.{Gives, StandsAfter, parts}
 use Rattle.modbus_rtu.proofs.Standing.{stands_frame, next_taken, stands_waiting, stands_read, used_up, first_crowd}
 
 -- an open offset at the front is where the search waits
@@ -29,7 +25,7 @@ length_zero [] e = refl
 length_zero (x ∷ xs) e = absurd (omega (arith, e))
 
 -- what stays to be looked at begins with the open offset
-open_at_front : (held : List ℕ) (dropped : ℕ) → IsNext held (Waiting dropped) → verdict (drop dropped held) 0 ≡ Open
+pub open_at_front : (held : List ℕ) (dropped : ℕ) → IsNext held (Waiting dropped) → verdict (drop dropped held) 0 ≡ Open
 open_at_front held dropped next = next.2
 
 pub stands_after : (old : List ℕ) (result : Result (Option RtuFrame) RtuError) (new : List ℕ) → Gives old result new → (bytes cuts : List ℕ) (taken : List (ℕ × List ℕ)) → StandsFor bytes cuts old taken → StandsAfter bytes cuts taken result new
@@ -45,34 +41,6 @@ stands_after old (Err errors.NoMemory) new gives bytes cuts taken s = absurd giv
 pub stands_after_read : (bytes cuts held more : List ℕ) (taken : List (ℕ × List ℕ)) → StandsFor bytes cuts held taken → verdict held 0 ≡ Open → 0 < length more → StandsFor (bytes ++ more) (cuts ++ length (bytes ++ more) ∷ []) (held ++ more) taken
 stands_after_read bytes cuts held more taken s open' some =
     stands_read bytes cuts held taken s 0 (waits_at_front held open') more some
-
-one_cut_zero : (n room : ℕ) → n ≡ 0 → one_cut n room ≡ []
-one_cut_zero n room e = rw e refl
-
-one_cut_some : (n room : ℕ) → 0 < n → one_cut n room ≡ (n, room) ∷ []
-one_cut_some n room some = grind (arith, common_steps)
-
--- a read that gave nothing
-filled_none : (bytes cuts old read : List ℕ) (taken : List (ℕ × List ℕ)) (made : List (ℕ × ℕ)) → made ≡ [] → length read ≡ 0
-    → StandsFor bytes cuts old taken → StandsFor (bytes ++ read) (cuts ++ totals_after (length bytes) made) (old ++ read) taken
-filled_none bytes cuts old read taken made no_cut none s = rw (no_cut, length_zero read none, append-nil bytes, append-nil cuts, append-nil old) s
-
--- a read that gave some bytes
-filled_some : (bytes cuts old read : List ℕ) (taken : List (ℕ × List ℕ)) (made : List (ℕ × ℕ)) (room : ℕ) → made ≡ (length read, room) ∷ [] → 0 < length read → verdict old 0 ≡ Open
-    → StandsFor bytes cuts old taken → StandsFor (bytes ++ read) (cuts ++ totals_after (length bytes) made) (old ++ read) taken
-filled_some bytes cuts old read taken made room one some open' s =
-    rw (one, ← length-append bytes read) (stands_after_read bytes cuts old read taken s open' some)
-
-pub filled : (before after : Input) (old new : List ℕ) (result : Result ℕ Failed) → Fills before after old new result → (bytes cuts : List ℕ) (taken : List (ℕ × List ℕ)) → StandsFor bytes cuts old taken → verdict old 0 ≡ Open
-    → StandsFor (bytes ++ bytes_read before after) (cuts ++ totals_after (length bytes) (cuts_made before after)) new taken
-filled before after old new (Err e) f bytes cuts taken s open' =
-    rw f.appends (filled_none bytes cuts old (bytes_read before after) taken (cuts_made before after) f.cuts f.count s)
-filled before after old new (Ok n) f bytes cuts taken s open' = rw f.appends (elim (cases_lt 0 n) [
-  | inl some ↦ filled_some bytes cuts old (bytes_read before after) taken (cuts_made before after) (268 - length old)
-      (f.cuts ∙ one_cut_some n (268 - length old) some ∙ ap (λ (m : ℕ). (m, 268 - length old) ∷ []) (sym f.count)) (omega (arith, f.count)) open' s
-  | inr le ↦ filled_none bytes cuts old (bytes_read before after) taken (cuts_made before after)
-      (f.cuts ∙ one_cut_zero n (268 - length old) (omega arith)) (f.count ∙ omega arith) s
-])
 
 -- a frame that is taken off leaves fewer bytes
 pub gives_less : (old : List ℕ) (frame : RtuFrame) (new : List ℕ) → Gives old (Ok (Some frame)) new → length new < length old
@@ -101,3 +69,7 @@ gives_cause old (Ok found) new gives = tt
 gives_cause old (Err errors.TooManyRetries) new gives = refl
 gives_cause old (Err (errors.Invalid reason)) new gives = absurd gives
 gives_cause old (Err errors.NoMemory) new gives = absurd gives
+
+-- what an inbox stands for after a read
+pub read_stands : (old new piece bytes cuts : List ℕ) (taken : List (ℕ × List ℕ)) → new ≡ old ++ piece → 0 < length piece → StandsFor bytes cuts old taken → verdict old 0 ≡ Open → StandsFor (bytes ++ piece) (cuts ++ length (bytes ++ piece) ∷ []) new taken
+read_stands old new piece bytes cuts taken e some s open' = rw e (stands_after_read bytes cuts old piece taken s open' some)

@@ -1,3 +1,5 @@
+pub mod ByteSteps
+pub mod Table
 pub mod Verdicts
 pub mod Judging
 pub mod Reading
@@ -8,7 +10,11 @@ pub mod Places
 pub mod Fronts
 pub mod Steps
 pub mod Standing
+pub mod Piece
+pub mod Spans
+pub mod Finding
 pub mod Carrying
 pub mod Framed
+pub mod Quiet
 pub mod Objects
 pub mod Responses

@@ -9,7 +9,8 @@ use Rattle.modbus_rtu.specs.Frame.{verdict}
 use Rattle.modbus_rtu.specs.Leftmost.{IsLeftmost}
 use Rattle.modbus_rtu.specs.Next.{IsNext}
 use Rattle.modbus_rtu.specs.Place.{IsStop, IsCrowd, IsPlace, frames_below}
-use Rattle.modbus_rtu.specs.Stands.{frame_at, last_cut, last_cut_but_one, IsRead, Rise, HasCrowd, IsFirstCrowd, IsUsedUp, IsTakenNext, StandsFor}
+use Rattle.modbus_link.specs.Reads.{last_cut, last_cut_but_one, IsRead, Rise}
+use Rattle.modbus_rtu.specs.Stands.{frame_at, HasCrowd, IsFirstCrowd, IsUsedUp, IsTakenNext, StandsFor}
 use Rattle.modbus_rtu.proofs.Verdicts.{verdict-drop, bad_within, verdict_of-nil}
 use Rattle.modbus_rtu.proofs.Reading.{Reads, reading, reads_same, stop_within}
 use Rattle.modbus_rtu.proofs.Reading.Reads.{stops}

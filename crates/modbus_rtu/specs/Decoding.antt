@@ -1,6 +1,9 @@
 -- What the decoders take out of a buffer, and what then stands in it and in the record of dropped bytes.
-use Rattle.std.specs.Prelude.{◌≡◌, ◌≢◌, ℕ, ◌+◌, ◌*◌, ◌<◌, ◌≤◌, ◌⊎◌, if◌then◌else◌, nat_lt, List, [], ◌∷◌, ◌++◌, fold, length, take, drop, slice_index, Option, Some, None, Result, Ok, Err}
+use Rattle.std.specs.Prelude.{◌≡◌, ◌≢◌, ℕ, ◌+◌, ◌*◌, ◌<◌, ◌≤◌, ◌⊎◌, if◌then◌else◌, nat_lt, List, [], ◌∷◌, ◌++◌, fold, length, take, drop, slice_index, Option, Some, None, Result, Ok, Err, IsOkAnd}
+use Rattle.modbus_rtu.specs.declared.search.TheConstants.{TRIES}
 use Rattle.modbus_frame.specs.declared.fault.Reason.{Reason}
+use Rattle.modbus_frame.specs.declared.fault.PduError.{PduError}
+use Rattle.modbus_frame.specs.declared.fault.PduError.TheVariants as pdu_errors
 use Rattle.modbus_rtu.specs.declared.decoder.FrameFault.{FrameFault}
 use Rattle.modbus_rtu.specs.declared.decoder.FrameFault.TheVariants as fault
 use Rattle.modbus_rtu.specs.declared.verdict.Verdict.{Verdict}
@@ -50,22 +53,28 @@ DecodesBy judge old before (Ok (Some frame)) new after =
 DecodesBy judge old before (Ok None) new after =
     (bad : ℕ) × IsNextBy judge old (Waiting bad) × (new ≡ drop bad old) × (after ≡ all_recorded before (take bad old))
 DecodesBy judge old before (Err errors.TooManyRetries) new after =
-    IsNextBy judge old TooManyRetries × (new ≡ drop 20 old) × (after ≡ all_recorded before (take 20 old))
+    IsNextBy judge old TooManyRetries × (new ≡ drop TRIES old) × (after ≡ all_recorded before (take TRIES old))
 DecodesBy judge old before (Err (errors.Invalid reason)) new after = ⊥
 DecodesBy judge old before (Err errors.NoMemory) new after =
     (start : ℕ) × (n : ℕ) × IsNextBy judge old (Frame start n) × (new ≡ drop start old) × (after ≡ all_recorded before (take start old))
 
+-- why a codec gives no message, of a frame whose PDU is not read
+abbrev pub error_of : PduError → RtuError
+error_of (pdu_errors.Refused reason) = errors.Invalid reason
+error_of pdu_errors.NoMemory = errors.NoMemory
+
 -- The same of a codec, which then reads the PDU of the frame that is taken off: `slave` and `meaning` are what its answer tells of
--- the frame. Where the PDU is refused the frame is gone. Where memory is wanting for the frame it stays, and where memory is wanting
--- for what its PDU stands for it is gone.
-abbrev pub ReadsBy : {A M : Type 0} → (List ℕ → Verdict) → (List ℕ → Result M Reason) → (A → ℕ) → (A → M) → List ℕ → Result (Option A) RtuError → List ℕ → Type 0
-ReadsBy judge read slave meaning old (Ok (Some adu)) new =
+-- the frame. Where the PDU is refused the frame is gone. Where memory is wanting for the frame it stays. It is gone where memory is
+-- wanting for what its PDU stands for, which is then something that carries memory.
+abbrev pub ReadsBy : {A M : Type 0} → (List ℕ → Verdict) → (List ℕ → Result M Reason) → (M → Type 0) → (A → ℕ) → (A → M) → List ℕ → Result (Option A) RtuError → List ℕ → Type 0
+ReadsBy judge read carries slave meaning old (Ok (Some adu)) new =
     (start : ℕ) × (n : ℕ) × IsNextBy judge old (Frame start n) × (slave adu ≡ slice_index old start) × (read (take n (drop (start + 1) old)) ≡ Ok (meaning adu)) × (new ≡ drop (start + (n + 3)) old)
-ReadsBy judge read slave meaning old (Ok None) new =
+ReadsBy judge read carries slave meaning old (Ok None) new =
     (bad : ℕ) × IsNextBy judge old (Waiting bad) × (new ≡ drop bad old)
-ReadsBy judge read slave meaning old (Err errors.TooManyRetries) new =
-    IsNextBy judge old TooManyRetries × (new ≡ drop 20 old)
-ReadsBy judge read slave meaning old (Err (errors.Invalid reason)) new =
+ReadsBy judge read carries slave meaning old (Err errors.TooManyRetries) new =
+    IsNextBy judge old TooManyRetries × (new ≡ drop TRIES old)
+ReadsBy judge read carries slave meaning old (Err (errors.Invalid reason)) new =
     (start : ℕ) × (n : ℕ) × IsNextBy judge old (Frame start n) × (read (take n (drop (start + 1) old)) ≡ Err reason) × (new ≡ drop (start + (n + 3)) old)
-ReadsBy judge read slave meaning old (Err errors.NoMemory) new =
-    (start : ℕ) × (n : ℕ) × IsNextBy judge old (Frame start n) × ((new ≡ drop start old) ⊎ (new ≡ drop (start + (n + 3)) old))
+ReadsBy judge read carries slave meaning old (Err errors.NoMemory) new =
+    (start : ℕ) × (n : ℕ) × IsNextBy judge old (Frame start n)
+    × ((new ≡ drop start old) ⊎ (IsOkAnd (read (take n (drop (start + 1) old))) carries × (new ≡ drop (start + (n + 3)) old)))

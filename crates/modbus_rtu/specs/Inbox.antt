@@ -1,7 +1,6 @@
 -- What one call of an inbox does.
-use Rattle.std.specs.Prelude.{◌≡◌, ◌↔◌, ℕ, ◌+◌, ◌-◌, List, [], ◌∷◌, ◌++◌, map, length, take, drop, slice_index, Option, Some, None, Result, Ok, Err, IfOk}
-use Rattle.modbus_link.specs.Outside.{Input, bytes_read, cuts_made, shifted, cut_of}
-use Rattle.modbus_link.specs.declared.outside.Failed.{Failed}
+use Rattle.std.specs.Prelude.{◌≡◌, ℕ, ◌+◌, List, [], ◌∷◌, ◌++◌, take, drop, slice_index, Option, Some, None, Result, Ok, Err}
+use Rattle.modbus_rtu.specs.declared.search.TheConstants.{TRIES}
 use Rattle.modbus_rtu.specs.declared.verdict.Verdict.TheVariants.{Open}
 use Rattle.modbus_rtu.specs.declared.search.Next.TheVariants.{Frame, Waiting, TooManyRetries}
 use Rattle.modbus_rtu.specs.declared.inbox.RtuFrame.{RtuFrame}
@@ -21,7 +20,7 @@ abbrev pub Gives : List ℕ → Result (Option RtuFrame) RtuError → List ℕ �
 Gives old (Ok (Some frame)) new =
     (start : ℕ) × (n : ℕ) × IsNext old (Frame start n) × (parts frame ≡ (slice_index old start, take n (drop (start + 1) old))) × (new ≡ drop (start + (n + 3)) old)
 Gives old (Ok None) new = (dropped : ℕ) × IsNext old (Waiting dropped) × (new ≡ drop dropped old)
-Gives old (Err errors.TooManyRetries) new = IsNext old TooManyRetries × (new ≡ drop 20 old)
+Gives old (Err errors.TooManyRetries) new = IsNext old TooManyRetries × (new ≡ drop TRIES old)
 Gives old (Err (errors.Invalid reason)) new = ⊥
 Gives old (Err errors.NoMemory) new = ⊥
 
@@ -32,20 +31,3 @@ StandsAfter bytes cuts taken (Ok None) held = StandsFor bytes cuts held taken ×
 StandsAfter bytes cuts taken (Err errors.TooManyRetries) held = (k : ℕ) × IsFirstCrowd bytes cuts taken k
 StandsAfter bytes cuts taken (Err (errors.Invalid reason)) held = ⊥
 StandsAfter bytes cuts taken (Err errors.NoMemory) held = ⊥
-
--- how many bytes a read gave
-abbrev pub count_of : {E : Type 0} → Result ℕ E → ℕ
-count_of (Ok n) = n
-count_of (Err _) = 0
-
--- One read of a told source: the bytes that it gave are appended to those that were held, its room was what these left of 268
--- bytes, and it gave none exactly where the input had ended. A read that failed gave nothing.
-pub record Fills (before after : Input) (old new : List ℕ) (result : Result ℕ Failed) : Type 0 where
-  pub appends : new ≡ old ++ bytes_read before after
-  pub count : length (bytes_read before after) ≡ count_of result
-  pub cuts : cuts_made before after ≡ cut_of result (268 - length old)
-  pub ended : IfOk result (λ n. (n ≡ 0) ↔ (before.left ≡ []))
-
--- the cuts of a reader that was given so many bytes before, without their rooms
-abbrev pub totals_after : ℕ → List (ℕ × ℕ) → List ℕ
-totals_after given cuts = map (λ cut. cut.0) (shifted given cuts)

@@ -6,5 +6,7 @@ pub mod Leftmost
 pub mod Place
 pub mod Stands
 pub mod Framed
+pub mod Quiet
+pub mod Front
 pub mod Inbox
 pub mod Decoding

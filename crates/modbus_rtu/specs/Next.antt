@@ -1,5 +1,6 @@
 -- What a search of the held bytes for the next frame finds.
 use Rattle.std.specs.Prelude.{◌≡◌, ℕ, ◌+◌, ◌<◌, ◌≤◌, List, length, drop}
+use Rattle.modbus_rtu.specs.declared.search.TheConstants.{TRIES}
 use Rattle.modbus_rtu.specs.declared.verdict.Verdict.{Verdict}
 use Rattle.modbus_rtu.specs.declared.verdict.Verdict.TheVariants.{Open, Bad, Good}
 use Rattle.modbus_rtu.specs.declared.search.Next.{Next}
@@ -13,9 +14,9 @@ AreBadBy judge held n = (i : ℕ) → i < n → judge (drop i held) ≡ Bad
 -- The next frame stands at the first good offset after fewer than twenty bad ones; or the search waits at an open offset after
 -- fewer than twenty bad ones; or the first twenty offsets are bad.
 abbrev pub IsNextBy : (List ℕ → Verdict) → List ℕ → Next → Type 0
-IsNextBy judge held (Frame start pdu_len) = (start < 20) × AreBadBy judge held start × (judge (drop start held) ≡ Good pdu_len)
-IsNextBy judge held (Waiting dropped) = (dropped < 20) × AreBadBy judge held dropped × (judge (drop dropped held) ≡ Open)
-IsNextBy judge held TooManyRetries = AreBadBy judge held 20
+IsNextBy judge held (Frame start pdu_len) = (start < TRIES) × AreBadBy judge held start × (judge (drop start held) ≡ Good pdu_len)
+IsNextBy judge held (Waiting dropped) = (dropped < TRIES) × AreBadBy judge held dropped × (judge (drop dropped held) ≡ Open)
+IsNextBy judge held TooManyRetries = AreBadBy judge held TRIES
 
 -- the same for requests
 abbrev pub AreBad : List ℕ → ℕ → Type 0
@@ -28,4 +29,4 @@ IsNext held next = IsNextBy verdict_of held next
 abbrev pub IsWithin : ℕ → List ℕ → Next → Type 0
 IsWithin longest held (Frame start pdu_len) = start + (pdu_len + 3) ≤ length held
 IsWithin longest held (Waiting dropped) = (dropped ≤ length held) × (length held < dropped + longest)
-IsWithin longest held TooManyRetries = 20 ≤ length held
+IsWithin longest held TooManyRetries = TRIES ≤ length held

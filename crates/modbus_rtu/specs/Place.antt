@@ -1,5 +1,6 @@
 -- How far a reader has come in the bytes that it was given. `old` are those before its last read, and `now` are all.
 use Rattle.std.specs.Prelude.{◌≡◌, ℕ, ◌+◌, ◌<◌, ◌≤◌, ◌⊎◌, List, Contains, filter, nat_lt}
+use Rattle.modbus_rtu.specs.declared.search.TheConstants.{TRIES}
 use Rattle.modbus_rtu.specs.declared.verdict.Verdict.TheVariants.{Bad, Good}
 use Rattle.modbus_rtu.specs.Frame.{verdict}
 use Rattle.modbus_rtu.specs.Leftmost.{IsUncovered, IsLeftmost}
@@ -17,9 +18,9 @@ pub record IsCrowd (old now : List ℕ) (k : ℕ) : Type 0 where
   pub from : IsStop old before
   pub reading : IsLeftmost now frames stop
   pub starts : before ≤ k
-  pub ends : k + 20 ≤ stop
-  pub bad : (i : ℕ) → k ≤ i → i < k + 20 → verdict now i ≡ Bad
-  pub uncovered : (i : ℕ) → k ≤ i → i < k + 20 → IsUncovered now frames i
+  pub ends : k + TRIES ≤ stop
+  pub bad : (i : ℕ) → k ≤ i → i < k + TRIES → verdict now i ≡ Bad
+  pub uncovered : (i : ℕ) → k ≤ i → i < k + TRIES → IsUncovered now frames i
 
 -- the place is the end of one of the frames, which begins at or above `from`
 abbrev pub EndsFrame : List ℕ → List ℕ → ℕ → ℕ → Type 0

@@ -1,6 +1,8 @@
 -- What a reader that holds bytes stands for: the bytes that it was given so far, the cuts between its reads, and the frames that it
 -- gave away.
-use Rattle.std.specs.Prelude.{◌≡◌, ℕ, ◌+◌, ◌<◌, ◌≤◌, ◌⊎◌, List, [], ◌∷◌, map, length, take, drop, slice_index, Contains}
+use Rattle.std.specs.Prelude.{◌≡◌, ℕ, ◌+◌, ◌-◌, ◌<◌, ◌≤◌, List, map, take, drop, slice_index, Contains}
+use Rattle.modbus_rtu.specs.declared.search.TheConstants.{TRIES}
+use Rattle.modbus_link.specs.Reads.{last_cut_but_one, IsRead, AreCuts}
 use Rattle.modbus_rtu.specs.declared.verdict.Verdict.{Verdict}
 use Rattle.modbus_rtu.specs.declared.verdict.Verdict.TheVariants.{Open, Bad, Good}
 use Rattle.modbus_rtu.specs.Frame.{verdict}
@@ -16,31 +18,6 @@ pdu_len_of (Good n) = n
 abbrev pub frame_at : List ℕ → ℕ → ℕ × List ℕ
 frame_at bytes f = (slice_index bytes f, take (pdu_len_of (verdict bytes f)) (drop (f + 1) bytes))
 
--- Cuts are the totals after the reads that gave bytes. The first of these reads begins at the given total.
-abbrev pub last_cut : ℕ → List ℕ → ℕ
-last_cut total [] = total
-last_cut total (cut ∷ cuts) = last_cut cut cuts
-
-abbrev pub last_cut_but_one : ℕ → List ℕ → ℕ
-last_cut_but_one total [] = total
-last_cut_but_one total (cut ∷ []) = total
-last_cut_but_one total (cut ∷ next ∷ cuts) = last_cut_but_one cut (next ∷ cuts)
-
--- one of the reads went from the total b to the total e
-abbrev pub IsRead : ℕ → List ℕ → ℕ → ℕ → Type 0
-IsRead total [] b e = ⊥
-IsRead total (cut ∷ cuts) b e = ((b ≡ total) × (e ≡ cut)) ⊎ IsRead cut cuts b e
-
--- each read gave bytes
-abbrev pub Rise : ℕ → List ℕ → Type 0
-Rise total [] = Unit {0}
-Rise total (cut ∷ cuts) = (total < cut) × Rise cut cuts
-
--- the cuts of reads that gave these bytes
-pub record AreCuts (bytes cuts : List ℕ) : Type 0 where
-  pub rise : Rise 0 cuts
-  pub all : last_cut 0 cuts ≡ length bytes
-
 -- one of the reads brought a crowd that begins at k
 abbrev pub HasCrowd : List ℕ → List ℕ → ℕ → Type 0
 HasCrowd bytes cuts k = (b : ℕ) × (e : ℕ) × IsRead 0 cuts b e × IsCrowd (take b bytes) (take e bytes) k
@@ -49,12 +26,12 @@ HasCrowd bytes cuts k = (b : ℕ) × (e : ℕ) × IsRead 0 cuts b e × IsCrowd (
 pub record IsFirstCrowd (bytes cuts : List ℕ) (taken : List (ℕ × List ℕ)) (k : ℕ) : Type 0 where
   pub crowd : HasCrowd bytes cuts k
   pub first : (j : ℕ) → HasCrowd bytes cuts j → k ≤ j
-  pub took : (frames : List ℕ) (stop : ℕ) → IsLeftmost bytes frames stop → taken ≡ map (frame_at bytes) (frames_below (k + 19) frames)
+  pub took : (frames : List ℕ) (stop : ℕ) → IsLeftmost bytes frames stop → taken ≡ map (frame_at bytes) (frames_below (k + (TRIES - 1)) frames)
 
 -- The frame that is given away after these is the next delivered one, and it begins below the twentieth offset of each crowd.
 pub record IsTakenNext (bytes cuts : List ℕ) (taken : List (ℕ × List ℕ)) (frame : ℕ × List ℕ) : Type 0 where
   pub offset : ℕ
-  pub calm : (k : ℕ) → HasCrowd bytes cuts k → offset < k + 19
+  pub calm : (k : ℕ) → HasCrowd bytes cuts k → offset < k + (TRIES - 1)
   pub within : (frames : List ℕ) (stop : ℕ) → IsLeftmost bytes frames stop → Contains frames offset
   pub is : frame_at bytes offset ≡ frame
   pub earlier : (frames : List ℕ) (stop : ℕ) → IsLeftmost bytes frames stop → taken ≡ map (frame_at bytes) (frames_below offset frames)
@@ -75,5 +52,5 @@ pub record StandsFor (bytes cuts held : List ℕ) (taken : List (ℕ × List ℕ
   pub place : ℕ
   pub at : IsPlace (take (last_cut_but_one 0 cuts) bytes) bytes place
   pub holds : held ≡ drop place bytes
-  pub calm : (k : ℕ) → HasCrowd bytes cuts k → place < k + 20
+  pub calm : (k : ℕ) → HasCrowd bytes cuts k → place < k + TRIES
   pub took : (frames : List ℕ) (stop : ℕ) → IsLeftmost bytes frames stop → taken ≡ map (frame_at bytes) (frames_below place frames)

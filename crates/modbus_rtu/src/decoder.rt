@@ -3,14 +3,13 @@
 //! A line carries noise: where no frame stands at the front of the buffer, a decoder drops a byte and looks again. The bytes that it
 //! dropped since its last frame are recorded.
 ghost use Rattle.std.specs.Prelude.{◌≡◌, ℕ, ◌+◌, ◌<◌, ◌≤◌, Ok, None, List, [], ◌↔◌, length, take, drop, slice_index, IsOk, IfOk, IfErr, OnOk, OnErr};
-ghost use Rattle.modbus_rtu.specs.Frame.{judged_by, verdict_of};
-ghost use Rattle.modbus_rtu.specs.ResponseHead.{response_verdict};
+ghost use Rattle.modbus_rtu.specs.Frame.{judged_by};
 ghost use Rattle.modbus_rtu.specs.Decoding.{recorded, all_recorded, frame_of, sum_made, sum_sent, DecodesFrame, DecodesBy};
 ghost use Rattle.modbus_rtu.specs.declared.decoder.FrameFault.TheVariants as fault;
 
 use crate::crc::{CrcMismatch, check_crc};
 use crate::inbox::RtuError;
-use crate::length::{LengthRule, RequestRule};
+use crate::length::{LengthRule, OVERHEAD, RequestRule};
 use crate::response_length::ResponseRule;
 use crate::search::{Next, TRIES, next_frame_by};
 use arrayvec::ArrayVec;
@@ -21,9 +20,6 @@ use std::marker::Model;
 
 /// The most dropped bytes that are recorded.
 const MOST_DROPPED: usize = 256;
-
-/// How many bytes a frame has besides its PDU: the slave address and the checksum.
-pub(crate) const OVERHEAD: usize = 3;
 
 /// Why a frame is not given.
 #[derive(Clone, Copy, Debug, PartialEq, Eq, thiserror::Error)]
@@ -188,26 +184,29 @@ impl FrameDecoder {
             }
             Next::Frame { start, pdu_len } => {
                 self.drop_bytes(buf, start);
-                match take_frame(buf, pdu_len) {
-                    Ok(frame) => {
-                        self.dropped.clear();
-                        Ok(Some(frame))
-                    }
-                    Err(_) => Err(RtuError::NoMemory),
-                }
+                let frame = take_frame(buf, pdu_len)?;
+                self.dropped.clear();
+                Ok(Some(frame))
             }
         }
     }
 }
 
-/// Takes the frames of requests out of a buffer.
+/// Takes the frames that a length rule tells out of a buffer.
 #[derive(Debug, Drop)]
-pub struct RequestDecoder {
+pub struct Decoder<R> {
+    rule: R,
     frames: FrameDecoder,
 }
 
+/// Takes the frames of requests out of a buffer. Fewer than 268 bytes wait.
+pub type RequestDecoder = Decoder<RequestRule>;
+
+/// Takes the frames of responses out of a buffer. Fewer than 65545 bytes wait.
+pub type ResponseDecoder = Decoder<ResponseRule>;
+
 /// A contract sees the recorded bytes.
-impl Model for RequestDecoder {
+impl<R> Model for Decoder<R> {
     ghost use Rattle.std.specs.Prelude.{ℕ, List};
 
     ghost Value = { List ℕ };
@@ -215,7 +214,7 @@ impl Model for RequestDecoder {
     ghost view = { λ decoder. decoder.frames };
 }
 
-impl Default for RequestDecoder {
+impl<R: LengthRule + Default> Default for Decoder<R> {
     ghost is_default = { λ decoder. decoder ≡ [] };
 
     fn default() -> Self {
@@ -223,16 +222,19 @@ impl Default for RequestDecoder {
     }
 }
 
-impl RequestDecoder {
+impl<R: LengthRule + Default> Decoder<R> {
     /// A decoder that dropped no byte.
-    pub fn new() -> RequestDecoder
+    pub fn new() -> Decoder<R>
         ensures { result ≡ [] }
     {
-        RequestDecoder {
+        Decoder {
+            rule: R::default(),
             frames: FrameDecoder::new(),
         }
     }
+}
 
+impl<R: LengthRule> Decoder<R> {
     /// The bytes that were dropped since the last frame was given, or since the record of 256 bytes was full and so was emptied.
     pub fn dropped_bytes(&self) -> &[u8]
         ensures exact { result.now ≡ self.now }
@@ -241,193 +243,21 @@ impl RequestDecoder {
         self.frames.dropped_bytes()
     }
 
-    /// Takes off the next frame of a request, with all bytes before it: the first good offset after fewer than twenty bad ones. Gives
-    /// its slave address and its PDU. `None` where an open offset comes first; the bad ones before it are dropped, and fewer than
-    /// 268 bytes are left.
+    /// Takes off the next frame, with all bytes before it: the first good offset after fewer than twenty bad ones. Gives its slave
+    /// address and its PDU. `None` where an open offset comes first; the bad ones before it are dropped, and fewer bytes are left
+    /// than the longest frame has that is waited for.
     ///
     /// # Errors
     /// `TooManyRetries` exactly where the first twenty offsets are bad; they are dropped. `NoMemory` where memory is refused for a
     /// frame; the bad offsets before it are dropped. `Invalid` never.
-    #[tactic(auto, unfolding(crate::specs::Frame::verdict_of))]
     pub fn decode(
         &mut self,
         _alloc: Global,
         buf: &mut BytesMut,
     ) -> Result<Option<(SlaveId, Bytes)>, RtuError>
-        ensures decodes { DecodesBy verdict_of buf.old.items self.old result buf.new.items self.new }
-        ensures short { result ≡ Ok None → length buf.new.items < 268 }
+        ensures decodes { DecodesBy (judged_by R.head) buf.old.items self.old result buf.new.items self.new }
+        ensures short { result ≡ Ok None → length buf.new.items < R.longest }
     {
-        self.frames.decode_by(&RequestRule, buf)
-    }
-}
-
-/// Takes the frames of responses out of a buffer.
-#[derive(Debug, Drop)]
-pub struct ResponseDecoder {
-    frames: FrameDecoder,
-}
-
-/// A contract sees the recorded bytes.
-impl Model for ResponseDecoder {
-    ghost use Rattle.std.specs.Prelude.{ℕ, List};
-
-    ghost Value = { List ℕ };
-
-    ghost view = { λ decoder. decoder.frames };
-}
-
-impl Default for ResponseDecoder {
-    ghost is_default = { λ decoder. decoder ≡ [] };
-
-    fn default() -> Self {
-        Self::new()
-    }
-}
-
-impl ResponseDecoder {
-    /// A decoder that dropped no byte.
-    pub fn new() -> ResponseDecoder
-        ensures { result ≡ [] }
-    {
-        ResponseDecoder {
-            frames: FrameDecoder::new(),
-        }
-    }
-
-    /// The bytes that were dropped since the last frame was given, or since the record of 256 bytes was full and so was emptied.
-    pub fn dropped_bytes(&self) -> &[u8]
-        ensures exact { result.now ≡ self.now }
-        ensures most { length result.now ≤ 256 }
-    {
-        self.frames.dropped_bytes()
-    }
-
-    /// Takes off the next frame of a response, with all bytes before it: the first good offset after fewer than twenty bad ones. Gives
-    /// its slave address and its PDU. `None` where an open offset comes first; the bad ones before it are dropped, and fewer than
-    /// 65545 bytes are left.
-    ///
-    /// # Errors
-    /// `TooManyRetries` exactly where the first twenty offsets are bad; they are dropped. `NoMemory` where memory is refused for a
-    /// frame; the bad offsets before it are dropped. `Invalid` never.
-    #[tactic(auto, unfolding(crate::specs::ResponseHead::response_verdict))]
-    pub fn decode(
-        &mut self,
-        _alloc: Global,
-        buf: &mut BytesMut,
-    ) -> Result<Option<(SlaveId, Bytes)>, RtuError>
-        ensures decodes { DecodesBy response_verdict buf.old.items self.old result buf.new.items self.new }
-        ensures short { result ≡ Ok None → length buf.new.items < 65545 }
-    {
-        self.frames.decode_by(&ResponseRule, buf)
-    }
-}
-
-#[cfg(test)]
-mod tests {
-    use super::*;
-    use std::test::Fail;
-
-    const READ: &[u8] = b"\x01\x03\x00\x00\x00\x01\x84\x0A";
-
-    #[test]
-    fn a_frame_of_known_length_is_taken(rt: HostRuntime) -> Result<(), Fail> {
-        let mut decoder = FrameDecoder::default();
-        let mut buf = BytesMut::copy_from_slice(rt.alloc(), &READ[..7])?;
-        assert_eq!(rt; decoder.decode(rt.alloc(), &mut buf, 5), Ok(None));
-        buf.extend_from_slice(&[0x0B])?;
-        let mismatch = CrcMismatch {
-            expected: 0x0B84,
-            actual: 0x0A84,
-        };
-        assert_eq!(rt;
-            decoder.decode(rt.alloc(), &mut buf, 5),
-            Err(FrameFault::Crc(mismatch))
-        );
-        assert_eq!(rt; buf.len(), 8);
-
-        let mut buf = BytesMut::copy_from_slice(rt.alloc(), b"\xAA")?;
-        buf.extend_from_slice(READ)?;
-        decoder.recover_on_error(&mut buf);
-        assert_eq!(rt; decoder.dropped_bytes(), b"\xAA".as_slice());
-        match decoder.decode(rt.alloc(), &mut buf, 5) {
-            Ok(Some((slave, pdu))) => {
-                assert_eq!(rt; slave, 1);
-                assert_eq!(rt; pdu.as_slice(), &READ[1..6]);
-            }
-            _ => assert!(rt; false, "no frame"),
-        }
-        assert!(rt; buf.is_empty());
-        assert!(rt; decoder.dropped_bytes().is_empty());
-        Ok(())
-    }
-
-    #[test]
-    fn a_full_record_is_emptied(rt: HostRuntime) -> Result<(), Fail> {
-        let mut decoder = FrameDecoder::new();
-        let mut buf = BytesMut::copy_from_slice(rt.alloc(), &[0x7F; 257])?;
-        for _ in 0..256u16 {
-            if !buf.is_empty() {
-                decoder.recover_on_error(&mut buf);
-            }
-        }
-        assert_eq!(rt; decoder.dropped_bytes().len(), 256);
-        if !buf.is_empty() {
-            decoder.recover_on_error(&mut buf);
-        }
-        assert_eq!(rt; decoder.dropped_bytes(), b"\x7F".as_slice());
-        Ok(())
-    }
-
-    #[test]
-    fn noise_is_dropped_until_a_frame_may_begin(rt: HostRuntime) -> Result<(), Fail> {
-        let noise = [0x7F; 21];
-        for (bytes, result, left, recorded) in [
-            (noise.as_slice(), Err(RtuError::TooManyRetries), 1, 20),
-            (&noise[..20], Ok(None), 1, 19),
-            (b"", Ok(None), 0, 0),
-            (b"\x00", Ok(None), 1, 0),
-            (b"\x12\x16", Ok(None), 2, 0),
-            (b"\x12\x0F", Ok(None), 2, 0),
-            (b"\x12\x10", Ok(None), 2, 0),
-            (b"\x01\x2B", Ok(None), 2, 0),
-        ] {
-            let mut decoder = RequestDecoder::default();
-            let mut buf = BytesMut::copy_from_slice(rt.alloc(), bytes)?;
-            assert!(rt; decoder.decode(rt.alloc(), &mut buf) == result);
-            assert_eq!(rt; buf.len(), left);
-            assert_eq!(rt; decoder.dropped_bytes().len(), recorded);
-        }
-        Ok(())
-    }
-
-    #[test]
-    fn frames_behind_noise_are_taken(rt: HostRuntime) -> Result<(), Fail> {
-        let mut requests = RequestDecoder::new();
-        let mut buf = BytesMut::copy_from_slice(rt.alloc(), b"\xAA")?;
-        buf.extend_from_slice(READ)?;
-        match requests.decode(rt.alloc(), &mut buf) {
-            Ok(Some((slave, pdu))) => {
-                assert_eq!(rt; slave, 1);
-                assert_eq!(rt; pdu.as_slice(), &READ[1..6]);
-            }
-            _ => assert!(rt; false, "no request"),
-        }
-        assert!(rt; requests.dropped_bytes().is_empty());
-
-        let mut responses = ResponseDecoder::default();
-        let mut buf = BytesMut::copy_from_slice(
-            rt.alloc(),
-            b"\x42\x43\x01\x03\x04\x89\x02\x42\xC7\x00\x9D\x00",
-        )?;
-        match responses.decode(rt.alloc(), &mut buf) {
-            Ok(Some((slave, pdu))) => {
-                assert_eq!(rt; slave, 1);
-                assert_eq!(rt; pdu.as_slice(), b"\x03\x04\x89\x02\x42\xC7".as_slice());
-            }
-            _ => assert!(rt; false, "no response"),
-        }
-        assert_eq!(rt; buf.as_slice(), b"\x00".as_slice());
-        assert!(rt; responses.dropped_bytes().is_empty());
-        Ok(())
+        self.frames.decode_by(&self.rule, buf)
     }
 }

@@ -1,17 +1,26 @@
 //! Laws on the frames in a list of bytes, about definitions alone. Each is proved by its contract, and its body is empty.
-ghost use Rattle.std.specs.Prelude.{◌≡◌, ◌≢◌, ◌↔◌, ℕ, ◌+◌, ◌<◌, ◌≤◌, All, Contains, List, [], ◌∷◌, ◌++◌, map, length, take, drop, slice_index};
+ghost use Rattle.std.specs.Prelude.{◌≡◌, ◌≢◌, ◌↔◌, ℕ, ◌+◌, ◌-◌, ◌/◌, ◌%◌, ◌^◌, bit_xor, ◌<◌, ◌≤◌, All, Contains, List, [], ◌∷◌, ◌++◌, map, length, take, drop, slice_index};
 ghost use Rattle.std.specs.List.{AllByRecursion};
 ghost use Rattle.modbus_rtu.specs.declared.verdict.Verdict.{Verdict};
 ghost use Rattle.modbus_rtu.specs.declared.verdict.Verdict.TheVariants.{Open, Bad, Good};
+ghost use Rattle.modbus_rtu.specs.declared.search.TheConstants.{TRIES};
 ghost use Rattle.modbus_rtu.specs.declared.search.Next.{Next};
 ghost use Rattle.modbus_rtu.specs.declared.search.Next.TheVariants.{Frame, Waiting, TooManyRetries};
+ghost use Rattle.modbus_rtu.specs.Checksum.{shifts, with_byte};
 ghost use Rattle.modbus_rtu.specs.Frame.{frame, verdict};
 ghost use Rattle.modbus_rtu.specs.ResponseHead.{HasResponseHead, response_verdict};
 ghost use Rattle.modbus_rtu.specs.Next.{IsNext, IsNextBy};
 ghost use Rattle.modbus_rtu.specs.Leftmost.{IsLeftmost, IsUncovered};
 ghost use Rattle.modbus_rtu.specs.Place.{frames_below};
-ghost use Rattle.modbus_rtu.specs.Stands.{StandsFor, IsUsedUp, IsFirstCrowd, HasCrowd, frame_at};
+ghost use Rattle.modbus_rtu.specs.Stands.{StandsFor, IsTakenNext, IsUsedUp, IsFirstCrowd, HasCrowd, frame_at};
+ghost use Rattle.modbus_rtu.specs.Quiet.{IsQuietLine};
 ghost use Rattle.modbus_rtu.specs.Framed.{HasHead, stream_of, IsWholeReading};
+
+/// The checksum goes by whole bytes: a byte's eight bit steps move the high half of the register down, and add what eight bit steps make
+/// of its low half and the byte (MODBUS over Serial Line V1.02, appendix B).
+pub fn crc_steps()
+    ensures { (register byte : ℕ) → byte < 2 ^ 8 → with_byte register byte ≡ bit_xor (register / 256) (shifts 8 (bit_xor register byte % 256)) }
+{}
 
 /// A verdict good or bad is the same in every list that the bytes begin.
 pub fn verdicts_stay()
@@ -70,7 +79,7 @@ pub fn frames_in_order()
 
 /// The offsets of a crowd are bad and uncovered in every list that the bytes begin.
 pub fn crowds_stay()
-    ensures { (bytes cuts more frames : List ℕ) (k stop : ℕ) → HasCrowd bytes cuts k → IsLeftmost (bytes ++ more) frames stop → (i : ℕ) → k ≤ i → i < k + 20 → (verdict (bytes ++ more) i ≡ Bad) × IsUncovered (bytes ++ more) frames i }
+    ensures { (bytes cuts more frames : List ℕ) (k stop : ℕ) → HasCrowd bytes cuts k → IsLeftmost (bytes ++ more) frames stop → (i : ℕ) → k ≤ i → i < k + TRIES → (verdict (bytes ++ more) i ≡ Bad) × IsUncovered (bytes ++ more) frames i }
 {}
 
 /// One search has exactly one answer, whatever judges the offsets.
@@ -100,8 +109,16 @@ pub fn standing()
 
     // Twenty bad offsets are the first crowd, and a crowd that no frame precedes is found so.
     ensures crowd { (bytes cuts held : List ℕ) (taken : List (ℕ × List ℕ)) → StandsFor bytes cuts held taken → IsNext held TooManyRetries → (k : ℕ) × IsFirstCrowd bytes cuts taken k }
-    ensures found { (bytes cuts held : List ℕ) (taken : List (ℕ × List ℕ)) (k : ℕ) → (s : StandsFor bytes cuts held taken) → HasCrowd bytes cuts k → ((frames : List ℕ) (stop : ℕ) → IsLeftmost bytes frames stop → (f : ℕ) → Contains frames f → s.place ≤ f → f < k + 19 → ⊥) → IsNext held TooManyRetries }
+    ensures found { (bytes cuts held : List ℕ) (taken : List (ℕ × List ℕ)) (k : ℕ) → (s : StandsFor bytes cuts held taken) → HasCrowd bytes cuts k → ((frames : List ℕ) (stop : ℕ) → IsLeftmost bytes frames stop → (f : ℕ) → Contains frames f → s.place ≤ f → f < k + (TRIES - 1) → ⊥) → IsNext held TooManyRetries }
 
     // A read that gave bytes, made where the held bytes begin open, appends them and is one more cut.
     ensures read { (bytes cuts held more : List ℕ) (taken : List (ℕ × List ℕ)) → StandsFor bytes cuts held taken → verdict held 0 ≡ Open → 0 < length more → StandsFor (bytes ++ more) (cuts ++ length (bytes ++ more) ∷ []) (held ++ more) taken }
+{}
+
+/// A quiet line goes on as it was read: whatever its pieces, no read brings a crowd, each frame that is given away is the next one of
+/// the line, and where all was read and used nothing is held.
+pub fn quiet_lines()
+    ensures calm { (read rest cuts : List ℕ) (messages : List (ℕ × List ℕ)) (k : ℕ) → IsQuietLine (read ++ rest) messages → HasCrowd read cuts k → ⊥ }
+    ensures next { (read rest cuts : List ℕ) (messages before : List (ℕ × List ℕ)) (message : ℕ × List ℕ) → IsQuietLine (read ++ rest) messages → IsTakenNext read cuts before message → (later : List (ℕ × List ℕ)) × (messages ≡ (before ++ message ∷ []) ++ later) }
+    ensures used { (read cuts left : List ℕ) (messages before : List (ℕ × List ℕ)) → IsQuietLine read messages → IsUsedUp read cuts left before → left ≡ [] }
 {}

@@ -18,6 +18,15 @@ impl fmt::Display for NoLength {
 
 impl Error for NoLength {}
 
+/// The most bytes that the PDU of a request frame has: that of a read and write of 255 bytes (V1.1b3, section 6.17).
+pub const MOST_PDU: usize = 265;
+
+/// How many bytes a frame has besides its PDU: the slave address and the checksum.
+pub(crate) const OVERHEAD: usize = 3;
+
+/// The bytes of the longest request frame, which are the most that an inbox holds.
+pub const CAPACITY: usize = MOST_PDU + OVERHEAD;
+
 /// The MEI type of Read Device Identification.
 pub(crate) const MEI_DEVICE_IDENTIFICATION: u8 = 0x0E;
 
@@ -39,7 +48,7 @@ pub fn request_pdu_len(adu: &[u8]) -> Result<Option<usize>, NoLength>
     ensures exact { result ≡ head adu.now }
 
     // The longest PDU is that of a read and write of 255 bytes, and no rule needs a byte past its tenth place.
-    ensures most { IfOk result (λ found. IfSome found (λ n. n ≤ 265)) }
+    ensures most { IfOk result (λ found. IfSome found (λ n. n ≤ MOST_PDU)) }
     ensures missing { result ≡ Ok None → length adu.now < 11 }
     ensures coded { IsErr result → 1 < length adu.now }
 {
@@ -87,29 +96,17 @@ pub trait LengthRule {
 }
 
 /// The rule of requests, `request_pdu_len`.
-#[derive(Clone, Copy, Debug, PartialEq, Eq)]
+#[derive(Clone, Copy, Debug, Default, PartialEq, Eq)]
 pub struct RequestRule;
 
 impl LengthRule for RequestRule {
+    ghost use Rattle.modbus_rtu.specs.declared.length.TheConstants.{CAPACITY};
+
     ghost head = { head };
 
-    ghost longest = { 268 };
+    ghost longest = { CAPACITY };
 
     fn pdu_len(&self, adu: &[u8]) -> Result<Option<usize>, NoLength> {
         request_pdu_len(adu)
-    }
-}
-
-#[cfg(test)]
-mod tests {
-    use super::*;
-
-    #[test]
-    fn lengths_are_those_of_the_table(rt: HostRuntime) {
-        let counted = [0x01, 0x17, 0, 0, 0, 0, 0, 0, 0, 0, 99];
-        assert_eq!(rt; request_pdu_len(&counted), Ok(Some(109)));
-        assert_eq!(rt; RequestRule.pdu_len(&[0x01, 0x2B]), Ok(None));
-        assert_eq!(rt; request_pdu_len(&[0x01, 0x2B, 0x0D]), Err(NoLength(0x2B)));
-        assert_eq!(rt; request_pdu_len(&[0x01, 0x66]), Err(NoLength(0x66)));
     }
 }

@@ -1,5 +1,5 @@
 //! The search for the next frame in the bytes that a reader holds.
-ghost use Rattle.std.specs.Prelude.{◌≡◌, ℕ, ◌+◌, ◌<◌, ◌≤◌, length};
+ghost use Rattle.modbus_rtu.specs.declared.length.TheConstants.{CAPACITY};
 ghost use Rattle.modbus_rtu.specs.Frame.{judged_by};
 ghost use Rattle.modbus_rtu.specs.Next.{IsNext, IsNextBy, IsWithin};
 
@@ -40,35 +40,7 @@ pub fn next_frame_by<R: LengthRule>(rule: &R, held: &[u8]) -> Next
 #[tactic(auto, unfolding(crate::specs::Frame::verdict_of))]
 pub fn next_frame(held: &[u8]) -> Next
     ensures exact { IsNext held.now result }
-    ensures within { IsWithin 268 held.now result }
+    ensures within { IsWithin CAPACITY held.now result }
 {
     next_frame_by(&RequestRule, held)
-}
-
-#[cfg(test)]
-mod tests {
-    use super::*;
-
-    #[test]
-    fn the_next_frame_is_found(rt: HostRuntime) {
-        let noise = [0x7F; 21];
-        let frame = [0xAA, 0x01, 0x03, 0x00, 0x00, 0x00, 0x01, 0x84, 0x0A];
-        let found = Next::Frame {
-            start: 1,
-            pdu_len: 5,
-        };
-        for (held, next) in [
-            (noise.as_slice(), Next::TooManyRetries),
-            (&noise[..20], Next::Waiting { dropped: 19 }),
-            (frame.as_slice(), found),
-            (&frame[1..8], Next::Waiting { dropped: 0 }),
-            (&[], Next::Waiting { dropped: 0 }),
-            (&[0x00], Next::Waiting { dropped: 0 }),
-            (&[0x12, 0x16], Next::Waiting { dropped: 0 }),
-            (&[0x12, 0x0F], Next::Waiting { dropped: 0 }),
-            (&[0x12, 0x10], Next::Waiting { dropped: 0 }),
-        ] {
-            assert_eq!(rt; next_frame(held), next);
-        }
-    }
 }

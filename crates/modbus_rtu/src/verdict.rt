@@ -1,9 +1,10 @@
 //! What stands at the front of a list of bytes.
 ghost use Rattle.std.specs.Prelude.{◌≡◌, ◌≢◌, ℕ, ◌+◌, ◌<◌, ◌≤◌, length};
+ghost use Rattle.modbus_rtu.specs.declared.length.TheConstants.{CAPACITY};
 ghost use Rattle.modbus_rtu.specs.Frame.{judged_by, verdict_of};
 
 use crate::crc::check_crc;
-use crate::length::{LengthRule, RequestRule};
+use crate::length::{LengthRule, OVERHEAD, RequestRule};
 
 /// What stands at the front of bytes, read by a length rule.
 #[derive(Clone, Copy, Debug, PartialEq, Eq)]
@@ -30,7 +31,7 @@ pub fn judge_by<R: LengthRule>(rule: &R, adu: &[u8]) -> Verdict
         Err(_) => Verdict::Bad,
         Ok(None) => Verdict::Open,
         Ok(Some(pdu_len)) => {
-            if adu.len() < pdu_len + 3 {
+            if adu.len() < pdu_len + OVERHEAD {
                 return Verdict::Open;
             }
             let (body, rest) = adu.split_at(pdu_len + 1);
@@ -49,7 +50,7 @@ pub fn judge(adu: &[u8]) -> Verdict
     ensures exact { result ≡ verdict_of adu.now }
 
     // The longest request has 268 bytes.
-    ensures short { result ≡ Verdict.Open → length adu.now < 268 }
+    ensures short { result ≡ Verdict.Open → length adu.now < CAPACITY }
     ensures whole { (n : ℕ) → result ≡ Verdict.Good n → n + 3 ≤ length adu.now }
 {
     judge_by(&RequestRule, adu)

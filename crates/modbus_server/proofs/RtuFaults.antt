@@ -1,23 +1,21 @@
 -- The failing place of a call is the first by offset.
-use Rattle.std.proofs.Common.{◌≡◌, inl, inr, ℕ, ◌+◌, ◌<◌, ◌≤◌, List, [], ◌∷◌, ◌++◌, map, length, refl, sym, ap, ◌∙◌, subst, arith, Ok, Err}
+use Rattle.std.proofs.Common.{◌≡◌, inl, inr, ℕ, ◌+◌, ◌<◌, ◌≤◌, List, [], ◌∷◌, ◌++◌, map, length, refl, sym, ap, ◌∙◌, subst, arith, append-nil, Ok, Err}
 use Rattle.std.specs.Prelude.{All, Contains}
 use Rattle.std.proofs.lemmas.Bool.{cases_lt, lt-ltb, le-ltb}
 use Rattle.modbus_rtu.specs.Place.{frames_below}
 use Rattle.modbus_rtu.specs.Leftmost.{IsLeftmost}
 use Rattle.modbus_rtu.specs.Stands.{frame_at}
-use Rattle.modbus_rtu.proofs.Reading.{reads_same}
-use Rattle.modbus_rtu.proofs.LeftmostReads.{none, here, there, front_or_later, reads_from_leftmost}
-use Rattle.modbus_frame.specs.Meaning.{Asked}
+use Rattle.modbus_server.proofs.Contained.{none, here, there, front_or_later}
 use Rattle.modbus_frame.specs.declared.fault.Reason.{Reason}
-use Rattle.modbus_server.specs.Outcome.{Outcome}
+use Rattle.modbus_service.specs.Answering.{Answering}
 use Rattle.modbus_pdu.specs.RequestOf.{request_of}
-use Rattle.modbus_server.specs.Service.{Exchange, Run, Fits, asked_of, asks}
-use Rattle.modbus_server.specs.Framing.{crowd, no_length, foreign}
+use Rattle.modbus_server.specs.Exchanges.{Exchange, Run, Fits, asked_of, asks}
+use Rattle.modbus_server.specs.declared.error.ProcessError.TheVariants.{TooManyRetries}
 use Rattle.modbus_server.specs.Rtu.{rtu}
-use Rattle.modbus_server.specs.Serving.{Served, Halt, Halts, remaining, broken, refused, too_long}
+use Rattle.modbus_server.specs.Serving.{Served, Halt, Halts, remaining, broken, refused, too_long, asked_last, all_asked}
 use Rattle.modbus_server.specs.FirstFault.{HasFault, IsFirstFault}
 use Rattle.modbus_server.proofs.Asked.{all_fit, last_or_within}
-use Rattle.modbus_server.proofs.Served.{run_more}
+use Rattle.modbus_server.proofs.Standing.{run_more}
 
 below_contains : (place : ℕ) (frames : List ℕ) (f : ℕ) → Contains frames f → f < place → Contains (frames_below place frames) f
 below_contains place [] f c lt = absurd (none f c)
@@ -83,55 +81,56 @@ refused_later bytes frames place before exchanges e asked other reason c bad = e
   | inr ge ↦ ge
 ]
 
-module _ {S : Type 0} (answers : S → ℕ → Asked → Outcome → S → Type 0) (bytes cuts : List ℕ) (opening now : S) (written : List ℕ) where
-  abbrev pub FirstFault : Halt → Type 0
-  FirstFault halt = (all : List (Exchange rtu)) × Run rtu answers opening all now × ((frames : List ℕ) (stop : ℕ) → IsLeftmost bytes frames stop → IsFirstFault bytes cuts frames all halt)
+-- where each list of bytes has one leftmost reading
+module _ (one : (bytes frames others : List ℕ) (stop last : ℕ) → IsLeftmost bytes frames stop → IsLeftmost bytes others last → (frames ≡ others) × (stop ≡ last))
+    {S : Type 0} (A : Answering S) (bytes cuts : List ℕ) (opening now : S) (written : List ℕ) where
+  -- all exchanges of the run, whose place that fails first is this one
+  abbrev pub FirstFault : Halt → List (Exchange rtu) → Type 0
+  FirstFault halt all = Run rtu A opening all now × ((frames : List ℕ) (stop : ℕ) → IsLeftmost bytes frames stop → IsFirstFault bytes cuts frames all halt)
 
   module _ (before : List (ℕ × List ℕ)) (exchanges : List (Exchange rtu)) (asked : map (asked_of rtu) before ≡ map (asks rtu) exchanges)
-      (fit : All (Fits rtu) exchanges) (ends : S) (run : Run rtu answers opening exchanges ends) where
-    ran : now ≡ ends → Run rtu answers opening exchanges now
-    ran same = subst (λ x. Run rtu answers opening exchanges x) (sym same) run
+      (fit : All (Fits rtu) exchanges) (ends : S) (run : Run rtu A opening exchanges ends) where
+    ran : now ≡ ends → Run rtu A opening exchanges now
+    ran same = subst (λ x. Run rtu A opening exchanges x) (sym same) run
 
-    by_halts : (halt : Halt) → Halts rtu answers bytes cuts before ends now halt → FirstFault halt
-    by_halts (remaining left) (u, same) = (exchanges, ran same, none_fails)
+    alone : (halt : Halt) → FirstFault halt exchanges → FirstFault halt (exchanges ++ [])
+    alone halt h = subst (λ all. FirstFault halt all) (sym (append-nil exchanges)) h
+
+    by_halts : (halt : Halt) (h : Halts rtu A bytes cuts before ends now halt) → FirstFault halt (exchanges ++ asked_last rtu A bytes cuts before ends now halt h)
+    by_halts (remaining left) (u, same) = alone (remaining left) (ran same, none_fails)
       where
         none_fails : (frames : List ℕ) (stop : ℕ) → IsLeftmost bytes frames stop → IsFirstFault bytes cuts frames exchanges (remaining left)
         none_fails frames stop l = no_fault
           where
             took : before ≡ map (frame_at bytes) frames
-            took = u.took ∙ ap (map (frame_at bytes)) (reads_same (reads_from_leftmost bytes u.reading) refl (reads_from_leftmost bytes l)).0
+            took = u.took ∙ ap (map (frame_at bytes)) (one bytes u.frames frames u.stop stop u.reading l).0
 
             no_fault : (place : ℕ) (halt : Halt) → HasFault bytes cuts frames exchanges place halt → ⊥
             no_fault place (remaining other) h = h
-            no_fault place (broken crowd) (k, c, is) = u.calm k c
-            no_fault place (broken no_length) h = h
-            no_fault place (broken (foreign protocol)) h = h
+            no_fault place (broken TooManyRetries) (k, c, is) = u.calm k c
+            no_fault place (broken _) h = h
             no_fault place (refused reason) (c, bad) = all_requests (frame_at bytes) frames exchanges (ap (map (asked_of rtu)) (sym took) ∙ asked) place reason c bad
             no_fault place (too_long size) (c, earlier, x, later, splits, count, asks', is, long) = all_fit rtu exchanges earlier later x size fit splits is long
-    by_halts (broken crowd) ((k, first), same) = (exchanges, ran same, λ frames stop l. (k + 19, (k, first.crowd, refl), later frames stop l))
+    by_halts (broken TooManyRetries) ((k, first), same) = alone (broken TooManyRetries) (ran same, λ frames stop l. (k + 19, (k, first.crowd, refl), later frames stop l))
       where
         later : (frames : List ℕ) (stop : ℕ) → IsLeftmost bytes frames stop → (other : ℕ) (fault : Halt) → HasFault bytes cuts frames exchanges other fault → k + 19 ≤ other
         later frames stop l other (remaining left) h = absurd h
-        later frames stop l other (broken crowd) (j, c', is') = omega (arith, first.first j c')
-        later frames stop l other (broken no_length) h = absurd h
-        later frames stop l other (broken (foreign protocol)) h = absurd h
+        later frames stop l other (broken TooManyRetries) (j, c', is') = omega (arith, first.first j c')
+        later frames stop l other (broken _) h = absurd h
         later frames stop l other (refused reason) (c', bad) = refused_later bytes frames (k + 19) before exchanges (first.took frames stop l) asked other reason c' bad
         later frames stop l other (too_long size) (c', earlier, x, after, splits, count, asks', is', long) = absurd (all_fit rtu exchanges earlier after x size fit splits is' long)
-    by_halts (broken no_length) (b, same) = absurd b
-    by_halts (broken (foreign protocol)) (b, same) = absurd b
-    by_halts (refused r) (message, t, bad, same) =
-        (exchanges, ran same, λ frames stop l. (t.offset, (t.within frames stop l, ap (λ (m : ℕ × List ℕ). request_of m.1) t.is ∙ bad), later frames stop l))
+    by_halts (broken _) (b, same) = absurd b
+    by_halts (refused r) (message, t, bad, same) = alone (refused r)
+        (ran same, λ frames stop l. (t.offset, (t.within frames stop l, ap (λ (m : ℕ × List ℕ). request_of m.1) t.is ∙ bad), later frames stop l))
       where
         later : (frames : List ℕ) (stop : ℕ) → IsLeftmost bytes frames stop → (other : ℕ) (fault : Halt) → HasFault bytes cuts frames exchanges other fault → t.offset ≤ other
         later frames stop l other (remaining left) h = absurd h
-        later frames stop l other (broken crowd) (j, c', is') = omega (arith, t.calm j c')
-        later frames stop l other (broken no_length) h = absurd h
-        later frames stop l other (broken (foreign protocol)) h = absurd h
+        later frames stop l other (broken TooManyRetries) (j, c', is') = omega (arith, t.calm j c')
+        later frames stop l other (broken _) h = absurd h
         later frames stop l other (refused reason) (c', bad') = refused_later bytes frames t.offset before exchanges (t.earlier frames stop l) asked other reason c' bad'
         later frames stop l other (too_long size) (c', earlier, x, after, splits, count, asks', is', long) = absurd (all_fit rtu exchanges earlier after x size fit splits is' long)
     by_halts (too_long n) (message, t, y, asked', step, is, long) = (
-      exchanges ++ y ∷ [],
-      run_more rtu answers opening exchanges ends y now run step,
+      run_more rtu A opening exchanges ends y now run step,
       λ frames stop l. (t.offset, (t.within frames stop l, exchanges, y, [], refl, sym (count_before frames stop l), ap (asked_of rtu) t.is ∙ asked', is, long), later frames stop l),
     )
       where
@@ -140,9 +139,8 @@ module _ {S : Type 0} (answers : S → ℕ → Asked → Outcome → S → Type 
 
         later : (frames : List ℕ) (stop : ℕ) → IsLeftmost bytes frames stop → (other : ℕ) (fault : Halt) → HasFault bytes cuts frames (exchanges ++ y ∷ []) other fault → t.offset ≤ other
         later frames stop l other (remaining left) h = absurd h
-        later frames stop l other (broken crowd) (j, c', is') = omega (arith, t.calm j c')
-        later frames stop l other (broken no_length) h = absurd h
-        later frames stop l other (broken (foreign protocol)) h = absurd h
+        later frames stop l other (broken TooManyRetries) (j, c', is') = omega (arith, t.calm j c')
+        later frames stop l other (broken _) h = absurd h
         later frames stop l other (refused reason) (c', bad') = refused_later bytes frames t.offset before exchanges (t.earlier frames stop l) asked other reason c' bad'
         later frames stop l other (too_long size) (c', earlier, x, after, splits, count, asks', is', long') = elim (last_or_within rtu exchanges earlier after y x splits) [
           | inl (rest, same) ↦ absurd (all_fit rtu exchanges earlier rest x size fit same is' long')
@@ -152,5 +150,5 @@ module _ {S : Type 0} (answers : S → ℕ → Asked → Outcome → S → Type 
           ]
         ]
 
-  pub first_fault : (halt : Halt) → Served rtu answers bytes cuts opening now written halt → FirstFault halt
+  pub first_fault : (halt : Halt) (s : Served rtu A bytes cuts opening now written halt) → FirstFault halt (all_asked rtu A bytes cuts opening now written halt s)
   first_fault halt s = by_halts s.before s.exchanges s.asked s.fit s.ends s.run halt s.halts

@@ -1,87 +1,25 @@
 -- A quiet line goes on as it was read.
-use Rattle.std.proofs.Common.{◌≡◌, inl, inr, ℕ, ◌+◌, ◌<◌, ◌≤◌, List, [], ◌∷◌, ◌++◌, map, length, take, drop, refl, sym, ap, ◌∙◌, subst, arith, append-nil, append_assoc}
-use Rattle.std.proofs.lemmas.Grind.{common_steps}
-use Rattle.std.proofs.lemmas.List.{take-append-drop, map-append}
-use Rattle.std.proofs.lemmas.List.Elements.{All-contains, Contains-append_cases}
-use Rattle.modbus_rtu.specs.declared.verdict.Verdict.TheVariants.{Bad, Good}
-use Rattle.modbus_rtu.specs.Frame.{verdict}
-use Rattle.modbus_rtu.specs.Leftmost.{IsLeftmost, IsUncovered}
-use Rattle.modbus_rtu.specs.Place.{IsCrowd, frames_below}
-use Rattle.modbus_rtu.specs.Stands.{HasCrowd, IsTakenNext, IsUsedUp, frame_at}
-use Rattle.modbus_rtu.proofs.Verdicts.{verdict-append, good_not_open, bad_not_open}
-use Rattle.modbus_rtu.proofs.Reading.{Reads, reading, reads_same}
-use Rattle.modbus_rtu.proofs.LeftmostReads.{Rises-above, from_reads, reads_from_leftmost, leftmost_from_reads}
-use Rattle.modbus_rtu.proofs.Places.{Passes-append, passes_of_reads, rest_of}
-use Rattle.modbus_rtu.proofs.Fronts.{frames_same, frames_around}
-use Rattle.modbus_server.specs.Framing.{Fault, crowd, no_length, foreign}
-use Rattle.modbus_server.specs.Rtu.{rtu, IsCrowdedAfter, IsQuietLine}
+use Rattle.std.proofs.Common.{◌≡◌, ℕ, List, [], ◌∷◌, ◌++◌, ap, ◌∙◌, subst, append-nil}
+use Rattle.modbus_rtu.specs.Stands.{HasCrowd, IsTakenNext, IsUsedUp}
+use Rattle.modbus_rtu.specs.Quiet.{IsQuietLine}
+use Rattle.modbus_server.specs.declared.error.ProcessError.{ProcessError}
+use Rattle.modbus_server.specs.declared.error.ProcessError.TheVariants.{TooManyRetries}
+use Rattle.modbus_server.specs.Rtu.{rtu, IsCrowdedAfter}
 use Rattle.modbus_server.proofs.Completing.{GoesOn}
 
-module _ (read rest : List ℕ) (messages : List (ℕ × List ℕ)) (clean : IsQuietLine (read ++ rest) messages) where
-  whole : Reads (read ++ rest) 0 clean.frames (length (read ++ rest))
-  whole = reads_from_leftmost (read ++ rest) clean.reading
+module _ (calm : (read rest cuts : List ℕ) (messages : List (ℕ × List ℕ)) (k : ℕ) → IsQuietLine (read ++ rest) messages → HasCrowd read cuts k → ⊥)
+    (next : (read rest cuts : List ℕ) (messages before : List (ℕ × List ℕ)) (message : ℕ × List ℕ) → IsQuietLine (read ++ rest) messages → IsTakenNext read cuts before message
+    → (later : List (ℕ × List ℕ)) × (messages ≡ (before ++ message ∷ []) ++ later))
+    (used : (read cuts left : List ℕ) (messages before : List (ℕ × List ℕ)) → IsQuietLine read messages → IsUsedUp read cuts left before → left ≡ [])
+    (read rest : List ℕ) (messages : List (ℕ × List ℕ)) (clean : IsQuietLine (read ++ rest) messages) where
+  unbroken : (cuts : List ℕ) (before : List (ℕ × List ℕ)) (fault : ProcessError) → IsCrowdedAfter read cuts before fault → ⊥
+  unbroken cuts before TooManyRetries (k, first) = calm read rest cuts messages k clean first.crowd
+  unbroken cuts before _ b = absurd b
 
-  more_frames : (frames : List ℕ) (stop : ℕ) → IsLeftmost read frames stop → (later : List ℕ) × (clean.frames ≡ frames ++ later)
-  more_frames frames stop l =
-      let r = rest_of (Passes-append rest (passes_of_reads (reads_from_leftmost read l))) refl whole in
-      (r.0, r.1)
-
-  module _ (old now back : List ℕ) (joined : now ++ back ≡ read ++ rest) (k : ℕ) (c : IsCrowd old now k) where
-    rest_reads : (later : List ℕ) × (clean.frames ≡ c.frames ++ later) × Reads (now ++ back) c.stop later (length (read ++ rest))
-    rest_reads = rest_of (Passes-append back (passes_of_reads (reads_from_leftmost now c.reading))) refl (subst (λ b. Reads b 0 clean.frames (length (read ++ rest))) (sym joined) whole)
-
-    bad_there : (i : ℕ) → k ≤ i → i < k + 20 → verdict (read ++ rest) i ≡ Bad
-    bad_there i ge lt = subst (λ b. verdict b i ≡ Bad) joined (verdict-append now back i (bad_not_open (c.bad i ge lt)) ∙ c.bad i ge lt)
-
-    free_there : (i : ℕ) → k ≤ i → i < k + 20 → IsUncovered (read ++ rest) clean.frames i
-    free_there i ge lt f within (n, good, above, inside) =
-        let later = rest_reads in
-        let ends = c.ends in
-        elim (Contains-append_cases c.frames later.0 f (rw later.1 at within)) [
-          | inr c' ↦ absurd (omega (arith, Rises-above c.stop later.0 (from_reads (now ++ back) later.2).rises f c'))
-          | inl c' ↦ (let here_good = ((c.reading.delivered f (All-contains (λ g. g < c.stop) c.frames f c.reading.below c')).0 c').0 in
-              let same : verdict (read ++ rest) f ≡ Good here_good.0 = subst (λ b. verdict b f ≡ Good here_good.0) joined (verdict-append now back f (good_not_open here_good.1) ∙ here_good.1) in
-              let e : n ≡ here_good.0 = cc in
-              c.uncovered i ge lt f c' (here_good.0, here_good.1, above, omega arith))
-        ]
-
-    no_crowd_at : ⊥
-    no_crowd_at = clean.few k (λ i ge lt. (bad_there i ge lt, free_there i ge lt))
-
-  pub none_crowded : (cuts : List ℕ) (k : ℕ) → HasCrowd read cuts k → ⊥
-  none_crowded cuts k (b, e, between, c) =
-      no_crowd_at (take b read) (take e read) (drop e read ++ rest)
-      (sym (append_assoc (take e read) (drop e read) rest) ∙ ap (λ front. front ++ rest) (take-append-drop e read)) k c
-
-  unbroken : (cuts : List ℕ) (before : List (ℕ × List ℕ)) (fault : Fault) → IsCrowdedAfter read cuts before fault → ⊥
-  unbroken cuts before crowd (k, c) = none_crowded cuts k c.crowd
-  unbroken cuts before no_length b = absurd b
-  unbroken cuts before (foreign protocol) b = absurd b
-
-  next : (cuts : List ℕ) (before : List (ℕ × List ℕ)) (message : ℕ × List ℕ) → IsTakenNext read cuts before message → (later : List (ℕ × List ℕ)) × (messages ≡ (before ++ message ∷ []) ++ later)
-  next cuts before message t =
-      let r = reading read 0 (omega arith) in
-      let l : IsLeftmost read r.0 r.1 = leftmost_from_reads read r.2 in
-      let around = frames_around read r.0 r.1 t.offset l (t.within r.0 r.1 l) in
-      let more = more_frames r.0 r.1 l in
-      let g = frame_at (read ++ rest) in
-      let first : map g r.0 ≡ (before ++ message ∷ []) ++ map (frame_at read) around.0 =
-      frames_same read rest r.0 r.1 l ∙ ap (map (frame_at read)) around.1
-      ∙ map-append (frame_at read) (frames_below t.offset r.0) (t.offset ∷ around.0)
-      ∙ ap (λ xs. xs ++ frame_at read t.offset ∷ map (frame_at read) around.0) (sym (t.earlier r.0 r.1 l))
-      ∙ ap (λ m. before ++ m ∷ map (frame_at read) around.0) t.is
-      ∙ sym (append_assoc before (message ∷ []) (map (frame_at read) around.0)) in (
-        map (frame_at read) around.0 ++ map g more.0,
-        clean.are ∙ ap (map g) more.1 ∙ map-append g r.0 more.0 ∙ ap (λ xs. xs ++ map g more.0) first
-            ∙ append_assoc (before ++ message ∷ []) (map (frame_at read) around.0) (map g more.0),
-      )
-
-  used : (cuts : List ℕ) → rest ≡ [] → (left : List ℕ) (before : List (ℕ × List ℕ)) → IsUsedUp read cuts left before → left ≡ []
-  used cuts e left before u =
-      let whole_is : read ++ rest ≡ read = ap (λ r. read ++ r) e ∙ append-nil read in
-      let all : IsLeftmost read clean.frames (length read) = subst (λ b. IsLeftmost b clean.frames (length b)) whole_is clean.reading in
-      let stop : length read ≡ u.stop = (reads_same (reads_from_leftmost read all) refl (reads_from_leftmost read u.reading)).1 in
-      u.holds ∙ rw (← stop) (grind (arith, common_steps))
+  all_used : (cuts : List ℕ) → rest ≡ [] → (left : List ℕ) (before : List (ℕ × List ℕ)) → IsUsedUp read cuts left before → left ≡ []
+  all_used cuts none left before u =
+      let whole : read ++ rest ≡ read = ap (λ r. read ++ r) none ∙ append-nil read in
+      used read cuts left messages before (subst (λ bytes. IsQuietLine bytes messages) whole clean) u
 
   pub goes_on : (cuts : List ℕ) → GoesOn rtu read rest cuts messages
-  goes_on cuts = record { unbroken = unbroken cuts; next = next cuts; used = used cuts }
+  goes_on cuts = record { unbroken = unbroken cuts; next = λ before message t. next read rest cuts messages before message clean t; used = all_used cuts }

@@ -1,28 +1,20 @@
 -- The failing place of a call over units is the first one.
-use Rattle.std.proofs.Common.{◌≡◌, inl, inr, ℕ, ◌≤◌, List, [], ◌∷◌, ◌++◌, map, length, refl, sym, ap, ◌∙◌, subst, arith, Err, length-append, append_assoc}
+use Rattle.std.proofs.Common.{◌≡◌, inl, inr, ℕ, ◌≤◌, List, [], ◌∷◌, ◌++◌, map, length, refl, sym, ap, ◌∙◌, subst, arith, Err, length-append, append_assoc, append-nil}
 use Rattle.std.specs.Prelude.{All}
 use Rattle.std.proofs.lemmas.Bool.{cases_lt}
-use Rattle.modbus_frame.specs.Meaning.{Asked}
 use Rattle.modbus_frame.specs.declared.fault.Reason.{Reason}
 use Rattle.modbus_frame.specs.declared.tcp.Header.{Header}
 use Rattle.modbus_pdu.specs.RequestOf.{request_of}
 use Rattle.modbus_tcp.specs.Stream.{Rest, empty, unfinished, no_length, foreign, IsSplit}
-use Rattle.modbus_tcp.proofs.Splitting.{same_splitting, first_units}
-use Rattle.modbus_server.specs.Outcome.{Outcome}
-use Rattle.modbus_server.specs.Framing as framing
-use Rattle.modbus_server.specs.Service.{Exchange, Run, Fits, told_size, asked_of, asks}
+use Rattle.modbus_tcp.specs.Unit.{IsUnit, stream_of}
+use Rattle.modbus_service.specs.Answering.{Answering}
+use Rattle.modbus_server.specs.declared.error.ProcessError.TheVariants.{InvalidLength, InvalidProtocol}
+use Rattle.modbus_server.specs.Exchanges.{Exchange, Run, Fits, told_size, asked_of, asks}
 use Rattle.modbus_server.specs.Tcp.{tcp, IsNextUnit}
-use Rattle.modbus_server.specs.Serving.{Served, Halt, Halts, remaining, broken, refused, too_long}
+use Rattle.modbus_server.specs.Serving.{Served, Halt, Halts, remaining, broken, refused, too_long, asked_last, all_asked}
 use Rattle.modbus_server.specs.FirstUnit.{HasUnitFault, IsFirstUnitFault}
 use Rattle.modbus_server.proofs.Asked.{all_fit, last_or_within, same_after, no_refusal, as_many, within_front, asked_well, one_first}
-use Rattle.modbus_server.proofs.Served.{run_more}
-
--- a unit that comes next is the one after those that were taken
-next_of_all : (bytes cuts rest : List ℕ) (units before : List (Header × List ℕ)) (kind : Rest) (message : Header × List ℕ) → IsSplit bytes units rest kind → IsNextUnit bytes cuts before message
-    → (later : List (Header × List ℕ)) × (units ≡ before ++ message ∷ later)
-next_of_all bytes cuts rest units before kind message split (others, joined, whole) =
-    let first = first_units (before ++ message ∷ []) others rest units kind whole (subst (λ all. IsSplit all units rest kind) joined split) in
-    (first.0, first.1 ∙ append_assoc before (message ∷ []) first.0)
+use Rattle.modbus_server.proofs.Standing.{run_more}
 
 module _ (units before : List (Header × List ℕ)) (exchanges : List (Exchange tcp)) (asked : map (asked_of tcp) before ≡ map (asks tcp) exchanges) where
   -- no unit that was answered is refused
@@ -34,23 +26,36 @@ module _ (units before : List (Header × List ℕ)) (exchanges : List (Exchange 
     | inr ge ↦ ge
   ]
 
-module _ {S : Type 0} (answers : S → ℕ → Asked → Outcome → S → Type 0) (bytes cuts : List ℕ) (opening now : S) (written : List ℕ) where
-  abbrev pub FirstUnitFault : Halt → Type 0
-  FirstUnitFault halt = (all : List (Exchange tcp)) × Run tcp answers opening all now
+-- where each list of bytes is units and a rest in one way, and units that were taken off come first
+module _ (one : (bytes rest left : List ℕ) (units others : List (Header × List ℕ)) (kind other : Rest) → IsSplit bytes units rest kind → IsSplit bytes others left other
+    → (units ≡ others) × (rest ≡ left) × (kind ≡ other))
+    (first : (bytes held rest : List ℕ) (units all : List (Header × List ℕ)) (kind : Rest) → bytes ≡ stream_of units ++ held → All IsUnit units → IsSplit bytes all rest kind
+    → (later : List (Header × List ℕ)) × (all ≡ units ++ later) × IsSplit held later rest kind)
+    {S : Type 0} (A : Answering S) (bytes cuts : List ℕ) (opening now : S) (written : List ℕ) where
+  -- all exchanges of the run, whose place that fails first is this one
+  abbrev pub FirstUnitFault : Halt → List (Exchange tcp) → Type 0
+  FirstUnitFault halt all = Run tcp A opening all now
       × ((units : List (Header × List ℕ)) (rest : List ℕ) (kind : Rest) → IsSplit bytes units rest kind → IsFirstUnitFault units kind all halt)
 
+  -- a unit that comes next is the one after those that were taken
+  next_of_all : (rest : List ℕ) (units before : List (Header × List ℕ)) (kind : Rest) (message : Header × List ℕ) → IsSplit bytes units rest kind → IsNextUnit bytes cuts before message
+      → (later : List (Header × List ℕ)) × (units ≡ before ++ message ∷ later)
+  next_of_all rest units before kind message split (others, joined, whole) =
+      let more = first bytes others rest (before ++ message ∷ []) units kind joined whole split in
+      (more.0, more.1 ∙ append_assoc before (message ∷ []) more.0)
+
   module _ (before : List (Header × List ℕ)) (exchanges : List (Exchange tcp)) (asked : map (asked_of tcp) before ≡ map (asks tcp) exchanges)
-      (fit : All (Fits tcp) exchanges) (ends : S) (run : Run tcp answers opening exchanges ends) where
-    ran : now ≡ ends → Run tcp answers opening exchanges now
-    ran same = subst (λ x. Run tcp answers opening exchanges x) (sym same) run
+      (fit : All (Fits tcp) exchanges) (ends : S) (run : Run tcp A opening exchanges ends) where
+    ran : now ≡ ends → Run tcp A opening exchanges now
+    ran same = subst (λ x. Run tcp A opening exchanges x) (sym same) run
 
     -- all units were answered, so only the rest can fail
     only_rest : (units : List (Header × List ℕ)) (kind : Rest) → units ≡ before → (place : ℕ) (halt : Halt) → HasUnitFault units kind exchanges place halt
         → length units ≤ place
     only_rest units kind e place (remaining left) h = absurd h
-    only_rest units kind e place (broken framing.crowd) h = absurd h
-    only_rest units kind e place (broken framing.no_length) h = omega (arith, h.0)
-    only_rest units kind e place (broken (framing.foreign protocol)) h = omega (arith, h.0)
+    only_rest units kind e place (broken InvalidLength) h = omega (arith, h.0)
+    only_rest units kind e place (broken (InvalidProtocol protocol)) h = omega (arith, h.0)
+    only_rest units kind e place (broken _) h = absurd h
     only_rest units kind e place (refused reason) (earlier, message, later, splits, count, bad) =
         absurd (no_refusal tcp earlier message later exchanges reason (ap (map (asked_of tcp)) (sym splits ∙ e) ∙ asked) bad)
     only_rest units kind e place (too_long size) (earlier, message, later, splits, count, before', x, after, all, count', asks', is, long) =
@@ -59,9 +64,9 @@ module _ {S : Type 0} (answers : S → ℕ → Asked → Outcome → S → Type 
     none_fails : (units : List (Header × List ℕ)) (kind : Rest) → units ≡ before → (kind ≡ no_length → ⊥) → ((protocol : ℕ) → kind ≡ foreign protocol → ⊥)
         → (place : ℕ) (halt : Halt) → HasUnitFault units kind exchanges place halt → ⊥
     none_fails units kind e no_zero no_foreign place (remaining left) h = h
-    none_fails units kind e no_zero no_foreign place (broken framing.crowd) h = h
-    none_fails units kind e no_zero no_foreign place (broken framing.no_length) h = no_zero h.1
-    none_fails units kind e no_zero no_foreign place (broken (framing.foreign protocol)) h = no_foreign protocol h.1
+    none_fails units kind e no_zero no_foreign place (broken InvalidLength) h = no_zero h.1
+    none_fails units kind e no_zero no_foreign place (broken (InvalidProtocol protocol)) h = no_foreign protocol h.1
+    none_fails units kind e no_zero no_foreign place (broken _) h = h
     none_fails units kind e no_zero no_foreign place (refused reason) (earlier, message, later, splits, count, bad) =
         no_refusal tcp earlier message later exchanges reason (ap (map (asked_of tcp)) (sym splits ∙ e) ∙ asked) bad
     none_fails units kind e no_zero no_foreign place (too_long size) (earlier, message, later, splits, count, before', x, after, all, count', asks', is, long) =
@@ -71,56 +76,53 @@ module _ {S : Type 0} (answers : S → ℕ → Asked → Outcome → S → Type 
     not_before : (units tail : List (Header × List ℕ)) (kind : Rest) → units ≡ before ++ tail → (place : ℕ) (halt : Halt) → HasUnitFault units kind exchanges place halt
         → length before ≤ place
     not_before units tail kind e place (remaining left) h = absurd h
-    not_before units tail kind e place (broken framing.crowd) h = absurd h
-    not_before units tail kind e place (broken framing.no_length) h = omega (arith, h.0, ap length e, length-append before tail)
-    not_before units tail kind e place (broken (framing.foreign protocol)) h = omega (arith, h.0, ap length e, length-append before tail)
+    not_before units tail kind e place (broken InvalidLength) h = omega (arith, h.0, ap length e, length-append before tail)
+    not_before units tail kind e place (broken (InvalidProtocol protocol)) h = omega (arith, h.0, ap length e, length-append before tail)
+    not_before units tail kind e place (broken _) h = absurd h
     not_before units tail kind e place (refused reason) (earlier, message, later, splits, count, bad) =
         omega (arith, count, refused_later units before exchanges asked tail earlier message later reason e splits bad)
     not_before units tail kind e place (too_long size) (earlier, message, later, splits, count, before', x, after, all, count', asks', is, long) =
         absurd (all_fit tcp exchanges before' after x size fit all is long)
 
-    by_halts : (halt : Halt) → Halts tcp answers bytes cuts before ends now halt → FirstUnitFault halt
-    by_halts (remaining left) (inl split, same) = (
-      exchanges,
+    alone : (halt : Halt) → FirstUnitFault halt exchanges → FirstUnitFault halt (exchanges ++ [])
+    alone halt h = subst (λ all. FirstUnitFault halt all) (sym (append-nil exchanges)) h
+
+    by_halts : (halt : Halt) (h : Halts tcp A bytes cuts before ends now halt) → FirstUnitFault halt (exchanges ++ asked_last tcp A bytes cuts before ends now halt h)
+    by_halts (remaining left) (inl split, same) = alone (remaining left) (
       ran same,
       λ units rest kind whole.
-          let one = same_splitting bytes rest left units before kind empty whole split in
-          none_fails units kind one.0 (λ bad. cc) (λ protocol bad. cc),
+          let is = one bytes rest left units before kind empty whole split in
+          none_fails units kind is.0 (λ bad. cc) (λ protocol bad. cc),
     )
-    by_halts (remaining left) (inr split, same) = (
-      exchanges,
+    by_halts (remaining left) (inr split, same) = alone (remaining left) (
       ran same,
       λ units rest kind whole.
-          let one = same_splitting bytes rest left units before kind unfinished whole split in
-          none_fails units kind one.0 (λ bad. cc) (λ protocol bad. cc),
+          let is = one bytes rest left units before kind unfinished whole split in
+          none_fails units kind is.0 (λ bad. cc) (λ protocol bad. cc),
     )
-    by_halts (broken framing.crowd) (b, same) = absurd b
-    by_halts (broken framing.no_length) ((left, split), same) = (
-      exchanges,
+    by_halts (broken InvalidLength) ((left, split), same) = alone (broken InvalidLength) (
       ran same,
       λ units rest kind whole.
-          let one = same_splitting bytes rest left units before kind no_length whole split in
-          (length units, (refl, one.2), only_rest units kind one.0),
+          let is = one bytes rest left units before kind no_length whole split in
+          (length units, (refl, is.2), only_rest units kind is.0),
     )
-    by_halts (broken (framing.foreign protocol)) ((left, split), same) = (
-      exchanges,
+    by_halts (broken (InvalidProtocol protocol)) ((left, split), same) = alone (broken (InvalidProtocol protocol)) (
       ran same,
       λ units rest kind whole.
-          let one = same_splitting bytes rest left units before kind (foreign protocol) whole split in
-          (length units, (refl, one.2), only_rest units kind one.0),
+          let is = one bytes rest left units before kind (foreign protocol) whole split in
+          (length units, (refl, is.2), only_rest units kind is.0),
     )
-    by_halts (refused reason) (message, t, bad, same) = (
-      exchanges,
+    by_halts (broken _) (b, same) = absurd b
+    by_halts (refused reason) (message, t, bad, same) = alone (refused reason) (
       ran same,
       λ units rest kind whole.
-          let after = next_of_all bytes cuts rest units before kind message whole t in
+          let after = next_of_all rest units before kind message whole t in
           (length before, (before, message, after.0, after.1, refl, bad), not_before units (message ∷ after.0) kind after.1),
     )
     by_halts (too_long size) (message, t, y, asked', step, is, long) = (
-      exchanges ++ y ∷ [],
-      run_more tcp answers opening exchanges ends y now run step,
+      run_more tcp A opening exchanges ends y now run step,
       λ units rest kind whole.
-          let after = next_of_all bytes cuts rest units before kind message whole t in (
+          let after = next_of_all rest units before kind message whole t in (
             length before,
             (before, message, after.0, after.1, refl, exchanges, y, [], refl, sym (as_many tcp before exchanges asked), asked', is, long),
             later units (message ∷ after.0) kind after.1,
@@ -130,9 +132,9 @@ module _ {S : Type 0} (answers : S → ℕ → Asked → Outcome → S → Type 
         later : (units tail : List (Header × List ℕ)) (kind : Rest) → units ≡ before ++ tail → (place : ℕ) (halt : Halt) → HasUnitFault units kind (exchanges ++ y ∷ []) place halt
             → length before ≤ place
         later units tail kind e place (remaining left) h = absurd h
-        later units tail kind e place (broken framing.crowd) h = absurd h
-        later units tail kind e place (broken framing.no_length) h = omega (arith, h.0, ap length e, length-append before tail)
-        later units tail kind e place (broken (framing.foreign protocol)) h = omega (arith, h.0, ap length e, length-append before tail)
+        later units tail kind e place (broken InvalidLength) h = omega (arith, h.0, ap length e, length-append before tail)
+        later units tail kind e place (broken (InvalidProtocol protocol)) h = omega (arith, h.0, ap length e, length-append before tail)
+        later units tail kind e place (broken _) h = absurd h
         later units tail kind e place (refused reason) (earlier, message', later', splits, count, bad) =
             omega (arith, count, refused_later units before exchanges asked tail earlier message' later' reason e splits bad)
         later units tail kind e place (too_long size') (earlier, message', later', splits, count, before', x, after, all, count', asks', is', long') =
@@ -141,7 +143,7 @@ module _ {S : Type 0} (answers : S → ℕ → Asked → Outcome → S → Type 
               | inr same ↦ omega (arith, same, count', as_many tcp before exchanges asked)
             ]
 
-  pub first_unit_fault : (halt : Halt) → Served tcp answers bytes cuts opening now written halt → FirstUnitFault halt
+  pub first_unit_fault : (halt : Halt) (s : Served tcp A bytes cuts opening now written halt) → FirstUnitFault halt (all_asked tcp A bytes cuts opening now written halt s)
   first_unit_fault halt s = by_halts s.before s.exchanges s.asked s.fit s.ends s.run halt s.halts
 
 -- two kinds of fault are not both the first
@@ -152,23 +154,23 @@ module _ (units : List (Header × List ℕ)) (kind : Rest) (all : List (Exchange
 
   same_at : (place : ℕ) (f g : Halt) → HasUnitFault units kind all place f → HasUnitFault units kind all place g → f ≡ g
   same_at place (remaining left) g h k = absurd h
-  same_at place (broken framing.crowd) g h k = absurd h
-  same_at place (broken framing.no_length) (remaining left) h k = absurd k
-  same_at place (broken framing.no_length) (broken framing.crowd) h k = absurd k
-  same_at place (broken framing.no_length) (broken framing.no_length) h k = refl
-  same_at place (broken framing.no_length) (broken (framing.foreign protocol)) h k = let clash : no_length ≡ foreign protocol = sym h.1 ∙ k.1 in cc
-  same_at place (broken framing.no_length) (refused reason) h (earlier, message, later, splits, count, bad) = absurd (past_all earlier message later place splits count h.0)
-  same_at place (broken framing.no_length) (too_long size) h k = absurd (past_all k.0 k.1 k.2 place k.3 k.4 h.0)
-  same_at place (broken (framing.foreign protocol)) (remaining left) h k = absurd k
-  same_at place (broken (framing.foreign protocol)) (broken framing.crowd) h k = absurd k
-  same_at place (broken (framing.foreign protocol)) (broken framing.no_length) h k = let clash : no_length ≡ foreign protocol = sym k.1 ∙ h.1 in cc
-  same_at place (broken (framing.foreign protocol)) (broken (framing.foreign other)) h k = let same : foreign protocol ≡ foreign other = sym h.1 ∙ k.1 in cc
-  same_at place (broken (framing.foreign protocol)) (refused reason) h (earlier, message, later, splits, count, bad) = absurd (past_all earlier message later place splits count h.0)
-  same_at place (broken (framing.foreign protocol)) (too_long size) h k = absurd (past_all k.0 k.1 k.2 place k.3 k.4 h.0)
+  same_at place (broken InvalidLength) (remaining left) h k = absurd k
+  same_at place (broken InvalidLength) (broken InvalidLength) h k = refl
+  same_at place (broken InvalidLength) (broken (InvalidProtocol protocol)) h k = let clash : no_length ≡ foreign protocol = sym h.1 ∙ k.1 in cc
+  same_at place (broken InvalidLength) (broken _) h k = absurd k
+  same_at place (broken InvalidLength) (refused reason) h (earlier, message, later, splits, count, bad) = absurd (past_all earlier message later place splits count h.0)
+  same_at place (broken InvalidLength) (too_long size) h k = absurd (past_all k.0 k.1 k.2 place k.3 k.4 h.0)
+  same_at place (broken (InvalidProtocol protocol)) (remaining left) h k = absurd k
+  same_at place (broken (InvalidProtocol protocol)) (broken InvalidLength) h k = let clash : no_length ≡ foreign protocol = sym k.1 ∙ h.1 in cc
+  same_at place (broken (InvalidProtocol protocol)) (broken (InvalidProtocol other)) h k = let same : foreign protocol ≡ foreign other = sym h.1 ∙ k.1 in cc
+  same_at place (broken (InvalidProtocol protocol)) (broken _) h k = absurd k
+  same_at place (broken (InvalidProtocol protocol)) (refused reason) h (earlier, message, later, splits, count, bad) = absurd (past_all earlier message later place splits count h.0)
+  same_at place (broken (InvalidProtocol protocol)) (too_long size) h k = absurd (past_all k.0 k.1 k.2 place k.3 k.4 h.0)
+  same_at place (broken _) g h k = absurd h
   same_at place (refused reason) (remaining left) h k = absurd k
-  same_at place (refused reason) (broken framing.crowd) h k = absurd k
-  same_at place (refused reason) (broken framing.no_length) (earlier, message, later, splits, count, bad) k = absurd (past_all earlier message later place splits count k.0)
-  same_at place (refused reason) (broken (framing.foreign protocol)) (earlier, message, later, splits, count, bad) k = absurd (past_all earlier message later place splits count k.0)
+  same_at place (refused reason) (broken InvalidLength) (earlier, message, later, splits, count, bad) k = absurd (past_all earlier message later place splits count k.0)
+  same_at place (refused reason) (broken (InvalidProtocol protocol)) (earlier, message, later, splits, count, bad) k = absurd (past_all earlier message later place splits count k.0)
+  same_at place (refused reason) (broken _) h k = absurd k
   same_at place (refused reason) (refused other) (earlier, message, later, splits, count, bad) (earlier', message', later', splits', count', bad') =
       let same : message ≡ message' = same_after earlier earlier' message message' later later' (sym splits ∙ splits') (count ∙ sym count') in
       let e : Err reason ≡ Err other = sym bad ∙ ap (λ (m : Header × List ℕ). request_of m.1) same ∙ bad' in
@@ -177,9 +179,9 @@ module _ (units : List (Header × List ℕ)) (kind : Rest) (all : List (Exchange
       let same : message' ≡ message = same_after earlier' earlier message' message later' later (sym splits' ∙ splits) (count' ∙ sym count) in
       absurd (asked_well tcp message x reason bad (ap (asked_of tcp) (sym same) ∙ asked))
   same_at place (too_long size) (remaining left) h k = absurd k
-  same_at place (too_long size) (broken framing.crowd) h k = absurd k
-  same_at place (too_long size) (broken framing.no_length) h k = absurd (past_all h.0 h.1 h.2 place h.3 h.4 k.0)
-  same_at place (too_long size) (broken (framing.foreign protocol)) h k = absurd (past_all h.0 h.1 h.2 place h.3 h.4 k.0)
+  same_at place (too_long size) (broken InvalidLength) h k = absurd (past_all h.0 h.1 h.2 place h.3 h.4 k.0)
+  same_at place (too_long size) (broken (InvalidProtocol protocol)) h k = absurd (past_all h.0 h.1 h.2 place h.3 h.4 k.0)
+  same_at place (too_long size) (broken _) h k = absurd k
   same_at place (too_long size) (refused reason) (earlier', message', later', splits', count', before, x, after, is_all, many, asked, is, long) (earlier, message, later, splits, count, bad) =
       let same : message' ≡ message = same_after earlier' earlier message' message later' later (sym splits' ∙ splits) (count' ∙ sym count) in
       absurd (asked_well tcp message x reason bad (ap (asked_of tcp) (sym same) ∙ asked))

@@ -1,12 +1,11 @@
 -- What a buffer of units gives.
-use Rattle.std.proofs.Common.{◌≡◌, ◌⊎◌, inl, inr, ℕ, ◌<◌, List, [], ◌∷◌, ◌++◌, length, sym, ap, ◌∙◌, arith, append-nil, append_assoc}
+use Rattle.std.proofs.Common.{◌≡◌, ◌⊎◌, inl, inr, ℕ, List, [], ◌∷◌, ◌++◌, sym, ap, ◌∙◌, append-nil, append_assoc}
 use Rattle.std.specs.Prelude.{All}
 use Rattle.std.proofs.lemmas.List.Elements.{All-append, All-cons, All-nil}
 use Rattle.std.proofs.lemmas.Grind.{flat_map-append}
 use Rattle.modbus_frame.specs.declared.tcp.Header.{Header}
 use Rattle.modbus_tcp.specs.Unit.{unit, IsUnit, stream_of}
 use Rattle.modbus_tcp.specs.Stream.{Rest, empty, unfinished, IsRest, IsSplit, BeginsWith}
-use Rattle.modbus_tcp.proofs.Fronts.{told}
 use Rattle.modbus_server.specs.Tcp.{Follows, IsNextUnit, AreAllUnits}
 
 stream_more : (units : List (Header × List ℕ)) (message : Header × List ℕ) (others : List ℕ)
@@ -30,6 +29,3 @@ module _ (bytes cuts held : List ℕ) (taken : List (Header × List ℕ)) (s : F
   pub all_units : IsRest held empty ⊎ IsRest held unfinished → AreAllUnits bytes cuts held taken
   all_units (inl none) = inl (split_with empty none)
   all_units (inr part) = inr (split_with unfinished part)
-
-pub fewer : (bytes others : List ℕ) (message : Header × List ℕ) → BeginsWith bytes message others → length others < length bytes
-fewer bytes others message begins = let tells = told begins in omega (arith, tells.all)

@@ -1,10 +1,13 @@
 -- When a call of a server comes to the end of its input.
-use Rattle.std.specs.Prelude.{◌≡◌, ℕ, List, ◌++◌, map, All, Ok}
+use Rattle.std.specs.Prelude.{◌≡◌, ◌⊎◌, ℕ, ◌<◌, List, ◌++◌, map, length, All, IsTrue, Result, Ok, Err}
 use Rattle.modbus_frame.specs.Meaning.{Asked}
 use Rattle.modbus_pdu.specs.RequestOf.{request_of}
-use Rattle.modbus_server.specs.Outcome.{Outcome}
+use Rattle.modbus_link.specs.Outside.{Input, Output, Rose}
+use Rattle.modbus_service.specs.Answering.{Answering}
+use Rattle.modbus_server.specs.declared.error.ProcessError.{ProcessError}
+use Rattle.modbus_server.specs.declared.error.ProcessError.TheVariants.{NoMemory}
 use Rattle.modbus_server.specs.Framing.{Framing, Message}
-use Rattle.modbus_server.specs.Service.{Exchange, Run, Fits, asked_of, asks}
+use Rattle.modbus_server.specs.Exchanges.{Exchange, Run, Fits, asked_of, asks}
 
 abbrev pub IsRequest : (F : Framing) → Message F → Type 0
 IsRequest F message = (request : Asked) × (request_of message.1 ≡ Ok request)
@@ -16,6 +19,12 @@ pub record IsCleanLine (F : Framing) (bytes : List ℕ) : Type 0 where
   pub requests : All (IsRequest F) messages
 
 -- in every run of the service over the first messages, each reply fits
-abbrev pub RepliesFit : (F : Framing) → {S : Type 0} → (S → ℕ → Asked → Outcome → S → Type 0) → S → List (Message F) → Type 0
-RepliesFit F {S} answers opening messages = (xs : List (Exchange F)) (end : S) (front rest : List (Message F)) → Run F answers opening xs end
+abbrev pub RepliesFit : (F : Framing) → {S : Type 0} → Answering S → S → List (Message F) → Type 0
+RepliesFit F {S} A opening messages = (xs : List (Exchange F)) (end : S) (front rest : List (Message F)) → Run F A opening xs end
     → messages ≡ front ++ rest → map (asked_of F) front ≡ map (asks F) xs → All (Fits F) xs
+
+-- A clean line of fewer bytes than there are turns is served to its end, where every reply fits and neither the source nor the sink
+-- has a fault, or memory is wanting.
+abbrev pub Completes : (F : Framing) → {S : Type 0} → Answering S → S → Input → Input → Output → Output → ℕ → Result (Unit {0}) ProcessError → Type 0
+Completes F A opening from to sunk sinks turns result = IsTrue from.told → (clean : IsCleanLine F from.left) → RepliesFit F A opening clean.messages
+    → length from.left < turns → (Rose from.faults to.faults → ⊥) → (Rose sunk.faults sinks.faults → ⊥) → (result ≡ Ok tt) ⊎ (result ≡ Err NoMemory)

@@ -2,9 +2,10 @@
 use Rattle.std.specs.Prelude.{◌≡◌, ℕ, ◌+◌, ◌<◌, List, ◌∷◌, ◌++◌, length, Contains, Err}
 use Rattle.modbus_rtu.specs.Place.{frames_below}
 use Rattle.modbus_rtu.specs.Stands.{HasCrowd, frame_at}
+use Rattle.modbus_pdu.specs.declared.limits.TheConstants.{MAX_PDU}
 use Rattle.modbus_pdu.specs.RequestOf.{request_of}
-use Rattle.modbus_server.specs.Framing.{crowd}
-use Rattle.modbus_server.specs.Service.{Exchange, told_size, asked_of, asks}
+use Rattle.modbus_server.specs.declared.error.ProcessError.TheVariants.{TooManyRetries}
+use Rattle.modbus_server.specs.Exchanges.{Exchange, told_size, asked_of, asks}
 use Rattle.modbus_server.specs.Serving.{Halt, remaining, broken, refused, too_long}
 use Rattle.modbus_server.specs.First.{IsFirst}
 use Rattle.modbus_server.specs.Rtu.{rtu}
@@ -12,12 +13,12 @@ use Rattle.modbus_server.specs.Rtu.{rtu}
 -- something fails at a place, where the service was asked in all these exchanges, one for each of the first frames
 abbrev pub HasFault : List ℕ → List ℕ → List ℕ → List (Exchange rtu) → ℕ → Halt → Type 0
 HasFault bytes cuts frames all place (remaining left) = ⊥
-HasFault bytes cuts frames all place (broken crowd) = (k : ℕ) × HasCrowd bytes cuts k × (place ≡ k + 19)
+HasFault bytes cuts frames all place (broken TooManyRetries) = (k : ℕ) × HasCrowd bytes cuts k × (place ≡ k + 19)
 HasFault bytes cuts frames all place (broken _) = ⊥
 HasFault bytes cuts frames all place (refused reason) = Contains frames place × (request_of (frame_at bytes place).1 ≡ Err reason)
 HasFault bytes cuts frames all place (too_long size) =
     Contains frames place × (earlier : List (Exchange rtu)) × (x : Exchange rtu) × (later : List (Exchange rtu)) × (all ≡ earlier ++ x ∷ later)
-    × (length earlier ≡ length (frames_below place frames)) × (asked_of rtu (frame_at bytes place) ≡ asks rtu x) × (size ≡ told_size rtu x) × (253 < size)
+    × (length earlier ≡ length (frames_below place frames)) × (asked_of rtu (frame_at bytes place) ≡ asks rtu x) × (size ≡ told_size rtu x) × (MAX_PDU < size)
 
 -- the first place, by offset, where something fails, or that nothing does
 abbrev pub IsFirstFault : List ℕ → List ℕ → List ℕ → List (Exchange rtu) → Halt → Type 0

@@ -1,10 +1,11 @@
 -- The failing place in a stream of units: its first failing unit, else its rest.
 use Rattle.std.specs.Prelude.{◌≡◌, ℕ, ◌<◌, List, ◌∷◌, ◌++◌, length, Err}
 use Rattle.modbus_frame.specs.declared.tcp.Header.{Header}
+use Rattle.modbus_pdu.specs.declared.limits.TheConstants.{MAX_PDU}
 use Rattle.modbus_pdu.specs.RequestOf.{request_of}
 use Rattle.modbus_tcp.specs.Stream.{Rest, no_length, foreign}
-use Rattle.modbus_server.specs.Framing as framing
-use Rattle.modbus_server.specs.Service.{Exchange, told_size, asked_of, asks}
+use Rattle.modbus_server.specs.declared.error.ProcessError.TheVariants.{InvalidLength, InvalidProtocol}
+use Rattle.modbus_server.specs.Exchanges.{Exchange, told_size, asked_of, asks}
 use Rattle.modbus_server.specs.Serving.{Halt, remaining, broken, refused, too_long}
 use Rattle.modbus_server.specs.First.{IsFirst}
 use Rattle.modbus_server.specs.Tcp.{tcp}
@@ -13,16 +14,16 @@ use Rattle.modbus_server.specs.Tcp.{tcp}
 -- unit is how many come before it, and that of the rest comes after all units.
 abbrev pub HasUnitFault : List (Header × List ℕ) → Rest → List (Exchange tcp) → ℕ → Halt → Type 0
 HasUnitFault units kind all place (remaining left) = ⊥
-HasUnitFault units kind all place (broken framing.crowd) = ⊥
-HasUnitFault units kind all place (broken framing.no_length) = (place ≡ length units) × (kind ≡ no_length)
-HasUnitFault units kind all place (broken (framing.foreign protocol)) = (place ≡ length units) × (kind ≡ foreign protocol)
+HasUnitFault units kind all place (broken InvalidLength) = (place ≡ length units) × (kind ≡ no_length)
+HasUnitFault units kind all place (broken (InvalidProtocol protocol)) = (place ≡ length units) × (kind ≡ foreign protocol)
+HasUnitFault units kind all place (broken _) = ⊥
 HasUnitFault units kind all place (refused reason) =
     (earlier : List (Header × List ℕ)) × (message : Header × List ℕ) × (later : List (Header × List ℕ)) × (units ≡ earlier ++ message ∷ later)
     × (length earlier ≡ place) × (request_of message.1 ≡ Err reason)
 HasUnitFault units kind all place (too_long size) =
     (earlier : List (Header × List ℕ)) × (message : Header × List ℕ) × (later : List (Header × List ℕ)) × (units ≡ earlier ++ message ∷ later)
     × (length earlier ≡ place) × (before : List (Exchange tcp)) × (x : Exchange tcp) × (after : List (Exchange tcp)) × (all ≡ before ++ x ∷ after)
-    × (length before ≡ place) × (asked_of tcp message ≡ asks tcp x) × (size ≡ told_size tcp x) × (253 < size)
+    × (length before ≡ place) × (asked_of tcp message ≡ asks tcp x) × (size ≡ told_size tcp x) × (MAX_PDU < size)
 
 -- the first place, unit by unit and then the rest, where something fails, or that nothing does
 abbrev pub IsFirstUnitFault : List (Header × List ℕ) → Rest → List (Exchange tcp) → Halt → Type 0

@@ -1,30 +1,27 @@
 -- The frames of a serial line (MODBUS over Serial Line V1.02, section 2.5.1).
-use Rattle.std.specs.Prelude.{◌≡◌, ℕ, ◌+◌, ◌-◌, ◌<◌, ◌≤◌, List, map, length}
-use Rattle.modbus_rtu.specs.declared.verdict.Verdict.TheVariants.{Bad}
+use Rattle.std.specs.Prelude.{◌≡◌, ℕ, ◌+◌, ◌-◌, ◌<◌, List, length}
+use Rattle.modbus_rtu.specs.declared.verdict.Verdict.TheVariants.{Open}
+use Rattle.modbus_rtu.specs.declared.length.TheConstants.{CAPACITY}
 use Rattle.modbus_rtu.specs.Frame.{frame, verdict}
-use Rattle.modbus_rtu.specs.Leftmost.{IsLeftmost, IsUncovered}
-use Rattle.modbus_rtu.specs.Stands.{StandsFor, IsFirstCrowd, IsTakenNext, IsUsedUp, frame_at}
-use Rattle.modbus_server.specs.Framing.{Framing, Fault, crowd}
+use Rattle.modbus_rtu.specs.Leftmost.{IsLeftmost}
+use Rattle.modbus_rtu.specs.Stands.{StandsFor, IsFirstCrowd, IsTakenNext, IsUsedUp}
+use Rattle.modbus_rtu.specs.Quiet.{IsQuietLine}
+use Rattle.modbus_server.specs.declared.error.ProcessError.{ProcessError}
+use Rattle.modbus_server.specs.declared.error.ProcessError.TheVariants.{TooManyRetries}
+use Rattle.modbus_server.specs.Framing.{Framing}
 
 -- the first crowd comes after these frames, and there is no other fault on a line
-abbrev pub IsCrowdedAfter : List ℕ → List ℕ → List (ℕ × List ℕ) → Fault → Type 0
-IsCrowdedAfter bytes cuts taken crowd = (k : ℕ) × IsFirstCrowd bytes cuts taken k
+abbrev pub IsCrowdedAfter : List ℕ → List ℕ → List (ℕ × List ℕ) → ProcessError → Type 0
+IsCrowdedAfter bytes cuts taken TooManyRetries = (k : ℕ) × IsFirstCrowd bytes cuts taken k
 IsCrowdedAfter bytes cuts taken _ = ⊥
 
-abbrev pub IsCrowdOnly : Fault → Type 0
-IsCrowdOnly crowd = Unit {0}
-IsCrowdOnly _ = ⊥
-
--- the reading ends where the bytes end, and there are no twenty offsets of no use in a row
-pub record IsQuietLine (bytes : List ℕ) (messages : List (ℕ × List ℕ)) : Type 0 where
-  pub frames : List ℕ
-  pub reading : IsLeftmost bytes frames (length bytes)
-  pub few : (k : ℕ) → ((i : ℕ) → k ≤ i → i < k + 20 → (verdict bytes i ≡ Bad) × IsUncovered bytes frames i) → ⊥
-  pub are : messages ≡ map (frame_at bytes) frames
-
--- a read after these bytes has a room of 268 less those from the stop on
+-- a read after these bytes has the room of an empty inbox less those from the stop on
 abbrev pub HasRoomLeft : List ℕ → ℕ → Type 0
-HasRoomLeft bytes room = (frames : List ℕ) (stop : ℕ) → IsLeftmost bytes frames stop → room + (length bytes - stop) ≡ 268
+HasRoomLeft bytes room = (frames : List ℕ) (stop : ℕ) → IsLeftmost bytes frames stop → room + (length bytes - stop) ≡ CAPACITY
+
+-- what is held begins open, and a frame that is whole is no longer
+abbrev pub BeginsOpen : List ℕ → Type 0
+BeginsOpen held = (length held < CAPACITY) × (verdict held 0 ≡ Open)
 
 -- a frame is for the slave whose address it carries; the frames are the leftmost ones
 abbrev pub rtu : Framing
@@ -36,7 +33,9 @@ rtu = record {
   IsNext = IsTakenNext;
   IsAll = IsUsedUp;
   IsBroken = IsCrowdedAfter;
-  Breaks = IsCrowdOnly;
   IsClean = IsQuietLine;
+  Waits = BeginsOpen;
+  room = λ held. CAPACITY - length held;
+  most = CAPACITY;
   HasRoom = HasRoomLeft;
 }

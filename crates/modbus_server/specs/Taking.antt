@@ -1,46 +1,94 @@
--- What the framing of a connection does: it takes the next message out of the held bytes, or reads once.
-use Rattle.std.specs.Prelude.{◌≡◌, ◌↔◌, ℕ, List, [], ◌∷◌, ◌++◌, length, Option, Some, None, Result, Ok, Err, IfOk}
-use Rattle.modbus_link.specs.Outside.{Input, bytes_read, cuts_made, cut_of}
-use Rattle.modbus_server.specs.declared.intake.TakeError.{TakeError}
-use Rattle.modbus_server.specs.declared.intake.TakeError.TheVariants as take
-use Rattle.modbus_server.specs.declared.intake.FillError.{FillError}
+-- What a connection does with the bytes that it holds, and with those that it is fed. There is no IO in it.
+use Rattle.std.specs.Prelude.{◌≡◌, ◌≢◌, ℕ, ◌<◌, ◌≤◌, List, [], ◌∷◌, ◌++◌, length, drop, Result, Ok, Err, is_ok}
 use Rattle.modbus_server.specs.declared.error.ProcessError.{ProcessError}
 use Rattle.modbus_server.specs.declared.error.ProcessError.TheVariants as process
-use Rattle.modbus_server.specs.Framing.{Framing, Message, crowd, no_length, foreign}
+use Rattle.modbus_server.specs.declared.framing.Front.{Front}
+use Rattle.modbus_server.specs.declared.framing.Front.TheVariants as front
+use Rattle.modbus_server.specs.declared.error.Answer.{Answer}
+use Rattle.modbus_server.specs.declared.error.Answer.TheVariants.{Framed, Quiet}
+use Rattle.modbus_server.specs.declared.error.AnswerError.{AnswerError}
+use Rattle.modbus_server.specs.declared.error.AnswerError.TheVariants as fault
+use Rattle.modbus_server.specs.declared.error.NextError.{NextError}
+use Rattle.modbus_server.specs.declared.error.NextError.TheVariants.{Broken, Refused, TooLong, NoMemory}
+use Rattle.modbus_server.specs.declared.error.Next.{Next}
+use Rattle.modbus_server.specs.declared.error.Next.TheVariants.{Reply, Silent, Waiting}
+use Rattle.modbus_service.specs.Outcome.{silence}
+use Rattle.modbus_server.specs.Framing.{Framing, Message, IsOfFraming}
+use Rattle.modbus_service.specs.Answering.{Answering}
+use Rattle.modbus_server.specs.Exchanges.{Exchange}
+use Rattle.modbus_server.specs.Serving.{Stands, NextIsRequest, Served, broken, refused, too_long, Wanting}
+use Rattle.modbus_server.specs.State.{State}
 
--- the next message is taken off, or these are all, or there is a fault; without memory it stands as before
-abbrev pub TakesNext : (F : Framing) → {M : Type 0} → (M → Message F) → List ℕ → List ℕ → List (Message F) → Result (Option M) TakeError → List ℕ → Type 0
-TakesNext F parts bytes cuts taken (Ok (Some message)) held =
-    F.StandsFor bytes cuts held (taken ++ parts message ∷ []) × F.IsNext bytes cuts taken (parts message)
-TakesNext F parts bytes cuts taken (Ok None) held = F.StandsFor bytes cuts held taken × F.IsAll bytes cuts held taken
-TakesNext F parts bytes cuts taken (Err take.TooManyRetries) held = F.IsBroken bytes cuts taken crowd
-TakesNext F parts bytes cuts taken (Err take.InvalidLength) held = F.IsBroken bytes cuts taken no_length
-TakesNext F parts bytes cuts taken (Err (take.InvalidProtocol protocol)) held = F.IsBroken bytes cuts taken (foreign protocol)
-TakesNext F parts bytes cuts taken (Err take.NoMemory) held = F.StandsFor bytes cuts held taken
+-- what stands at the front of the held bytes: the next message, which is taken off with all bytes before it; or these are all, and the
+-- bytes of no use are dropped; or there is a fault
+abbrev pub Finds : (F : Framing) → {H E : Type 0} → (H → F.Header) → (E → ProcessError) → List ℕ → List ℕ → List (Message F) → List ℕ → Result (Front H) E → Type 0
+Finds F header_of told bytes cuts taken held (Ok (front.Message header pdu end)) =
+    F.StandsFor bytes cuts (drop end held) (taken ++ (header_of header, pdu.now) ∷ []) × F.IsNext bytes cuts taken (header_of header, pdu.now)
+Finds F header_of told bytes cuts taken held (Ok (front.Waiting dropped)) =
+    F.StandsFor bytes cuts (drop dropped held) taken × F.IsAll bytes cuts (drop dropped held) taken
+Finds F header_of told bytes cuts taken held (Err fault) = F.IsBroken bytes cuts taken (told fault)
 
--- which faults there are
-abbrev pub Breaks : Framing → TakeError → Type 0
-Breaks F take.TooManyRetries = F.Breaks crowd
-Breaks F take.InvalidLength = F.Breaks no_length
-Breaks F (take.InvalidProtocol protocol) = F.Breaks (foreign protocol)
-Breaks F take.NoMemory = Unit {0}
+-- a message takes a byte at least, and what is taken off is held; where there is none, what stays waits for more
+abbrev pub IsWithin : {H E : Type 0} → (List ℕ → Type 0) → List ℕ → Result (Front H) E → Type 0
+IsWithin Waits held (Ok (front.Message header pdu end)) = (0 < end) × (end ≤ length held)
+IsWithin Waits held (Ok (front.Waiting dropped)) = (dropped ≤ length held) × Waits (drop dropped held)
+IsWithin Waits held (Err fault) = Unit {0}
 
--- how a server tells it
-abbrev pub fault_of : TakeError → ProcessError
-fault_of take.TooManyRetries = process.TooManyRetries
-fault_of take.InvalidLength = process.InvalidLength
-fault_of (take.InvalidProtocol protocol) = process.InvalidProtocol protocol
-fault_of take.NoMemory = process.NoMemory
+-- what a connection did with a message that was answered so
+abbrev pub next_of : {E : Type 0} → Result Answer AnswerError → Result Next (NextError E)
+next_of (Ok Framed) = Ok Reply
+next_of (Ok Quiet) = Ok Silent
+next_of (Err (fault.Refused reason)) = Err (Refused reason)
+next_of (Err (fault.TooLong size)) = Err (TooLong size)
+next_of (Err fault.NoMemory) = Err NoMemory
 
--- how many bytes a read gave
-abbrev pub count_of : Result ℕ FillError → ℕ
-count_of (Ok n) = n
-count_of (Err _) = 0
+-- what it stands for then, after these exchanges
+abbrev pub TakesAs : (F : Framing) → {S E : Type 0} → Answering S → (E → ProcessError) → List ℕ → List ℕ → List ℕ → S → S → List ℕ → List ℕ → List (Exchange F) → Result Next (NextError E) → Type 0
+TakesAs F A told bytes cuts held opening now written waiting exchanges (Ok Reply) =
+    (x : Exchange F) × Stands F A bytes cuts held opening now written waiting (exchanges ++ x ∷ []) × (x.outcome ≢ silence)
+TakesAs F A told bytes cuts held opening now written waiting exchanges (Ok Silent) =
+    (x : Exchange F) × Stands F A bytes cuts held opening now written [] (exchanges ++ x ∷ []) × (x.outcome ≡ silence)
+TakesAs F A told bytes cuts held opening now written waiting exchanges (Ok Waiting) =
+    (s : Stands F A bytes cuts held opening now written [] exchanges) × F.IsAll bytes cuts held s.taken
+TakesAs F A told bytes cuts held opening now written waiting exchanges (Err (Broken fault)) = Served F A bytes cuts opening now written (broken (told fault))
+TakesAs F A told bytes cuts held opening now written waiting exchanges (Err (Refused reason)) = Served F A bytes cuts opening now written (refused reason)
+TakesAs F A told bytes cuts held opening now written waiting exchanges (Err (TooLong size)) = Served F A bytes cuts opening now written (too_long size)
+TakesAs F A told bytes cuts held opening now written waiting exchanges (Err NoMemory) = Wanting F A bytes cuts opening now written × NextIsRequest F bytes cuts exchanges
 
--- One read of a told source: the bytes that it gave are appended to those that were held, its room had that length, and it gave none
--- exactly where the input had ended. A read that failed gave nothing.
-pub record Fills (before after : Input) (room : ℕ) (old new : List ℕ) (result : Result ℕ FillError) : Type 0 where
-  pub appends : new ≡ old ++ bytes_read before after
-  pub count : length (bytes_read before after) ≡ count_of result
-  pub cuts : cuts_made before after ≡ cut_of result room
-  pub ended : IfOk result (λ n. (n ≡ 0) ↔ (before.left ≡ []))
+-- what is held and what waits then
+abbrev pub KeepsAs : {S E : Type 0} → (List ℕ → Type 0) → List ℕ → List ℕ → List ℕ → S → S → Result Next (NextError E) → Type 0
+KeepsAs Waits old new waiting before after (Ok Reply) = length new < length old
+KeepsAs Waits old new waiting before after (Ok Silent) = (length new < length old) × (waiting ≡ [])
+KeepsAs Waits old new waiting before after (Ok Waiting) = Waits new × (waiting ≡ []) × (after ≡ before)
+KeepsAs Waits old new waiting before after (Err error) = Unit {0}
+
+-- What `next` promises.
+pub record Took (F : Framing) {S E : Type 0} (A : Answering S) (told : E → ProcessError) (old new : State) (before after : S) (result : Result Next (NextError E)) : Type 0 where
+  -- for all bytes, cuts, opening state and written bytes for which the connection stands
+  pub stands : (bytes cuts written : List ℕ) (opening : S) (exchanges : List (Exchange F)) → Stands F A bytes cuts old.held opening before written [] exchanges
+      → TakesAs F A told bytes cuts new.held opening after written new.waiting exchanges result
+  pub keeps : KeepsAs F.Waits old.held new.held new.waiting before after result
+  -- it goes on until it tells an error
+  pub goes_on : new.is_open ≡ is_ok result
+
+-- how a server tells why there is no next reply
+abbrev pub told_next : {E : Type 0} → (E → ProcessError) → NextError E → ProcessError
+told_next told (Broken fault) = told fault
+told_next told (Refused reason) = process.InvalidRequest reason
+told_next told (TooLong size) = process.ResponseTooLong size
+told_next told NoMemory = process.NoMemory
+
+-- a fault of the framing is told as one
+abbrev pub IsToldWell : {E : Type 0} → (E → ProcessError) → NextError E → Type 0
+IsToldWell told (Broken fault) = IsOfFraming (told fault)
+IsToldWell told (Refused reason) = Unit {0}
+IsToldWell told (TooLong size) = Unit {0}
+IsToldWell told NoMemory = Unit {0}
+
+-- What `feed` promises: for all bytes and cuts, it goes on by the piece.
+pub record Fed (F : Framing) (old new : State) (piece : List ℕ) : Type 0 where
+  pub held : new.held ≡ old.held ++ piece
+  pub waiting : new.waiting ≡ old.waiting
+  pub is_open : new.is_open ≡ old.is_open
+  pub grows : (bytes cuts : List ℕ) (taken : List (Message F)) → F.StandsFor bytes cuts old.held taken → 0 < length piece
+      → F.StandsFor (bytes ++ piece) (cuts ++ length (bytes ++ piece) ∷ []) new.held taken

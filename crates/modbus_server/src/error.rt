@@ -37,7 +37,51 @@ pub enum ProcessError {
     NoMemory,
 }
 
-/// What one step of a connection did.
+/// Why a request is not answered.
+#[derive(Clone, Copy, Debug, PartialEq, Eq)]
+pub enum AnswerError {
+    /// Its PDU is no request, for this reason.
+    Refused(Reason),
+    /// The PDU of the answer would have so many bytes, more than 253.
+    TooLong(usize),
+    /// Memory was refused.
+    NoMemory,
+}
+
+/// What the answer to a request is.
+#[derive(Clone, Copy, Debug, PartialEq, Eq)]
+pub enum Answer {
+    /// A reply, whose bytes were framed.
+    Framed,
+    /// There is none.
+    Quiet,
+}
+
+/// Why a connection has no next reply.
+#[derive(Clone, Copy, Debug, PartialEq, Eq)]
+pub enum NextError<F> {
+    /// The fault of the framing that comes next.
+    Broken(F),
+    /// The next message is no request, for this reason.
+    Refused(Reason),
+    /// The PDU of the next answer would have so many bytes, more than 253.
+    TooLong(usize),
+    /// Memory was refused.
+    NoMemory,
+}
+
+/// What a connection did with the bytes that it holds.
+#[derive(Clone, Copy, Debug, PartialEq, Eq)]
+pub enum Next {
+    /// It asked the service about a message, and keeps the bytes of the reply.
+    Reply,
+    /// It asked the service about a message, and there is no reply.
+    Silent,
+    /// There is no whole message.
+    Waiting,
+}
+
+/// What one step of a driver did.
 #[derive(Clone, Copy, Debug, PartialEq, Eq)]
 pub enum Step {
     /// It asked the service about a request and wrote the reply.

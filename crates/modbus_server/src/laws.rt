@@ -4,22 +4,26 @@ ghost use Rattle.std.specs.Prelude.{◌≡◌, ℕ, List};
 ghost use Rattle.modbus_rtu.specs.Leftmost.{IsLeftmost};
 ghost use Rattle.modbus_tcp.specs.Stream.{Rest, IsSplit};
 ghost use Rattle.modbus_frame.specs.declared.tcp.Header.{Header};
-ghost use Rattle.modbus_server.specs.Service.{Exchange, Run};
-ghost use Rattle.modbus_server.specs.Serving.{Served, Halt, remaining};
+ghost use Rattle.modbus_server.specs.Exchanges.{Exchange, Run};
+ghost use Rattle.modbus_server.specs.Serving.{Served, Halt, remaining, all_asked};
 ghost use Rattle.modbus_server.specs.FirstFault.{HasFault, IsFirstFault};
 ghost use Rattle.modbus_server.specs.FirstUnit.{HasUnitFault, IsFirstUnitFault};
 ghost use Rattle.modbus_server.specs.Rtu.{rtu};
 ghost use Rattle.modbus_server.specs.Tcp.{tcp};
 
-use crate::service::Service;
+use modbus_service::Answerer;
 
-/// What a call over RTU frames names is what fails first in what it read, by offset, in one and the same run; it names nothing where
-/// nothing fails.
-pub fn failing_place<V: Service>()
-    ensures { (bytes cuts written : List ℕ) (opening now : V) (halt : Halt)
-        → Served rtu V.answers bytes cuts opening now written halt
-        → (all : List (Exchange rtu)) × Run rtu V.answers opening all now × ((frames : List ℕ) (stop : ℕ) → IsLeftmost bytes frames stop → IsFirstFault bytes cuts frames all halt) }
-{}
+/// What a call over RTU frames names is what fails first in what it read, by offset, in the very run that it made; it names nothing
+/// where nothing fails.
+pub fn failing_place<V: Answerer>()
+    ensures run { (bytes cuts written : List ℕ) (opening now : V) (halt : Halt) (s : Served rtu V.answering bytes cuts opening now written halt)
+        → Run rtu V.answering opening (all_asked rtu V.answering bytes cuts opening now written halt s) now }
+    ensures first { (bytes cuts written : List ℕ) (opening now : V) (halt : Halt) (s : Served rtu V.answering bytes cuts opening now written halt)
+        (frames : List ℕ) (stop : ℕ) → IsLeftmost bytes frames stop
+        → IsFirstFault bytes cuts frames (all_asked rtu V.answering bytes cuts opening now written halt s) halt }
+{
+    modbus_rtu::laws::one_reading();
+}
 
 /// The failing place is one: two kinds of fault are not both the first, and none is first where there is none. So a call whose
 /// bytes have a failing place names it, unless a fault of the source or sink or want of memory came before.
@@ -29,16 +33,22 @@ pub fn one_failing_place()
         → IsFirstFault bytes cuts frames all fault → IsFirstFault bytes cuts frames all other → fault ≡ other }
     ensures none { (bytes cuts frames left : List ℕ) (all : List (Exchange rtu)) (place : ℕ) (fault : Halt)
         → IsFirstFault bytes cuts frames all (remaining left) → HasFault bytes cuts frames all place fault → ⊥ }
-{}
+{
+    modbus_rtu::laws::crowds_stay();
+}
 
-/// What a call over TCP names is what fails first in what it read, unit by unit and then the rest, in one and the same run; it names
-/// nothing where nothing fails.
-pub fn failing_unit<V: Service>()
-    ensures { (bytes cuts written : List ℕ) (opening now : V) (halt : Halt)
-        → Served tcp V.answers bytes cuts opening now written halt
-        → (all : List (Exchange tcp)) × Run tcp V.answers opening all now
-        × ((units : List (Header × List ℕ)) (rest : List ℕ) (kind : Rest) → IsSplit bytes units rest kind → IsFirstUnitFault units kind all halt) }
-{}
+/// What a call over TCP names is what fails first in what it read, unit by unit and then the rest, in the very run that it made; it
+/// names nothing where nothing fails.
+pub fn failing_unit<V: Answerer>()
+    ensures run { (bytes cuts written : List ℕ) (opening now : V) (halt : Halt) (s : Served tcp V.answering bytes cuts opening now written halt)
+        → Run tcp V.answering opening (all_asked tcp V.answering bytes cuts opening now written halt s) now }
+    ensures first { (bytes cuts written : List ℕ) (opening now : V) (halt : Halt) (s : Served tcp V.answering bytes cuts opening now written halt)
+        (units : List (Header × List ℕ)) (rest : List ℕ) (kind : Rest) → IsSplit bytes units rest kind
+        → IsFirstUnitFault units kind (all_asked tcp V.answering bytes cuts opening now written halt s) halt }
+{
+    modbus_tcp::laws::one_splitting();
+    modbus_tcp::laws::units_come_first();
+}
 
 /// What fails first in a stream of units is one, so a call whose bytes have it names it, unless a fault of the source or sink or want
 /// of memory came before.

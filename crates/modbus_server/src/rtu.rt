@@ -1,63 +1,53 @@
 //! The RTU side of a server (MODBUS over Serial Line V1.02, section 2.5.1): a connection takes RTU frames, step by step.
-ghost use Rattle.std.specs.Prelude.{◌≡◌, ◌<◌, ◌-◌, length};
-ghost use Rattle.modbus_rtu.specs.declared.verdict.Verdict.TheVariants.{Open};
-ghost use Rattle.modbus_rtu.specs.Frame.{verdict};
-ghost use Rattle.modbus_rtu.specs.Inbox.{parts};
+ghost use Rattle.std.specs.Prelude.{◌≡◌, ◌-◌, length};
+ghost use Rattle.modbus_rtu.specs.declared.length.TheConstants.{CAPACITY};
+ghost use Rattle.modbus_server.specs.declared.error.ProcessError.TheVariants.{TooManyRetries};
 ghost use Rattle.modbus_server.specs.Rtu.{rtu};
 
-use crate::intake::{FillError, FramedRequest, Intake, TakeError};
+use crate::error::ProcessError;
+use crate::framing::{Framing, Front};
 use bytes::BytesMut;
-use modbus_frame::rtu::{Header, ResponseAdu};
-use modbus_frame::{EncodeError, ExceptionResponse, Response, ResponsePdu, SlaveId};
-use modbus_link::{Failed, Source};
-use modbus_rtu::{Inbox, RtuError, RtuFrame, ServerCodec};
+use modbus_frame::{EncodeError, ExceptionResponse, Response, SlaveId};
+use modbus_rtu::{Crowd, Inbox, encode_response_frame};
 use std::alloc::{AllocError, Global};
 
-/// A connection of RTU frames: the bytes that were read and not used yet, taken step by step as frames.
+/// A connection of RTU frames: the bytes that were fed and not used yet, taken step by step as frames.
 pub type Connection = crate::connection::Connection<Inbox>;
 
-impl FramedRequest for RtuFrame {
+impl Framing for Inbox {
+    type Header = SlaveId;
+
+    type Fault = Crowd;
+
     ghost framing = { rtu };
 
-    ghost parts = { parts };
+    ghost header_of = { λ slave. slave };
 
-    fn slave(&self) -> SlaveId {
-        self.slave
-    }
-
-    fn pdu(&self) -> &[u8] {
-        self.pdu.as_slice()
-    }
-
-    fn frame_answer(
-        &self,
-        alloc: Global,
-        answer: Result<Response, ExceptionResponse>,
-    ) -> Result<BytesMut, EncodeError> {
-        let mut bytes = BytesMut::new(alloc);
-        let adu = ResponseAdu {
-            hdr: Header {
-                slave_id: self.slave,
-            },
-            pdu: ResponsePdu(answer),
-        };
-        ServerCodec::new().encode(alloc, adu, &mut bytes)?;
-        Ok(bytes)
-    }
-}
-
-impl Intake for Inbox {
-    type Request = RtuFrame;
+    ghost told = { λ crowd. TooManyRetries };
 
     ghost held = { λ inbox. inbox };
 
-    ghost is_waiting = { λ inbox. (length inbox < 268) × (verdict inbox 0 ≡ Open) };
+    ghost free = { λ inbox. CAPACITY - length inbox };
 
-    ghost room = { λ held. 268 - length held };
+    fn tell(_fault: Crowd) -> ProcessError {
+        ProcessError::TooManyRetries
+    }
 
-    ghost most = { 268 };
+    fn slave(header: SlaveId) -> SlaveId {
+        header
+    }
+
+    fn encode_answer(
+        alloc: Global,
+        header: SlaveId,
+        answer: &Result<Response, ExceptionResponse>,
+        reply: &mut BytesMut,
+    ) -> Result<(), EncodeError> {
+        encode_response_frame(alloc, header, answer, reply)
+    }
 
     fn open(alloc: Global) -> Result<Inbox, AllocError> {
+        modbus_rtu::laws::standing();
         Inbox::open(alloc)
     }
 
@@ -65,19 +55,34 @@ impl Intake for Inbox {
         self.is_empty()
     }
 
-    fn take(&mut self, _alloc: Global) -> Result<Option<RtuFrame>, TakeError> {
-        match self.next() {
-            Ok(frame) => Ok(frame),
-            Err(RtuError::TooManyRetries) => Err(TakeError::TooManyRetries),
-            Err(RtuError::Invalid(_)) => unreachable!(),
-            Err(RtuError::NoMemory) => unreachable!(),
+    fn front(&self) -> Result<Front<'_, SlaveId>, Crowd> {
+        match self.front() {
+            Ok(modbus_rtu::Front::Frame { slave, pdu, end }) => Ok(Front::Message {
+                header: slave,
+                pdu,
+                end,
+            }),
+            Ok(modbus_rtu::Front::Waiting { dropped }) => Ok(Front::Waiting { dropped }),
+            Err(crowd) => Err(crowd),
         }
     }
 
-    fn fill<S: Source>(&mut self, _alloc: Global, source: &mut S) -> Result<usize, FillError> {
-        match self.fill(source) {
-            Ok(count) => Ok(count),
-            Err(Failed) => Err(FillError::Failed),
-        }
+    fn advance(&mut self, count: usize) {
+        self.advance(count);
+    }
+
+    fn room(&self) -> usize {
+        modbus_rtu::laws::standing();
+        modbus_rtu::laws::one_reading();
+        self.room()
+    }
+
+    fn make_room(&mut self, _alloc: Global) -> Result<(), AllocError> {
+        Ok(())
+    }
+
+    fn append(&mut self, piece: &[u8]) {
+        modbus_rtu::laws::standing();
+        self.append(piece);
     }
 }

@@ -4,16 +4,18 @@ use Rattle.std.proofs.lemmas.List.{length-take}
 use Rattle.std.proofs.lemmas.Bool.{leb-true}
 use Rattle.modbus_frame.specs.declared.code.ExceptionCode.{ExceptionCode}
 use Rattle.modbus_frame.specs.declared.code.ExceptionCode.TheVariants as code
+use Rattle.modbus_frame.specs.declared.response.Response.{Response}
 use Rattle.modbus_frame.specs.declared.response.Response.TheVariants as response
 use Rattle.modbus_frame.specs.Meaning.{Asked, ReadCoils, ReadDiscreteInputs, WriteSingleCoil, WriteMultipleCoils, ReadInputRegisters, ReadHoldingRegisters, WriteSingleRegister, WriteMultipleRegisters, ReportServerId, MaskWriteRegister, ReadWriteMultipleRegisters, ReadDeviceIdentification, Custom}
+use Rattle.modbus_pdu.specs.declared.limits.TheConstants.{MAX_PDU}
+use Rattle.modbus_pdu.specs.ResponseLaws.{response_size}
 use Rattle.modbus_pdu.specs.ResponsePdu.{response_pdu}
-use Rattle.modbus_pdu.proofs.Sizes.{words_length, packed_length}
-use Rattle.modbus_server.specs.Outcome.{Outcome, silence, reply, exception, reply_pdu}
+use Rattle.modbus_service.specs.Outcome.{Outcome, silence, reply, exception, reply_pdu}
 use Rattle.modbus_store.specs.Tables.{Tables, entries, written}
 use Rattle.modbus_store.specs.Step.{counts, inside, checked, both_count, both_inside, step_of, store_step}
 
 abbrev IsShort : ℕ → Outcome → Type 0
-IsShort n outcome = length (reply_pdu n outcome) ≤ 253
+IsShort n outcome = length (reply_pdu n outcome) ≤ MAX_PDU
 
 exception_fits : (n : ℕ) (e : ExceptionCode) → IsShort n (exception e)
 unfolding reply_pdu
@@ -22,46 +24,6 @@ exception_fits n e = omega arith
 silent_fits : (n : ℕ) → IsShort n silence
 unfolding reply_pdu
 silent_fits n = omega arith
-
-coils_fit : (n a m : ℕ) (table : List Bool) → m ≤ 2000 → IsShort n (reply (response.ReadCoils (entries a m table)))
-unfolding reply_pdu response_pdu
-coils_fit n a m table most = omega (arith, packed_length (entries a m table), length-take m (drop a table))
-
-inputs_fit : (n a m : ℕ) (table : List Bool) → m ≤ 2000 → IsShort n (reply (response.ReadDiscreteInputs (entries a m table)))
-unfolding reply_pdu response_pdu
-inputs_fit n a m table most = omega (arith, packed_length (entries a m table), length-take m (drop a table))
-
-holding_fits : (n a m : ℕ) (table : List ℕ) → m ≤ 125 → IsShort n (reply (response.ReadHoldingRegisters (entries a m table)))
-unfolding reply_pdu response_pdu
-holding_fits n a m table most = omega (arith, words_length (entries a m table), length-take m (drop a table))
-
-input_fits : (n a m : ℕ) (table : List ℕ) → m ≤ 125 → IsShort n (reply (response.ReadInputRegisters (entries a m table)))
-unfolding reply_pdu response_pdu
-input_fits n a m table most = omega (arith, words_length (entries a m table), length-take m (drop a table))
-
-both_fit : (n a m : ℕ) (table : List ℕ) → m ≤ 125 → IsShort n (reply (response.ReadWriteMultipleRegisters (entries a m table)))
-unfolding reply_pdu response_pdu
-both_fit n a m table most = omega (arith, words_length (entries a m table), length-take m (drop a table))
-
-coil_fits : (n a : ℕ) (coil : Bool) → IsShort n (reply (response.WriteSingleCoil a coil))
-unfolding reply_pdu response_pdu
-coil_fits n a coil = omega arith
-
-register_fits : (n a word : ℕ) → IsShort n (reply (response.WriteSingleRegister a word))
-unfolding reply_pdu response_pdu
-register_fits n a word = omega arith
-
-coils_written_fit : (n a m : ℕ) → IsShort n (reply (response.WriteMultipleCoils a m))
-unfolding reply_pdu response_pdu
-coils_written_fit n a m = omega arith
-
-registers_written_fit : (n a m : ℕ) → IsShort n (reply (response.WriteMultipleRegisters a m))
-unfolding reply_pdu response_pdu
-registers_written_fit n a m = omega arith
-
-mask_fits : (n a b c : ℕ) → IsShort n (reply (response.MaskWriteRegister a b c))
-unfolding reply_pdu response_pdu
-mask_fits n a b c = omega arith
 
 -- what is checked fits where it does so within its count
 checked_fits : (n : ℕ) (count range : Bool) (done : Outcome × Tables) (t : Tables) → (count ≡ true → IsShort n done.0)
@@ -81,27 +43,48 @@ left false b e = cc
 most_of : (most count : ℕ) → counts most count ≡ true → count ≤ most
 most_of most count e = leb-true count most (right (leb 1 count) (leb count most) e)
 
-step_fits : (n : ℕ) (t : Tables) (request : Asked) → IsShort n (step_of t request).0
-unfolding step_of
-step_fits n t (ReadCoils a m) = checked_fits n (counts 2000 m) (inside (length t.coils) a m) _ t (λ e. coils_fit n a m t.coils (most_of 2000 m e))
-step_fits n t (ReadDiscreteInputs a m) = checked_fits n (counts 2000 m) (inside (length t.discrete_inputs) a m) _ t (λ e. inputs_fit n a m t.discrete_inputs (most_of 2000 m e))
-step_fits n t (ReadHoldingRegisters a m) = checked_fits n (counts 125 m) (inside (length t.holding_registers) a m) _ t (λ e. holding_fits n a m t.holding_registers (most_of 125 m e))
-step_fits n t (ReadInputRegisters a m) = checked_fits n (counts 125 m) (inside (length t.input_registers) a m) _ t (λ e. input_fits n a m t.input_registers (most_of 125 m e))
-step_fits n t (WriteSingleCoil a coil) = checked_fits n true (inside (length t.coils) a 1) _ t (λ e. coil_fits n a coil)
-step_fits n t (WriteSingleRegister a w) = checked_fits n true (inside (length t.holding_registers) a 1) _ t (λ e. register_fits n a w)
-step_fits n t (WriteMultipleCoils a coils) = checked_fits n (counts 1968 (length coils)) (inside (length t.coils) a (length coils)) _ t (λ e. coils_written_fit n a (length coils))
-step_fits n t (WriteMultipleRegisters a ws) = checked_fits n (counts 123 (length ws)) (inside (length t.holding_registers) a (length ws)) _ t (λ e. registers_written_fit n a (length ws))
-step_fits n t (MaskWriteRegister a b c) = checked_fits n true (inside (length t.holding_registers) a 1) _ t (λ e. mask_fits n a b c)
-step_fits n t (ReadWriteMultipleRegisters a m b ws) = checked_fits n (both_count m (length ws)) (both_inside (length t.holding_registers) a m b (length ws)) _ t
-    (λ e. both_fit n a m (written b ws t.holding_registers) (most_of 125 m (left (counts 125 m) (counts 121 (length ws)) e)))
-step_fits n t ReportServerId = exception_fits n code.IllegalFunction
-step_fits n t (ReadDeviceIdentification read id) = exception_fits n code.IllegalFunction
-step_fits n t (Custom function bytes) = exception_fits n code.IllegalFunction
+-- by the sizes of responses
+module _ (sizes : (r : Response) → length (response_pdu r) ≡ response_size r) where
+  reply_fits : (n : ℕ) (r : Response) → response_size r ≤ MAX_PDU → IsShort n (reply r)
+  unfolding reply_pdu
+  reply_fits n r fits = omega (arith, sizes r)
 
-pub store_fits : (n : ℕ) (t : Tables) (slave : ℕ) (request : Asked) → length (reply_pdu n (store_step t slave request).0) ≤ 253
-unfolding store_step
-store_fits n t slave request = go (t.broadcast && eqb slave 0)
-  where
-    go : (b : Bool) → IsShort n (cond b (silence, (step_of t request).1) (step_of t request)).0
-    go true = silent_fits n
-    go false = step_fits n t request
+  coils_fit : (n a m : ℕ) (table : List Bool) → m ≤ 2000 → IsShort n (reply (response.ReadCoils (entries a m table)))
+  coils_fit n a m table most = reply_fits n _ (omega (arith, length-take m (drop a table)))
+
+  inputs_fit : (n a m : ℕ) (table : List Bool) → m ≤ 2000 → IsShort n (reply (response.ReadDiscreteInputs (entries a m table)))
+  inputs_fit n a m table most = reply_fits n _ (omega (arith, length-take m (drop a table)))
+
+  holding_fits : (n a m : ℕ) (table : List ℕ) → m ≤ 125 → IsShort n (reply (response.ReadHoldingRegisters (entries a m table)))
+  holding_fits n a m table most = reply_fits n _ (omega (arith, length-take m (drop a table)))
+
+  input_fits : (n a m : ℕ) (table : List ℕ) → m ≤ 125 → IsShort n (reply (response.ReadInputRegisters (entries a m table)))
+  input_fits n a m table most = reply_fits n _ (omega (arith, length-take m (drop a table)))
+
+  both_fit : (n a m : ℕ) (table : List ℕ) → m ≤ 125 → IsShort n (reply (response.ReadWriteMultipleRegisters (entries a m table)))
+  both_fit n a m table most = reply_fits n _ (omega (arith, length-take m (drop a table)))
+
+  step_fits : (n : ℕ) (t : Tables) (request : Asked) → IsShort n (step_of t request).0
+  unfolding step_of
+  step_fits n t (ReadCoils a m) = checked_fits n (counts 2000 m) (inside (length t.coils) a m) _ t (λ e. coils_fit n a m t.coils (most_of 2000 m e))
+  step_fits n t (ReadDiscreteInputs a m) = checked_fits n (counts 2000 m) (inside (length t.discrete_inputs) a m) _ t (λ e. inputs_fit n a m t.discrete_inputs (most_of 2000 m e))
+  step_fits n t (ReadHoldingRegisters a m) = checked_fits n (counts 125 m) (inside (length t.holding_registers) a m) _ t (λ e. holding_fits n a m t.holding_registers (most_of 125 m e))
+  step_fits n t (ReadInputRegisters a m) = checked_fits n (counts 125 m) (inside (length t.input_registers) a m) _ t (λ e. input_fits n a m t.input_registers (most_of 125 m e))
+  step_fits n t (WriteSingleCoil a coil) = checked_fits n true (inside (length t.coils) a 1) _ t (λ e. reply_fits n _ (omega arith))
+  step_fits n t (WriteSingleRegister a w) = checked_fits n true (inside (length t.holding_registers) a 1) _ t (λ e. reply_fits n _ (omega arith))
+  step_fits n t (WriteMultipleCoils a coils) = checked_fits n (counts 1968 (length coils)) (inside (length t.coils) a (length coils)) _ t (λ e. reply_fits n _ (omega arith))
+  step_fits n t (WriteMultipleRegisters a ws) = checked_fits n (counts 123 (length ws)) (inside (length t.holding_registers) a (length ws)) _ t (λ e. reply_fits n _ (omega arith))
+  step_fits n t (MaskWriteRegister a b c) = checked_fits n true (inside (length t.holding_registers) a 1) _ t (λ e. reply_fits n _ (omega arith))
+  step_fits n t (ReadWriteMultipleRegisters a m b ws) = checked_fits n (both_count m (length ws)) (both_inside (length t.holding_registers) a m b (length ws)) _ t
+      (λ e. both_fit n a m (written b ws t.holding_registers) (most_of 125 m (left (counts 125 m) (counts 121 (length ws)) e)))
+  step_fits n t ReportServerId = exception_fits n code.IllegalFunction
+  step_fits n t (ReadDeviceIdentification read id) = exception_fits n code.IllegalFunction
+  step_fits n t (Custom function bytes) = exception_fits n code.IllegalFunction
+
+  pub store_fits : (n : ℕ) (t : Tables) (slave : ℕ) (request : Asked) → length (reply_pdu n (store_step t slave request).0) ≤ MAX_PDU
+  unfolding store_step
+  store_fits n t slave request = go (t.broadcast && eqb slave 0)
+    where
+      go : (b : Bool) → IsShort n (cond b (silence, (step_of t request).1) (step_of t request)).0
+      go true = silent_fits n
+      go false = step_fits n t request

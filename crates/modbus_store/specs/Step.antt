@@ -7,9 +7,10 @@ use Rattle.modbus_frame.specs.declared.response.Response.{Response}
 use Rattle.modbus_frame.specs.declared.response.Response.TheVariants as response
 use Rattle.modbus_frame.specs.Meaning.{Asked}
 use Rattle.modbus_frame.specs.Meaning as asked
-use Rattle.modbus_server.specs.declared.service.ServiceError.{ServiceError}
-use Rattle.modbus_server.specs.declared.service.ServiceError.TheVariants.{Exception, NoMemory}
-use Rattle.modbus_server.specs.Outcome.{Outcome, silence, reply, exception}
+use Rattle.modbus_service.specs.declared.service.ServiceError.{ServiceError}
+use Rattle.modbus_service.specs.declared.service.ServiceError.TheVariants.{Exception, NoMemory}
+use Rattle.modbus_service.specs.Outcome.{Outcome, silence, reply, exception}
+use Rattle.modbus_service.specs.Answering.{Answering, steady}
 use Rattle.modbus_store.specs.Tables.{Tables, entries, written, with_coils, with_registers}
 
 -- a count is one of 1 to the greatest
@@ -81,6 +82,10 @@ NeedsMemory t request = (c : ExceptionCode) → (step_of t request).0 ≢ except
 
 abbrev pub TakesMemory : Tables → ℕ → Asked → Type 0
 TakesMemory t slave request = NeedsMemory t request
+
+-- the store as what answers requests: after want of memory it is as it was
+abbrev pub device : Answering Tables
+device = steady StepsTo TakesMemory
 
 -- what a read of a table answers
 abbrev pub ReadsAs : {T V : Type 0} → (V → List T) → List T → ℕ → ℕ → ℕ → Result V ServiceError → Type 0

@@ -7,7 +7,5 @@ mod apply;
 mod bounds;
 pub mod laws;
 mod store;
-#[cfg(test)]
-mod tests;
 
 pub use crate::store::{OutOfRange, RegisterStore, Sizes, StoreError};

@@ -3,15 +3,15 @@ ghost use Rattle.std.specs.Prelude.{◌≡◌, ◌&&◌, [], ◌∷◌, length, 
 ghost use Rattle.modbus_frame.specs.Meaning.{meaning};
 ghost use Rattle.modbus_store.specs.Tables.{Tables, written, with_discrete_inputs, with_input_registers};
 ghost use Rattle.modbus_store.specs.Opening.{fits_table, zeros_of, Opens, Sets};
-ghost use Rattle.modbus_server.specs.Service.{Keeps};
-ghost use Rattle.modbus_store.specs.Step.{StepsTo, TakesMemory, NeedsMemory, Answers, inside};
+ghost use Rattle.modbus_service.specs.Answering.{Keeps};
+ghost use Rattle.modbus_store.specs.Step.{device, NeedsMemory, Answers, inside};
 
 use crate::apply::{mask_register, read_entries, write_entries, write_then_read};
 use crate::bounds::{MAX_COILS_READ, MAX_COILS_WRITTEN, MAX_REGISTERS_READ, MAX_REGISTERS_WRITTEN};
 use modbus_frame::{
     Address, Coil, Coils, ExceptionCode, Quantity, Request, Response, SlaveRequest, Word, Words,
 };
-use modbus_server::{Service, ServiceError};
+use modbus_service::{Service, ServiceError};
 use std::alloc::{AllocError, Global};
 use std::marker::Model;
 
@@ -187,99 +187,59 @@ impl RegisterStore {
         ensures memory { result ≡ Err ServiceError.NoMemory → NeedsMemory self.old (meaning request.entry) }
     {
         match request {
-            Request::ReadCoils(address, quantity) => match read_entries(
-                alloc,
-                self.coils.as_slice(),
-                address,
-                quantity,
-                MAX_COILS_READ,
-            ) {
-                Ok(found) => Ok(Response::ReadCoils(Coils::new(found))),
-                Err(error) => Err(error),
-            },
-            Request::ReadDiscreteInputs(address, quantity) => match read_entries(
-                alloc,
-                self.discrete_inputs.as_slice(),
-                address,
-                quantity,
-                MAX_COILS_READ,
-            ) {
-                Ok(found) => Ok(Response::ReadDiscreteInputs(Coils::new(found))),
-                Err(error) => Err(error),
-            },
-            Request::ReadHoldingRegisters(address, quantity) => match read_entries(
-                alloc,
-                self.holding_registers.as_slice(),
-                address,
-                quantity,
-                MAX_REGISTERS_READ,
-            ) {
-                Ok(found) => Ok(Response::ReadHoldingRegisters(Words::new(found))),
-                Err(error) => Err(error),
-            },
-            Request::ReadInputRegisters(address, quantity) => match read_entries(
-                alloc,
-                self.input_registers.as_slice(),
-                address,
-                quantity,
-                MAX_REGISTERS_READ,
-            ) {
-                Ok(found) => Ok(Response::ReadInputRegisters(Words::new(found))),
-                Err(error) => Err(error),
-            },
+            Request::ReadCoils(address, quantity) => {
+                let table = self.coils.as_slice();
+                let found = read_entries(alloc, table, address, quantity, MAX_COILS_READ)?;
+                Ok(Response::ReadCoils(Coils::new(found)))
+            }
+            Request::ReadDiscreteInputs(address, quantity) => {
+                let table = self.discrete_inputs.as_slice();
+                let found = read_entries(alloc, table, address, quantity, MAX_COILS_READ)?;
+                Ok(Response::ReadDiscreteInputs(Coils::new(found)))
+            }
+            Request::ReadHoldingRegisters(address, quantity) => {
+                let table = self.holding_registers.as_slice();
+                let found = read_entries(alloc, table, address, quantity, MAX_REGISTERS_READ)?;
+                Ok(Response::ReadHoldingRegisters(Words::new(found)))
+            }
+            Request::ReadInputRegisters(address, quantity) => {
+                let table = self.input_registers.as_slice();
+                let found = read_entries(alloc, table, address, quantity, MAX_REGISTERS_READ)?;
+                Ok(Response::ReadInputRegisters(Words::new(found)))
+            }
             Request::WriteSingleCoil(address, coil) => {
-                match write_entries(self.coils.as_mut_slice(), address, &[coil], 1) {
-                    Ok(()) => Ok(Response::WriteSingleCoil(address, coil)),
-                    Err(code) => Err(ServiceError::Exception(code)),
-                }
+                write_entries(self.coils.as_mut_slice(), address, &[coil], 1)?;
+                Ok(Response::WriteSingleCoil(address, coil))
             }
             Request::WriteSingleRegister(address, word) => {
-                match write_entries(self.holding_registers.as_mut_slice(), address, &[word], 1) {
-                    Ok(()) => Ok(Response::WriteSingleRegister(address, word)),
-                    Err(code) => Err(ServiceError::Exception(code)),
-                }
+                write_entries(self.holding_registers.as_mut_slice(), address, &[word], 1)?;
+                Ok(Response::WriteSingleRegister(address, word))
             }
-            Request::WriteMultipleCoils(address, coils) => match write_entries(
-                self.coils.as_mut_slice(),
-                address,
-                coils.as_slice(),
-                MAX_COILS_WRITTEN,
-            ) {
-                Ok(()) => Ok(Response::WriteMultipleCoils(address, coils.len() as Quantity)),
-                Err(code) => Err(ServiceError::Exception(code)),
-            },
-            Request::WriteMultipleRegisters(address, words) => match write_entries(
-                self.holding_registers.as_mut_slice(),
-                address,
-                words.as_slice(),
-                MAX_REGISTERS_WRITTEN,
-            ) {
-                Ok(()) => Ok(Response::WriteMultipleRegisters(address, words.len() as Quantity)),
-                Err(code) => Err(ServiceError::Exception(code)),
-            },
+            Request::WriteMultipleCoils(address, coils) => {
+                let table = self.coils.as_mut_slice();
+                write_entries(table, address, coils.as_slice(), MAX_COILS_WRITTEN)?;
+                Ok(Response::WriteMultipleCoils(address, coils.len() as Quantity))
+            }
+            Request::WriteMultipleRegisters(address, words) => {
+                let table = self.holding_registers.as_mut_slice();
+                write_entries(table, address, words.as_slice(), MAX_REGISTERS_WRITTEN)?;
+                Ok(Response::WriteMultipleRegisters(address, words.len() as Quantity))
+            }
             Request::MaskWriteRegister(address, and_mask, or_mask) => {
-                match mask_register(
-                    self.holding_registers.as_mut_slice(),
-                    address,
-                    and_mask,
-                    or_mask,
-                ) {
-                    Ok(()) => Ok(Response::MaskWriteRegister(address, and_mask, or_mask)),
-                    Err(code) => Err(ServiceError::Exception(code)),
-                }
+                let table = self.holding_registers.as_mut_slice();
+                mask_register(table, address, and_mask, or_mask)?;
+                Ok(Response::MaskWriteRegister(address, and_mask, or_mask))
             }
             Request::ReadWriteMultipleRegisters(address, quantity, write_address, words) => {
-                match write_then_read(
+                let found = write_then_read(
                     alloc,
                     self.holding_registers.as_mut_slice(),
                     address,
                     quantity,
                     write_address,
                     words.as_slice(),
-                ) {
-                    Ok(found) => Ok(Response::ReadWriteMultipleRegisters(Words::new(found))),
-                    Err(error) => Err(error),
-                }
+                )?;
+                Ok(Response::ReadWriteMultipleRegisters(Words::new(found)))
             }
             Request::ReportServerId
             | Request::ReadDeviceIdentification(_, _)
@@ -302,8 +262,7 @@ impl RegisterStore {
         alloc: Global,
         request: SlaveRequest<'_>,
     ) -> Result<Option<Response>, ServiceError>
-        ensures keeps { Keeps (StepsTo self.old request.entry.slave (meaning request.entry.request)) self.old result self.new }
-        ensures memory { result ≡ Err ServiceError.NoMemory → TakesMemory self.old request.entry.slave (meaning request.entry.request) }
+        ensures { Keeps device self.old request.entry.slave (meaning request.entry.request) result self.new }
     {
         let is_silent = self.broadcast && request.slave == 0;
         match self.answer(alloc, request.request) {

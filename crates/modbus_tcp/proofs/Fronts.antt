@@ -1,15 +1,15 @@
 -- What stands at the front of bytes: a unit, or a rest of one kind.
-use Rattle.std.proofs.Common.{◌≡◌, ◌⊎◌, inl, inr, ℕ, zero, suc, ◌+◌, ◌-◌, ◌*◌, ◌<◌, ◌≤◌, List, [], ◌∷◌, ◌++◌, length, take, drop, get_or, refl, sym, ap, ◌∙◌, subst, arith, length-append, append_assoc}
+use Rattle.std.proofs.Common.{◌≡◌, ◌⊎◌, inl, inr, ℕ, zero, suc, ◌+◌, ◌-◌, ◌*◌, ◌<◌, ◌≤◌, List, [], ◌∷◌, ◌++◌, length, take, drop, get_or, refl, sym, ap, ◌∙◌, subst, arith, length-append, length-drop, append_assoc}
 use Rattle.std.specs.Prelude.{All}
 use Rattle.std.proofs.lemmas.Bool.{cases_lt}
-use Rattle.std.proofs.lemmas.List.{take_at, drop_at, take-append-drop, length-take-le}
+use Rattle.std.proofs.lemmas.List.{take_at, drop_at, drop-take, take-append-drop, length-take-le}
 use Rattle.std.proofs.lemmas.List.Elements.{All-get_or}
 use Rattle.std.proofs.lemmas.Nat.{be_bytes_2, from_be_bytes-to_be_bytes_2}
 use Rattle.modbus_frame.specs.declared.tcp.Header.{Header}
 use Rattle.modbus_pdu.specs.Fields.{word_at}
 use Rattle.modbus_pdu.specs.Laws.{IsByte}
 use Rattle.modbus_pdu.specs.Writing.{word}
-use Rattle.modbus_tcp.specs.declared.decoder.Mbap.{Mbap}
+use Rattle.modbus_tcp.specs.declared.mbap.Mbap.{Mbap}
 use Rattle.modbus_tcp.specs.Decoding.{Tells}
 use Rattle.modbus_tcp.specs.Unit.{unit, IsUnit}
 use Rattle.modbus_tcp.specs.Stream.{told_length, Rest, empty, unfinished, no_length, foreign, IsRest, BeginsWith}
@@ -92,11 +92,20 @@ same_header header other p q =
     ap (λ t. with t header.unit_id) p ∙ ap (λ u. with other.transaction_id u) q
 
 -- what a header tells of its unit
-pub tells_unit : (bytes : List ℕ) (mbap : Mbap) → All IsByte bytes → Tells bytes mbap → 0 < mbap.length → 6 + mbap.length ≤ length bytes → mbap.protocol ≡ 0 →
-    BeginsWith bytes (mbap.header, drop 7 (take (6 + mbap.length) bytes)) (drop (6 + mbap.length) bytes)
-tells_unit bytes mbap bounded tells some whole ours =
+pub tells_unit : (bytes : List ℕ) (mbap : Mbap) (end : ℕ) → All IsByte bytes → Tells bytes mbap → 0 < mbap.length → end ≤ length bytes → mbap.protocol ≡ 0 → end ≡ 6 + mbap.length →
+    BeginsWith bytes (mbap.header, take (end - 7) (drop 7 bytes)) (drop end bytes)
+tells_unit bytes mbap end bounded tells some whole ours is =
     let header : mbap.header ≡ header_of bytes = same_header mbap.header (header_of bytes) tells.transaction tells.unit_id in
-    rw header (begins bytes (6 + mbap.length) bounded (omega arith) whole (sym tells.protocol ∙ ours) (omega (arith, tells.length)))
+    let size : end ≡ 7 + (end - 7) = omega arith in
+    let pdu : drop 7 (take end bytes) ≡ take (end - 7) (drop 7 bytes) = ap (λ n. drop 7 (take n bytes)) size ∙ drop-take 7 (end - 7) bytes in
+    rw (header, ← pdu) (begins bytes end bounded (omega arith) whole (sym tells.protocol ∙ ours) (omega (arith, tells.length)))
+
+-- the unit that ends where the others begin: what it has behind its header
+pub taken_off : {bytes : List ℕ} {message : Header × List ℕ} (end : ℕ) → BeginsWith bytes message (drop end bytes) → end ≤ length bytes → (7 ≤ length (take end bytes)) × (drop 7 (take end bytes) ≡ message.1)
+taken_off {bytes} {message} end begins within =
+    let tells = told begins in
+    let size : end ≡ 7 + length message.1 = omega (arith, tells.all, length-drop end bytes) in
+    (omega (arith, length-take-le end bytes within), rw (size, drop-take 7 (length message.1) bytes, tells.body) (take_at message.1 (drop end bytes) (length message.1) refl))
 
 -- a short list
 pub short_rest : (bytes : List ℕ) → length bytes < 7 → IsRest bytes empty ⊎ IsRest bytes unfinished

@@ -1,9 +1,16 @@
--- What the decoders take out of a buffer, and what then stands in it.
-use Rattle.std.specs.Prelude.{◌≡◌, ◌⊎◌, ℕ, List, drop, slice_index, Option, Some, None, Result, Ok, Err}
+-- What stands at the front of bytes, what the decoders take out of a buffer, and what then stands in it.
+use Rattle.std.specs.Prelude.{◌≡◌, ◌⊎◌, ℕ, ◌<◌, ◌≤◌, List, length, drop, slice_index, Option, Some, None, Result, Ok, Err, IsOkAnd}
 use Rattle.modbus_frame.specs.declared.tcp.Header.{Header}
 use Rattle.modbus_frame.specs.declared.fault.Reason.{Reason}
+use Rattle.modbus_frame.specs.declared.fault.PduError.{PduError}
+use Rattle.modbus_frame.specs.declared.fault.PduError.TheVariants as pdu_errors
 use Rattle.modbus_pdu.specs.Fields.{word_at}
-use Rattle.modbus_tcp.specs.declared.decoder.Mbap.{Mbap}
+use Rattle.modbus_tcp.specs.declared.mbap.Mbap.{Mbap}
+use Rattle.modbus_tcp.specs.declared.stream.Front.{Front}
+use Rattle.modbus_tcp.specs.declared.stream.Front.TheVariants as found
+use Rattle.modbus_tcp.specs.declared.stream.HeaderFault.{HeaderFault}
+use Rattle.modbus_tcp.specs.declared.stream.HeaderFault.TheVariants as faults
+use Rattle.modbus_tcp.specs.declared.stream.TheConstants.{LONGEST_ADU}
 use Rattle.modbus_tcp.specs.declared.decoder.TcpError.{TcpError}
 use Rattle.modbus_tcp.specs.declared.decoder.TcpError.TheVariants as errors
 use Rattle.modbus_tcp.specs.Stream.{told_length, IsRest, empty, unfinished, no_length, foreign, BeginsWith}
@@ -15,6 +22,14 @@ pub record Tells (bytes : List ℕ) (mbap : Mbap) : Type 0 where
   pub length : mbap.length ≡ told_length bytes
   pub unit_id : mbap.header.unit_id ≡ slice_index bytes 6
 
+-- What stands at the front of bytes: an ADU, with its PDU and the place where the others begin; nothing or a front of an ADU, in
+-- fewer bytes than the longest ADU has; or a header that is no header of Modbus (section 3.1.3).
+abbrev pub Finds : List ℕ → Result Front HeaderFault → Type 0
+Finds bytes (Ok (found.Adu header pdu end)) = BeginsWith bytes (header, pdu.now) (drop end bytes) × (0 < end) × (end ≤ length bytes)
+Finds bytes (Ok found.Waiting) = (IsRest bytes empty ⊎ IsRest bytes unfinished) × (length bytes < LONGEST_ADU)
+Finds bytes (Err faults.InvalidLength) = IsRest bytes no_length
+Finds bytes (Err (faults.InvalidProtocol protocol)) = IsRest bytes (foreign protocol)
+
 -- From the buffer before, what the decoder of units answers, and the buffer after. The first unit is given and leaves the buffer.
 -- Where the bytes begin no unit the buffer stays as it is, but for the header of another protocol, whose 7 bytes are gone.
 abbrev pub TakesUnit : List ℕ → Result (Option (Header × List ℕ)) TcpError → List ℕ → Type 0
@@ -25,15 +40,21 @@ TakesUnit old (Err (errors.InvalidProtocol protocol)) new = IsRest old (foreign 
 TakesUnit old (Err (errors.Invalid reason)) new = ⊥
 TakesUnit old (Err errors.NoMemory) new = (message : Header × List ℕ) × (others : List ℕ) × BeginsWith old message others × (new ≡ old)
 
+-- why a codec gives no message, of a unit whose PDU is not read
+abbrev pub error_of : PduError → TcpError
+error_of (pdu_errors.Refused reason) = errors.Invalid reason
+error_of pdu_errors.NoMemory = errors.NoMemory
+
 -- The same of a codec, which then reads the PDU of the unit that is taken off: `header` and `meaning` are what its answer tells of
--- the unit. Where the PDU is refused the unit is gone. Where memory is wanting it may be gone too.
-abbrev pub ReadsUnit : {A M : Type 0} → (List ℕ → Result M Reason) → (A → Header) → (A → M) → List ℕ → Result (Option A) TcpError → List ℕ → Type 0
-ReadsUnit read header meaning old (Ok (Some adu)) new =
+-- the unit. Where the PDU is refused the unit is gone. Where memory is wanting for the unit it stays. It is gone where memory is
+-- wanting for what its PDU stands for, which is then something that carries memory.
+abbrev pub ReadsUnit : {A M : Type 0} → (List ℕ → Result M Reason) → (M → Type 0) → (A → Header) → (A → M) → List ℕ → Result (Option A) TcpError → List ℕ → Type 0
+ReadsUnit read carries header meaning old (Ok (Some adu)) new =
     (pdu : List ℕ) × BeginsWith old (header adu, pdu) new × (read pdu ≡ Ok (meaning adu))
-ReadsUnit read header meaning old (Ok None) new = (IsRest old empty ⊎ IsRest old unfinished) × (new ≡ old)
-ReadsUnit read header meaning old (Err errors.InvalidLength) new = IsRest old no_length × (new ≡ old)
-ReadsUnit read header meaning old (Err (errors.InvalidProtocol protocol)) new = IsRest old (foreign protocol) × (new ≡ drop 7 old)
-ReadsUnit read header meaning old (Err (errors.Invalid reason)) new =
+ReadsUnit read carries header meaning old (Ok None) new = (IsRest old empty ⊎ IsRest old unfinished) × (new ≡ old)
+ReadsUnit read carries header meaning old (Err errors.InvalidLength) new = IsRest old no_length × (new ≡ old)
+ReadsUnit read carries header meaning old (Err (errors.InvalidProtocol protocol)) new = IsRest old (foreign protocol) × (new ≡ drop 7 old)
+ReadsUnit read carries header meaning old (Err (errors.Invalid reason)) new =
     (message : Header × List ℕ) × BeginsWith old message new × (read message.1 ≡ Err reason)
-ReadsUnit read header meaning old (Err errors.NoMemory) new =
-    (message : Header × List ℕ) × (others : List ℕ) × BeginsWith old message others × ((new ≡ old) ⊎ (new ≡ others))
+ReadsUnit read carries header meaning old (Err errors.NoMemory) new =
+    (message : Header × List ℕ) × (others : List ℕ) × BeginsWith old message others × ((new ≡ old) ⊎ (IsOkAnd (read message.1) carries × (new ≡ others)))

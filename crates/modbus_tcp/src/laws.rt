@@ -1,5 +1,5 @@
 //! Laws on the units in a list of bytes, about definitions alone. Each is proved by its contract, and its body is empty.
-ghost use Rattle.std.specs.Prelude.{◌≡◌, ◌⊎◌, ℕ, All, List, [], ◌∷◌, ◌++◌};
+ghost use Rattle.std.specs.Prelude.{◌≡◌, ◌⊎◌, ℕ, ◌+◌, ◌<◌, All, List, [], ◌∷◌, ◌++◌, length};
 ghost use Rattle.modbus_frame.specs.declared.tcp.Header.{Header};
 ghost use Rattle.modbus_pdu.specs.Laws.{IsByte};
 ghost use Rattle.modbus_tcp.specs.Unit.{unit, IsUnit, stream_of};
@@ -30,8 +30,11 @@ pub fn unit_stays()
     ensures none { (bytes more others : List ℕ) (message : Header × List ℕ) → IsRest (bytes ++ more) unfinished → BeginsWith bytes message others → ⊥ }
 {}
 
-/// Units that were taken off, one after another, and then the next one, or bytes that are read.
+/// Units that were taken off, one after another, and then the next one, or bytes that are read. A unit has a header of 7 bytes, so what
+/// follows it is shorter.
 pub fn units_go_on()
+    ensures size { (bytes others : List ℕ) (message : Header × List ℕ) → BeginsWith bytes message others → length bytes ≡ 7 + length message.1 + length others }
+    ensures fewer { (bytes others : List ℕ) (message : Header × List ℕ) → BeginsWith bytes message others → length others < length bytes }
     ensures joined { (bytes held others : List ℕ) (units : List (Header × List ℕ)) (message : Header × List ℕ) → bytes ≡ stream_of units ++ held → BeginsWith held message others → bytes ≡ stream_of (units ++ message ∷ []) ++ others }
     ensures whole { (held others : List ℕ) (units : List (Header × List ℕ)) (message : Header × List ℕ) → All IsUnit units → BeginsWith held message others → All IsUnit (units ++ message ∷ []) }
     ensures read { (bytes held more : List ℕ) (units : List (Header × List ℕ)) → bytes ≡ stream_of units ++ held → bytes ++ more ≡ stream_of units ++ (held ++ more) }

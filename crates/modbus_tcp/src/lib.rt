@@ -7,11 +7,15 @@
 
 mod codec;
 mod decoder;
+mod encoder;
 pub mod laws;
-#[cfg(test)]
-mod tests;
+mod mbap;
+mod stream;
 mod transaction;
 
 pub use crate::codec::{ClientCodec, ServerCodec};
 pub use crate::decoder::{AduDecoder, TcpError};
+pub use crate::encoder::{encode_request_adu, encode_response_adu};
+pub use crate::mbap::front;
+pub use crate::stream::{Front, HeaderFault, LONGEST_ADU};
 pub use crate::transaction::TransactionIds;

@@ -3,7 +3,7 @@ use Rattle.std.proofs.lemmas.List.{take-append-drop, append-nil, take_rest}
 use Rattle.std.proofs.lemmas.Result.{err_from_is_err_and}
 use Rattle.std.proofs.Math.Seq.{take-add}
 use Rattle.std.proofs.lemmas.Grind.{common_steps}
-use Rattle.modbus_link.proofs.Runs.{Extends-both, appended_more}
+use Rattle.modbus_link.specs.Runs.{Extends-both, appended_more}
 use Rattle.modbus_link.proofs.write.write_all.Goals as goal
 
 pub returns-in_err-at-clause-front : goal.returns-in_err-at-clause-front

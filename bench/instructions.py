@@ -1,0 +1,97 @@
+#!/usr/bin/env python3
+"""Counts what a request costs the program, in instructions and in allocations.
+
+usage: bench/instructions.py
+
+It serves 1,000 and 100,000 requests over standard input and output under callgrind, and prints the difference a request: for RTU frames and
+for Modbus TCP, and the ten functions that cost most. Then it serves frames of kinds that carry no list (05, 06) under memcheck, and prints
+the allocations a request. The requests are those of bench/rtu.py, from a fixed seed. It is no test; it needs Python 3.9 and valgrind.
+"""
+
+import os
+import random
+import re
+import subprocess
+import sys
+import tempfile
+
+import rtu
+
+FEW, MANY = 1_000, 100_000
+UNIT = 1
+
+
+def adus(count):
+    """So many Modbus TCP requests of unit 1, one after another."""
+    rng = random.Random(rtu.SEED)
+    for transaction in range(count):
+        pdu = rtu.request(rng)
+        header = rtu.word(transaction % 65536) + rtu.word(0) + rtu.word(len(pdu) + 1) + bytes((UNIT,))
+        yield header + pdu
+
+
+def single_writes(count):
+    """So many frames that write one coil or one register."""
+    rng = random.Random(rtu.SEED)
+    for _ in range(count):
+        address = rtu.word(rng.randrange(rtu.TABLE))
+        if rng.random() < 0.5:
+            pdu = b"\x05" + address + rtu.word(rng.choice((0x0000, 0xFF00)))
+        else:
+            pdu = b"\x06" + address + rtu.word(rng.randrange(0x10000))
+        body = b"\x01" + pdu
+        yield body + rtu.crc(body).to_bytes(2, "little")
+
+
+def serve(tool, word, requests):
+    """The text that a tool of valgrind tells of serving these requests."""
+    with tempfile.TemporaryFile() as line:
+        for request in requests:
+            line.write(request)
+        line.seek(0)
+        done = subprocess.run(
+            ["valgrind", *tool, rtu.PROGRAM, word], stdin=line, stdout=subprocess.DEVNULL, stderr=subprocess.PIPE, check=True
+        )
+    return done.stderr.decode()
+
+
+def number(pattern, text):
+    return int(re.search(pattern, text).group(1).replace(",", ""))
+
+
+def instructions(word, requests, profile):
+    text = serve(["--tool=callgrind", f"--callgrind-out-file={profile}"], word, requests)
+    return number(r"Collected : (\d+)", text)
+
+
+def costs(word, make):
+    """Prints the instructions a request, and where they go."""
+    with tempfile.TemporaryDirectory() as folder:
+        profile = os.path.join(folder, "profile")
+        few = instructions(word, make(FEW), profile)
+        many = instructions(word, make(MANY), profile)
+        print(f"{word}: {(many - few) / (MANY - FEW):.0f} instructions a request")
+        listing = subprocess.run(["callgrind_annotate", profile], stdout=subprocess.PIPE, check=True).stdout.decode()
+    rows = [row for row in listing.splitlines() if re.match(r"\s*[\d,]+ \(\s*[\d.]+%\)\s+\S*:", row)]
+    for row in rows[:10]:
+        cost, where = re.match(r"\s*([\d,]+) \(.*?\)\s+(.*)", row).groups()
+        name = where.split(" [")[0].split(":", 1)[1]
+        print(f"  {int(cost.replace(',', '')) / MANY:7.1f}  {name}")
+
+
+def allocations():
+    few = number(r"total heap usage: ([\d,]+) allocs", serve([], "rtu", single_writes(FEW)))
+    many = number(r"total heap usage: ([\d,]+) allocs", serve([], "rtu", single_writes(10 * FEW)))
+    print(f"rtu, writes of one coil or register: {(many - few) / (9 * FEW):.3f} allocations a request")
+
+
+def main():
+    if not os.path.exists(rtu.PROGRAM):
+        sys.exit("bench: build the program first: ./prove")
+    costs("rtu", rtu.frames)
+    costs("tcp", adus)
+    allocations()
+
+
+if __name__ == "__main__":
+    main()

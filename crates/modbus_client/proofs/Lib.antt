@@ -1,0 +1,11 @@
+pub mod Turning
+pub mod Receiving
+pub mod Asking
+pub mod Searching
+pub mod Looking
+pub mod OneSearch
+pub mod OneFrame
+pub mod FrameAlone
+pub mod OneUnit
+pub mod Completing
+pub mod Exactly

@@ -1,0 +1,13 @@
+use Rattle.std.proofs.Common.{◌≡◌, length}
+use Rattle.modbus_link.specs.Passing.{Sends}
+use Rattle.modbus_client.proofs.drive.flush.Given as goal
+
+abbrev pub invariant-loop-link : goal.invariant-loop-link
+invariant-loop-link g l = record {
+  source : g.L.Ends.input l.link ≡ g.L.Ends.input l.fn.link;
+  keeps : l.call ≡ record l.fn.call { unwritten = l.call.unwritten };
+  sends : Sends (g.L.Ends.output l.fn.link) (g.L.Ends.output l.link) l.fn.call.unwritten l.call.unwritten;
+}
+
+abbrev pub decreases-loop-link : goal.decreases-loop-link
+decreases-loop-link g l = length l.call.unwritten

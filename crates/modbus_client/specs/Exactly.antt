@@ -1,0 +1,47 @@
+-- What a call tells of a search, exactly.
+use Rattle.std.specs.Prelude.{◌≡◌, ◌⊎◌, ℕ, ◌<◌, List, [], ◌∷◌, Result, Ok, Err}
+use Rattle.modbus_frame.specs.declared.code.FunctionCode.{FunctionCode}
+use Rattle.modbus_frame.specs.declared.fault.Reason.{Reason}
+use Rattle.modbus_frame.specs.declared.response.Response.{Response}
+use Rattle.modbus_frame.specs.declared.response.ExceptionResponse.{ExceptionResponse}
+use Rattle.modbus_frame.specs.declared.fault.Error.TheVariants.{Transport, NoMemory}
+use Rattle.modbus_frame.specs.declared.fault.HeaderSeen.{HeaderSeen}
+use Rattle.modbus_frame.specs.declared.fault.TransportError.{TransportError}
+use Rattle.modbus_frame.specs.declared.fault.TransportError.TheVariants as transport
+use Rattle.modbus_pdu.specs.ResponseOf.{response_result_of}
+use Rattle.modbus_client.specs.Protocol.{Found, waiting, reply, broken}
+use Rattle.modbus_client.specs.Matching.{Answer, Judges}
+
+-- the answer to a message of this header, by what its PDU stands for
+abbrev pub AnswersAs : HeaderSeen → FunctionCode → HeaderSeen → Result (Result Response ExceptionResponse) Reason → Answer → Type 0
+AnswersAs asked function seen (Ok result) answer = Judges asked function seen result answer
+AnswersAs asked function seen (Err reason) answer = answer ≡ Err (Transport (transport.InvalidResponse reason))
+
+-- how the end of the input is told
+abbrev pub end_of : List ℕ → TransportError
+end_of [] = transport.BrokenPipe
+end_of (byte ∷ bytes) = transport.BytesRemaining
+
+-- the answers of a call whose search waits
+abbrev pub IsOfWaiting : Answer → Type 0
+IsOfWaiting (Err (Transport (transport.RequestTooLong size))) = Unit {0}
+IsOfWaiting (Err (Transport transport.WriteFault)) = Unit {0}
+IsOfWaiting (Err (Transport transport.ReadFault)) = Unit {0}
+IsOfWaiting (Err (Transport transport.BrokenPipe)) = Unit {0}
+IsOfWaiting (Err (Transport transport.BytesRemaining)) = Unit {0}
+IsOfWaiting (Err (Transport transport.TurnLimit)) = Unit {0}
+IsOfWaiting (Err NoMemory) = Unit {0}
+IsOfWaiting _ = ⊥
+
+-- What a call tells of its search: a message gives its answer, and a fault of the bytes is told, unless memory is wanting; where the
+-- search waits, the answer is none of the bytes.
+abbrev pub IsToldOf : HeaderSeen → FunctionCode → Found → Answer → Type 0
+IsToldOf asked function (waiting held) answer = IsOfWaiting answer
+IsToldOf asked function (reply held seen pdu) answer = AnswersAs asked function seen (response_result_of pdu) answer ⊎ (answer ≡ Err NoMemory)
+IsToldOf asked function (broken held fault) answer = (answer ≡ Err (Transport fault)) ⊎ (answer ≡ Err NoMemory)
+
+-- What a call tells whose search waits with these bytes held, where the request fits and nothing failed: that the turns ran out where so
+-- many reads gave bytes, and the end of the input where fewer did and nothing is left to read; or memory is wanting.
+pub record TellsWaiting (held : List ℕ) (count turns : ℕ) (left : List ℕ) (answer : Answer) : Type 0 where
+  pub turn_limit : count ≡ turns → (answer ≡ Err (Transport transport.TurnLimit)) ⊎ (answer ≡ Err NoMemory)
+  pub end_told : left ≡ [] → count < turns → (answer ≡ Err (Transport (end_of held))) ⊎ (answer ≡ Err NoMemory)

@@ -1,0 +1,12 @@
+pub mod Protocol
+pub mod Matching
+pub mod Call
+pub mod Sending
+pub mod State
+pub mod Calling
+pub mod Ending
+pub mod Search
+pub mod Rtu
+pub mod Tcp
+pub mod TcpClient
+pub mod Exactly

@@ -1,0 +1,34 @@
+-- ADUs with an MBAP header as a client sees them (MODBUS Messaging on TCP/IP V1.0b, section 3.1).
+use Rattle.std.specs.Prelude.{◌≡◌, ◌⊎◌, ℕ, List, drop, Some}
+use Rattle.modbus_frame.specs.declared.tcp.Header.{Header}
+use Rattle.modbus_frame.specs.declared.fault.HeaderSeen.{HeaderSeen}
+use Rattle.modbus_frame.specs.declared.fault.TransportError.{TransportError}
+use Rattle.modbus_frame.specs.declared.fault.TransportError.TheVariants.{InvalidLength, InvalidProtocol}
+use Rattle.modbus_tcp.specs.Unit.{unit, IsUnit}
+use Rattle.modbus_tcp.specs.Stream.{IsRest, empty, unfinished, no_length, foreign, BeginsWith}
+use Rattle.modbus_client.specs.Protocol.{Protocol, Found, waiting, reply, broken}
+
+-- of a header the transaction and the unit are compared
+abbrev pub unit_seen : Header → HeaderSeen
+unit_seen header = record { transaction_id = Some header.transaction_id; slave_id = header.unit_id }
+
+-- a header that tells no unit
+abbrev pub IsBrokenAt : List ℕ → List ℕ → TransportError → Type 0
+IsBrokenAt bytes held InvalidLength = IsRest bytes no_length × (held ≡ bytes)
+IsBrokenAt bytes held (InvalidProtocol protocol) = IsRest bytes (foreign protocol) × (held ≡ drop 7 bytes)
+IsBrokenAt bytes held _ = ⊥
+
+-- The bytes are nothing or a front of a unit, and all of them are held; or they begin with a unit, and those behind it are held; or a
+-- header tells no unit of Modbus. The cuts are of no matter.
+abbrev pub FindsUnit : List ℕ → List ℕ → Found → Type 0
+FindsUnit bytes cuts (waiting held) = (IsRest bytes empty ⊎ IsRest bytes unfinished) × (held ≡ bytes)
+FindsUnit bytes cuts (reply held seen pdu) = (header : Header) × BeginsWith bytes (header, pdu) held × (seen ≡ unit_seen header)
+FindsUnit bytes cuts (broken held fault) = IsBrokenAt bytes held fault
+
+abbrev pub tcp_protocol : Protocol Header
+tcp_protocol = record {
+  seen = unit_seen;
+  adu = unit;
+  Finds = FindsUnit;
+  IsWhole = λ header pdu. IsUnit (header, pdu);
+}

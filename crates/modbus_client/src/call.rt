@@ -1,0 +1,159 @@
+//! One call of a client, whatever frames its messages. It does no IO: it has bytes to be written, is fed those that come, and has
+//! an answer then.
+ghost use Rattle.std.specs.Prelude.{◌≡◌, ◌↔◌, ℕ, ◌<◌, ◌≤◌, [], length, drop, IsTrue, OnOk};
+ghost use Rattle.modbus_frame.specs.Meaning.{meaning};
+ghost use Rattle.modbus_client.specs.Call.{Opens, Fed, TellsEnd};
+
+use crate::matching::judge;
+use crate::protocol::{LookError, Protocol};
+use bytes::BytesMut;
+use modbus_frame::{
+    EncodeError, Error, FunctionCode, HeaderSeen, Request, Response, Result, TransportError,
+};
+use std::alloc::{AllocError, Global};
+use std::marker::Model;
+
+/// The length in bytes of the room of each read.
+pub const ROOM: usize = 268;
+
+/// A request that was asked, the bytes of it that were not written yet, and the bytes that were fed and not used.
+///
+/// It reads once its request is written, and counts the reads that gave bytes.
+#[derive(Drop)]
+pub struct Call<P: Protocol> {
+    protocol: P,
+    asked: HeaderSeen,
+    function: FunctionCode,
+    request: BytesMut,
+    written: usize,
+    held: BytesMut,
+    reads: u64,
+    turns: u64,
+}
+
+impl<P: Protocol> Model for Call<P> {
+    ghost use Rattle.std.specs.Prelude.{◌≤◌, length, drop};
+    ghost use Rattle.modbus_client.specs.Call.{CallState};
+
+    ghost Value = { CallState };
+
+    ghost view = { λ c. record {
+      asked = c.asked;
+      function = c.function;
+      request = c.request.items;
+      unwritten = drop c.written c.request.items;
+      held = c.held.items;
+      free = c.held.spare;
+      reads = c.reads;
+      turns = c.turns;
+    } };
+
+    ghost invariant = { λ c. c.written ≤ length c.request.items };
+}
+
+impl<P: Protocol> Call<P> {
+    /// A call of this request under this header, which may make `turns` reads that give bytes. It holds its bytes in `space`, whose
+    /// own bytes are dropped.
+    ///
+    /// # Errors
+    /// `TooLong` with the size of the PDU in bytes, exactly where that is above 253. `NoMemory` where memory is refused.
+    pub fn open(
+        alloc: Global,
+        header: P::Header,
+        request: &Request<'_>,
+        turns: u64,
+        space: BytesMut,
+    ) -> std::result::Result<Call<P>, EncodeError>
+        ensures { Opens P.protocol header (meaning request.now) turns result }
+    {
+        P::laws();
+        let mut held = space;
+        held.clear();
+        let mut bytes = BytesMut::new(alloc);
+        P::encode(alloc, header, request, &mut bytes)?;
+        Ok(Call {
+            protocol: P::new(),
+            asked: P::seen(header),
+            function: request.function_code(),
+            request: bytes,
+            written: 0,
+            held,
+            reads: 0,
+            turns,
+        })
+    }
+
+    /// The bytes of the request that were not written yet.
+    pub fn to_write(&self) -> &[u8]
+        ensures { result.now ≡ self.now.unwritten }
+    {
+        &self.request.as_slice()[self.written..]
+    }
+
+    /// So many of them were written.
+    pub fn wrote(&mut self, count: usize)
+        requires { count ≤ length self.old.unwritten }
+        ensures { self.new ≡ record self.old { unwritten = drop count self.old.unwritten } }
+    {
+        let _len = self.request.len();
+        self.written += count;
+    }
+
+    /// Whether it may read once more.
+    pub fn may_read(&self) -> bool
+        ensures { IsTrue result ↔ (self.now.reads < self.now.turns) }
+    {
+        self.reads < self.turns
+    }
+
+    /// Makes the room of the next read, which has `ROOM` bytes.
+    ///
+    /// # Errors
+    /// `AllocError` where memory is refused.
+    pub fn make_room(&mut self) -> std::result::Result<(), AllocError>
+        ensures keeps { self.new ≡ record self.old { free = self.new.free } }
+        ensures room { OnOk result (ROOM ≤ self.new.free) }
+    {
+        self.held.reserve(ROOM)
+    }
+
+    /// Takes the bytes that a read gave, for which there is room, and looks for the reply. `None` where it waits for more.
+    pub fn feed(&mut self, alloc: Global, piece: &[u8]) -> Option<Result<Response>>
+        requires written { self.old.unwritten ≡ [] }
+        requires may_read { self.old.reads < self.old.turns }
+        requires some { 0 < length piece.now }
+        requires free { length piece.now ≤ self.old.free }
+        ensures { Fed P.protocol self.old self.new piece.now result }
+    {
+        P::laws();
+        self.held.extend_reserved(piece);
+        self.reads += 1;
+        match self.protocol.look(alloc, &mut self.held) {
+            Ok(None) => None,
+            Ok(Some(reply)) => Some(judge(self.asked, self.function, reply)),
+            Err(LookError::Broken(fault)) => Some(Err(Error::Transport(fault))),
+            Err(LookError::Refused(reason)) => {
+                Some(Err(Error::Transport(TransportError::InvalidResponse(reason))))
+            }
+            Err(LookError::NoMemory) => Some(Err(Error::NoMemory)),
+        }
+    }
+
+    /// How the end of the input is told: `BrokenPipe` where nothing is held, else `BytesRemaining`.
+    pub fn end(&self) -> TransportError
+        ensures { TellsEnd self.now.held result }
+    {
+        if self.held.is_empty() {
+            TransportError::BrokenPipe
+        } else {
+            TransportError::BytesRemaining
+        }
+    }
+
+    /// The bytes that are held.
+    pub fn into_held(self) -> BytesMut
+        ensures { result.items ≡ self.held }
+    {
+        self.held
+    }
+}

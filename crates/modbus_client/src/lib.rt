@@ -1,0 +1,20 @@
+//! Modbus clients: a client sends a request over its link and waits for the reply, whatever pieces its bytes come in.
+//!
+//! A `Call` is a machine without IO: it has the bytes of a request to be written, and is fed the bytes that come. The clients of a
+//! serial line and of TCP drive it over a link, with blocking reads and writes.
+#![tactic(auto)]
+
+mod call;
+mod caller;
+mod client;
+mod drive;
+pub mod laws;
+mod matching;
+mod protocol;
+pub mod rtu;
+pub mod tcp;
+
+pub use crate::call::{Call, ROOM};
+pub use crate::caller::TURNS;
+pub use crate::client::Client;
+pub use crate::protocol::{LookError, Protocol, Reply};

@@ -1,0 +1,80 @@
+//! What a call needs of its protocol: how a request is framed, and how the reply is found in the bytes that come.
+//!
+//! RTU frames and Modbus TCP are protocols; another crate can add its own.
+ghost use Rattle.std.specs.Prelude.{◌≡◌, ℕ, ◌<◌, ◌++◌, ◌∷◌, List, [], length};
+ghost use Rattle.modbus_frame.specs.Meaning.{meaning};
+ghost use Rattle.modbus_pdu.specs.Coding.{Encodes};
+ghost use Rattle.modbus_pdu.specs.RequestPdu.{request_pdu};
+ghost use Rattle.modbus_client.specs.Protocol.{Protocol as Finding, Found, waiting, IsOfMessage};
+ghost use Rattle.modbus_client.specs.Call.{LooksAs, IsOwn};
+
+use bytes::BytesMut;
+use modbus_frame::{
+    EncodeError, ExceptionResponse, HeaderSeen, Reason, Request, Response, TransportError,
+};
+use std::alloc::Global;
+
+/// A message that was received.
+#[derive(Debug, PartialEq, Eq, Drop)]
+pub struct Reply {
+    /// What is compared of its header.
+    pub header: HeaderSeen,
+    /// What its PDU tells.
+    pub result: Result<Response, ExceptionResponse>,
+}
+
+/// Why the bytes give no message.
+#[derive(Clone, Copy, Debug, PartialEq, Eq)]
+pub enum LookError {
+    /// No message comes by waiting, for this fault of the protocol: `TooManyRetries`, `InvalidLength` or `InvalidProtocol`.
+    Broken(TransportError),
+    /// The PDU of the next message is no response, for this reason.
+    Refused(Reason),
+    /// Memory was refused.
+    NoMemory,
+}
+
+/// How requests are framed, and how the reply is found in the bytes that come.
+pub trait Protocol: Drop {
+    /// What stands beside the PDU of a request, as the slave address of an RTU frame.
+    type Header: Copy;
+
+    ghost protocol: { Finding Self.Header };
+
+    /// One that was given no byte.
+    fn new() -> Self;
+
+    /// What is compared of a header.
+    fn seen(header: Self::Header) -> HeaderSeen
+        ensures { result ≡ protocol.seen header };
+
+    /// Appends the bytes of a request under a header.
+    ///
+    /// # Errors
+    /// `TooLong` with the size of the PDU in bytes, exactly where that is above 253. `NoMemory` where memory is refused. The bytes of
+    /// the buffer are then as they were.
+    fn encode(
+        alloc: Global,
+        header: Self::Header,
+        request: &Request<'_>,
+        buf: &mut BytesMut,
+    ) -> Result<(), EncodeError>
+        ensures { Encodes (protocol.adu header (request_pdu (meaning request.now))) (request_pdu (meaning request.now)) buf.old.items result buf.new.items };
+
+    /// Looks for the next message in the held bytes, after some were appended. `None` where there is none yet.
+    ///
+    /// # Errors
+    /// Those of `LookError`.
+    fn look(&mut self, alloc: Global, held: &mut BytesMut) -> Result<Option<Reply>, LookError>
+        ensures own { IsOwn result }
+        ensures looks { (bytes cuts earlier more : List ℕ) → protocol.Finds bytes cuts (waiting earlier) → held.old.items ≡ earlier ++ more → 0 < length more
+            → LooksAs protocol (bytes ++ more) (cuts ++ length (bytes ++ more) ∷ []) held.new.items result };
+
+    /// What holds of every search: with no byte it waits; in given bytes with given cuts it stands in one way; and a message alone is
+    /// found in whatever pieces it comes. It has no code.
+    fn laws()
+        ensures opening { protocol.Finds [] [] (waiting []) }
+        ensures one_way { (bytes cuts : List ℕ) (found other : Found) → protocol.Finds bytes cuts found → protocol.Finds bytes cuts other → found ≡ other }
+        ensures alone { (header : Self.Header) (pdu bytes rest cuts : List ℕ) (found : Found) → protocol.IsWhole header pdu → protocol.adu header pdu ≡ bytes ++ rest
+            → protocol.Finds bytes cuts found → IsOfMessage (protocol.seen header) pdu rest found };
+}

@@ -1,0 +1,3 @@
+//! What no clause says: this crate's server on bytes.
+mod singles;
+mod thermometer;

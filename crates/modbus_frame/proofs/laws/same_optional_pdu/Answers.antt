@@ -1,7 +1,0 @@
-use Rattle.modbus_frame.proofs.SameFrame.{optional_pdus_Decide}
-use Rattle.modbus_frame.proofs.laws.same_optional_pdu.Goals as goal
-
-pub returns : goal.returns
-returns c =
-    let d = optional_pdus_Decide c.args.a.now c.args.b.now in
-    rw c.eq.ensures d

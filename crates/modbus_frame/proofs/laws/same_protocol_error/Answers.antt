@@ -1,7 +1,0 @@
-use Rattle.modbus_frame.proofs.SameFrame.{protocols_Decide}
-use Rattle.modbus_frame.proofs.laws.same_protocol_error.Goals as goal
-
-pub returns : goal.returns
-returns c =
-    let d = protocols_Decide c.args.a.now c.args.b.now in
-    rw c.eq.ensures d

@@ -1,7 +1,0 @@
-use Rattle.modbus_frame.proofs.SameRequest.{slave_requests_Decide}
-use Rattle.modbus_frame.proofs.laws.same_slave_request.Goals as goal
-
-pub returns : goal.returns
-returns c =
-    let d = slave_requests_Decide c.args.a.now c.args.b.now in
-    rw c.eq.ensures d

@@ -1,0 +1,7 @@
+use Rattle.modbus_frame_laws.proofs.SameFrame.{optional_pdus_Decide}
+use Rattle.modbus_frame_laws.proofs.same_optional_pdu.Goals as goal
+
+pub returns : goal.returns
+returns c =
+    let d = optional_pdus_Decide c.args.a.now c.args.b.now in
+    rw c.eq.ensures d

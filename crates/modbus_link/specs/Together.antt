@@ -1,0 +1,40 @@
+-- The cuts and rooms of one run of reads after another.
+use Rattle.std.proofs.Common.{◌≡◌, ℕ, ◌+◌, ◌≤◌, List, [], ◌∷◌, ◌++◌, map, length, refl, sym, ap, ◌∙◌, subst, arith, length-append}
+use Rattle.std.proofs.lemmas.List.{map-append, take-append-le}
+use Rattle.modbus_link.specs.Outside.{RisesTo, shifted}
+use Rattle.modbus_link.specs.Runs.{RisesTo-count}
+use Rattle.modbus_link.specs.Reads.{HaveRooms, totals}
+
+length_map : (f : ℕ × ℕ → ℕ × ℕ) (xs : List (ℕ × ℕ)) → length (map f xs) ≡ length xs
+length_map f [] = refl
+length_map f (x ∷ xs) = omega (arith, length_map f xs)
+
+pub totals_count : (xs : List (ℕ × ℕ)) → length (totals xs) ≡ length xs
+totals_count [] = refl
+totals_count (x ∷ xs) = omega (arith, totals_count xs)
+
+pub count_both : (n : ℕ) (xs ys : List (ℕ × ℕ)) → length (xs ++ shifted n ys) ≡ length xs + length ys
+count_both n xs ys = length-append xs (shifted n ys) ∙ ap (λ m. length xs + m) (length_map (λ (cut : ℕ × ℕ). (n + cut.0, cut.1)) ys)
+
+pub totals_both : (n : ℕ) (xs ys : List (ℕ × ℕ)) → totals (xs ++ shifted n ys) ≡ totals xs ++ totals (shifted n ys)
+totals_both n xs ys = map-append (λ (cut : ℕ × ℕ). cut.0) xs (shifted n ys)
+
+pub shifted_none : (xs : List (ℕ × ℕ)) → shifted 0 xs ≡ xs
+shifted_none [] = refl
+shifted_none (x ∷ xs) =
+    let same : 0 + x.0 ≡ x.0 = omega arith in
+    let rest = shifted_none xs in
+    let head : ℕ → ℕ × ℕ = λ n. (n, x.1) in
+    ap (λ n. head n ∷ shifted 0 xs) same ∙ ap (λ ys. x ∷ ys) rest
+
+pub rooms_more : (HasRoom : List ℕ → ℕ → Type 0) (bytes more : List ℕ) (total end : ℕ) (cuts : List (ℕ × ℕ)) → RisesTo total cuts end → end ≤ length bytes
+    → HaveRooms HasRoom bytes total cuts → HaveRooms HasRoom (bytes ++ more) total cuts
+rooms_more HasRoom bytes more total end [] p le rooms = tt
+rooms_more HasRoom bytes more total end (cut ∷ cuts) p le rooms =
+    let low : total ≤ length bytes = omega (arith, p.0, RisesTo-count cut.0 end cuts p.1) in
+    (subst (λ b. HasRoom b cut.1) (sym (take-append-le total bytes more low)) rooms.0, rooms_more HasRoom bytes more cut.0 end cuts p.1 le rooms.1)
+
+pub rooms_then : (HasRoom : List ℕ → ℕ → Type 0) (bytes : List ℕ) (total end : ℕ) (xs ys : List (ℕ × ℕ)) → RisesTo total xs end
+    → HaveRooms HasRoom bytes total xs → HaveRooms HasRoom bytes end ys → HaveRooms HasRoom bytes total (xs ++ ys)
+rooms_then HasRoom bytes total end [] ys p q r = subst (λ t. HaveRooms HasRoom bytes t ys) (sym p) r
+rooms_then HasRoom bytes total end (x ∷ xs) ys p q r = (q.0, rooms_then HasRoom bytes x.0 end xs ys p.1 q.1 r)

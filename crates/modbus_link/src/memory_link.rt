@@ -1,0 +1,178 @@
+//! A link in memory, for tests and for programs over bytes that they hold.
+ghost use Rattle.std.specs.Prelude.{◌≡◌, ◌↔◌, ◌<◌, length, IsTrue, IfOk, IsErr, OnOk, OnErr};
+ghost use Rattle.std.specs.Io.{ReadsAtMost, WritesAtMost};
+ghost use Rattle.modbus_link.specs.Outside.{Rose, Advances, Extends, bytes_appended, ReadIsTold, front_of};
+ghost use Rattle.modbus_link.specs.Memory.{source_input, sink_output, FailsNow, GivesMost, KeepsSource, CountsFault, FailsToTake, taken_of, KeepsSink};
+ghost use Rattle.modbus_link.specs.Line.{line_at_start, shut};
+
+use crate::link::Link;
+use crate::memory::{MemorySink, MemorySource};
+use crate::outside::{Ends, Failed, Sink, Source};
+use std::marker::Model;
+use std::time::Duration;
+
+/// A source and a sink in memory as one link, whose shutdown fails where that is asked for. It tells all of its content.
+#[derive(Drop)]
+pub struct MemoryLink {
+    source: MemorySource,
+    sink: MemorySink,
+    shutdown_fails: bool,
+    faults: u64,
+    is_down: bool,
+    timeout: Option<Duration>,
+}
+
+impl Model for MemoryLink {
+    ghost use Rattle.modbus_link.specs.Line.{LinkState};
+
+    ghost Value = { LinkState };
+
+    ghost view = { λ link. record {
+      source = link.source;
+      sink = link.sink;
+      shutdown_fails = link.shutdown_fails;
+      line = record { faults = link.faults; is_down = link.is_down; timeout = link.timeout };
+    } };
+}
+
+impl MemoryLink {
+    /// A link of these ends. A shutdown fails exactly where `shutdown_fails`.
+    pub fn new(source: MemorySource, sink: MemorySink, shutdown_fails: bool) -> MemoryLink
+        ensures { result ≡ record { source = source; sink = sink; shutdown_fails = shutdown_fails; line = line_at_start } }
+    {
+        MemoryLink {
+            source,
+            sink,
+            shutdown_fails,
+            faults: 0,
+            is_down: false,
+            timeout: None,
+        }
+    }
+
+    /// The source.
+    pub fn source(&self) -> &MemorySource
+        ensures { result.now ≡ self.now.source }
+    {
+        &self.source
+    }
+
+    /// The sink.
+    pub fn sink(&self) -> &MemorySink
+        ensures { result.now ≡ self.now.sink }
+    {
+        &self.sink
+    }
+
+    /// The timeout that was set last; `None` at first.
+    pub fn timeout(&self) -> Option<Duration>
+        ensures { result ≡ self.now.line.timeout }
+    {
+        self.timeout
+    }
+}
+
+impl Ends for MemoryLink {
+    ghost input = { λ link. source_input link.source };
+
+    ghost output = { λ link. sink_output link.sink };
+}
+
+impl Source for MemoryLink {
+    fn read(&mut self, room: &mut [u8]) -> Result<usize, Failed>
+        requires { 0 < length room.old }
+        ensures bound { ReadsAtMost result room.new }
+        ensures source { Advances (source_input self.old.source) (source_input self.new.source) }
+        ensures told { IsTrue (source_input self.old.source).told → ReadIsTold (source_input self.old.source) (source_input self.new.source) room.old room.new result }
+        ensures cause { OnErr result (Rose (source_input self.old.source).faults (source_input self.new.source).faults) }
+        ensures sink { sink_output self.new.sink ≡ sink_output self.old.sink }
+
+        ensures fails { IsErr result ↔ FailsNow self.old.source.fails self.old.source.calls }
+        ensures most { IfOk result (GivesMost self.old.source (length room.old)) }
+        ensures keeps { KeepsSource self.old.source self.new.source }
+        ensures counts { CountsFault result self.old.source.faults self.new.source.faults }
+        ensures others { self.new ≡ record self.old { source = self.new.source } }
+    {
+        self.source.read(room)
+    }
+}
+
+impl Sink for MemoryLink {
+    fn write(&mut self, piece: &[u8]) -> Result<usize, Failed>
+        ensures bound { WritesAtMost result piece.now }
+        ensures some { IfOk result (λ count. 0 < length piece.now → 0 < count) }
+        ensures sink { Extends (sink_output self.old.sink) (sink_output self.new.sink) }
+        ensures told { IsTrue (sink_output self.old.sink).told → bytes_appended (sink_output self.old.sink) (sink_output self.new.sink) ≡ front_of result piece.now }
+        ensures cause { OnErr result (Rose (sink_output self.old.sink).faults (sink_output self.new.sink).faults) }
+        ensures source { source_input self.new.source ≡ source_input self.old.source }
+
+        ensures fails { IsErr result ↔ FailsToTake self.old.sink (length piece.now) }
+        ensures takes { IfOk result (λ count. count ≡ taken_of self.old.sink (length piece.now)) }
+        ensures keeps { KeepsSink self.old.sink self.new.sink }
+        ensures counts { CountsFault result self.old.sink.faults self.new.sink.faults }
+        ensures others { self.new ≡ record self.old { sink = self.new.sink } }
+    {
+        self.sink.write(piece)
+    }
+}
+
+impl Link for MemoryLink {
+    ghost line = { λ link. link.line };
+
+    fn shutdown(&mut self) -> Result<(), Failed>
+        ensures down { OnOk result (IsTrue self.new.line.is_down) }
+        ensures cause { OnErr result (Rose self.old.line.faults self.new.line.faults) }
+        ensures timeout { self.new.line.timeout ≡ self.old.line.timeout }
+        ensures source { source_input self.new.source ≡ source_input self.old.source }
+        ensures sink { sink_output self.new.sink ≡ sink_output self.old.sink }
+
+        ensures fails { IsErr result ↔ IsTrue self.old.shutdown_fails }
+        ensures shut { self.new ≡ record self.old { line = shut self.old.shutdown_fails self.old.line } }
+    {
+        if self.shutdown_fails {
+            self.faults = self.faults.saturating_add(1);
+            return Err(Failed);
+        }
+        self.is_down = true;
+        Ok(())
+    }
+
+    fn set_timeout(&mut self, duration: Option<Duration>)
+        ensures timeout { self.new.line.timeout ≡ duration }
+        ensures faults { self.new.line.faults ≡ self.old.line.faults }
+        ensures down { self.new.line.is_down ≡ self.old.line.is_down }
+        ensures source { source_input self.new.source ≡ source_input self.old.source }
+        ensures sink { sink_output self.new.sink ≡ sink_output self.old.sink }
+
+        ensures set { self.new ≡ record self.old { line = record self.old.line { timeout = duration } } }
+    {
+        self.timeout = duration;
+    }
+}
+
+#[cfg(test)]
+mod tests {
+    use super::*;
+    use std::test::Fail;
+
+    #[test]
+    fn a_link_has_both_ends_and_a_shutdown(rt: HostRuntime) -> Result<(), Fail> {
+        let source = MemorySource::new(rt.alloc(), b"abc", &[2], &[])?;
+        let sink = MemorySink::new(rt.alloc(), 4, 3, &[])?;
+        let mut link = MemoryLink::new(source, sink, false);
+        let mut room = [0u8; 3];
+        assert_eq!(rt; link.read(&mut room), Ok(2));
+        assert_eq!(rt; link.write(b"xyzw"), Ok(3));
+        link.set_timeout(Some(Duration::from_secs(2)));
+        assert!(rt; link.timeout() == Some(Duration::from_secs(2)));
+        assert_eq!(rt; link.shutdown(), Ok(()));
+        assert_eq!(rt; link.source().given(), 2);
+        assert_eq!(rt; link.sink().bytes(), b"xyz".as_slice());
+
+        let source = MemorySource::new(rt.alloc(), b"", &[], &[])?;
+        let sink = MemorySink::new(rt.alloc(), 4, 3, &[])?;
+        let mut broken = MemoryLink::new(source, sink, true);
+        assert_eq!(rt; broken.shutdown(), Err(Failed));
+        Ok(())
+    }
+}

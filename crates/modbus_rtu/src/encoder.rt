@@ -1,0 +1,87 @@
+//! The encoders of frames: the slave address, the PDU, and the checksum of both (MODBUS over Serial Line V1.02, section 2.5.1).
+ghost use Rattle.std.specs.Prelude.{◌≡◌, ◌%◌, ◌/◌, ◌<◌, ◌≤◌, [], ◌∷◌, ◌++◌, length, take, drop, OnOk, OnErr};
+ghost use Rattle.std.specs.Result.{ForErr};
+ghost use Rattle.modbus_frame.specs.Codes.{function_number};
+ghost use Rattle.modbus_frame.specs.Meaning.{meaning};
+ghost use Rattle.modbus_pdu.specs.Coding.{Encodes, Fits};
+ghost use Rattle.modbus_pdu.specs.RequestPdu.{request_pdu};
+ghost use Rattle.modbus_pdu.specs.ResponsePdu.{response_result_pdu};
+ghost use Rattle.modbus_rtu.specs.Checksum.{crc};
+ghost use Rattle.modbus_rtu.specs.Frame.{frame};
+
+use crate::crc::calc_crc;
+use crate::length::OVERHEAD;
+use bytes::BytesMut;
+use modbus_frame::{EncodeError, ExceptionResponse, Request, Response, SlaveId};
+use modbus_pdu::{
+    encode_request_pdu, encode_response_result_pdu, request_pdu_size, response_result_pdu_size,
+};
+use std::alloc::Global;
+
+/// Appends the checksum of the bytes from `start` on, its low byte first.
+#[inline]
+fn put_checksum(buf: &mut BytesMut, start: usize)
+    requires start { start ≤ length buf.old.items }
+    requires room { 2 ≤ buf.old.spare }
+    ensures { buf.new.items ≡ buf.old.items ++ crc (drop start buf.old.items) % 256 ∷ crc (drop start buf.old.items) / 256 ∷ [] }
+{
+    let sum = calc_crc(&buf.as_slice()[start..]);
+    buf.extend_reserved(&sum.to_le_bytes());
+}
+
+/// Appends the frame of a request: its slave address, its PDU, and the checksum of both.
+///
+/// # Errors
+/// `TooLong` with the size of the PDU in bytes, exactly where that is above 253. `NoMemory` where memory is refused. The bytes of
+/// the buffer are then as they were.
+#[tactic(auto, unfolding(crate::specs::Frame::frame))]
+pub fn encode_request_frame(
+    alloc: Global,
+    slave: SlaveId,
+    request: &Request<'_>,
+    buf: &mut BytesMut,
+) -> Result<(), EncodeError>
+    ensures { Encodes (frame slave (request_pdu (meaning request.now))) (request_pdu (meaning request.now)) buf.old.items result buf.new.items }
+{
+    let pdu_len = request_pdu_size(request)?;
+    // One growth for the whole frame.
+    buf.reserve(pdu_len + OVERHEAD)?;
+    let start = buf.len();
+    buf.extend_reserved(&[slave]);
+    match encode_request_pdu(alloc, buf, request) {
+        Ok(()) => {
+            put_checksum(buf, start);
+            Ok(())
+        }
+        Err(_) => unreachable!(),
+    }
+}
+
+/// Appends the frame of a response or an exception: its slave address, its PDU, and the checksum of both. The function of an exception is below 0x80.
+///
+/// # Errors
+/// `TooLong` with the size of the PDU in bytes, exactly where that is above 253. `NoMemory` where memory is refused. The bytes of
+/// the buffer are then as they were.
+#[tactic(auto, unfolding(crate::specs::Frame::frame))]
+pub fn encode_response_frame(
+    alloc: Global,
+    slave: SlaveId,
+    answer: &Result<Response, ExceptionResponse>,
+    buf: &mut BytesMut,
+) -> Result<(), EncodeError>
+    requires { ForErr answer.now (λ refusal. function_number refusal.function < 0x80) }
+    ensures { Encodes (frame slave (response_result_pdu answer.now)) (response_result_pdu answer.now) buf.old.items result buf.new.items }
+{
+    let pdu_len = response_result_pdu_size(answer)?;
+    // One growth for the whole frame.
+    buf.reserve(pdu_len + OVERHEAD)?;
+    let start = buf.len();
+    buf.extend_reserved(&[slave]);
+    match encode_response_result_pdu(alloc, buf, answer) {
+        Ok(()) => {
+            put_checksum(buf, start);
+            Ok(())
+        }
+        Err(_) => unreachable!(),
+    }
+}

@@ -1,0 +1,206 @@
+-- What a connection stands for, carried over a message, over what is written of a reply, and over what is fed.
+use Rattle.std.proofs.Common.{◌≡◌, inl, inr, ℕ, List, [], ◌∷◌, ◌++◌, map, length, refl, sym, ap, ◌∙◌, subst, Result, Ok, Err, append-nil, append_assoc, arith}
+use Rattle.std.proofs.lemmas.List.{map-append}
+use Rattle.std.proofs.lemmas.List.Elements.{All-append, All-cons, All-nil}
+use Rattle.std.proofs.lemmas.Grind.{flat_map-append}
+use Rattle.modbus_frame.specs.Meaning.{Asked}
+use Rattle.modbus_pdu.specs.RequestOf.{request_of}
+use Rattle.modbus_server.specs.declared.error.ProcessError.{ProcessError}
+use Rattle.modbus_server.specs.declared.error.AnswerError.{AnswerError}
+use Rattle.modbus_server.specs.declared.error.AnswerError.TheVariants as fault
+use Rattle.modbus_server.specs.declared.error.NextError.TheVariants.{Refused, TooLong, NoMemory}
+use Rattle.modbus_server.specs.declared.error.Next.TheVariants.{Reply, Silent}
+use Rattle.modbus_server.specs.declared.error.Answer.{Answer}
+use Rattle.modbus_server.specs.declared.error.Answer.TheVariants.{Framed, Quiet}
+use Rattle.modbus_service.specs.Outcome.{silence}
+use Rattle.modbus_server.specs.Framing.{Framing, Message}
+use Rattle.modbus_service.specs.Answering.{Answering}
+use Rattle.modbus_server.specs.Exchanges.{Exchange, Gives, Run, Fits, reply_of, output, last_reply, asked_of, asks}
+use Rattle.modbus_server.specs.Answer.{Answered, AnswersAs}
+use Rattle.modbus_server.specs.Serving.{Stands, NextIsRequest, NothingFails, Served, Halt, Halts, refused, too_long, Wanting}
+use Rattle.modbus_server.specs.Taking.{TakesAs, next_of}
+
+module _ (F : Framing) where
+  pub output_more : (xs : List (Exchange F)) (x : Exchange F) → output F (xs ++ x ∷ []) ≡ output F xs ++ reply_of F x
+  output_more xs x = flat_map-append (reply_of F) xs (x ∷ []) ∙ ap (λ rest. output F xs ++ rest) (append-nil (reply_of F x))
+
+  pub last_more : (xs : List (Exchange F)) (x : Exchange F) → last_reply F (xs ++ x ∷ []) ≡ reply_of F x
+  last_more [] x = refl
+  last_more (a ∷ []) x = refl
+  last_more (a ∷ b ∷ xs) x = last_more (b ∷ xs) x
+
+  silent_reply : (x : Exchange F) → x.outcome ≡ silence → reply_of F x ≡ []
+  silent_reply x e = rw e refl
+
+  module _ {S : Type 0} (A : Answering S) where
+    pub run_more : (a : S) (xs : List (Exchange F)) (b : S) (x : Exchange F) (c : S) → Run F A a xs b → Gives F A b x c → Run F A a (xs ++ x ∷ []) c
+    run_more a [] b x c e step = (c, subst (λ s. Gives F A s x c) e step, refl)
+    run_more a (y ∷ ys) b x c (m, first, rest) step = (m, first, run_more m ys b x c rest step)
+
+    -- before the first byte
+    pub opened : (start : S) → F.StandsFor [] [] [] [] → Stands F A [] [] [] start start [] [] []
+    opened start stands = record { taken = []; stands = stands; asked = refl; run = refl; fit = All-nil (Fits F); wrote = refl; late = ([], refl) }
+
+    -- some of what waits is written
+    pub sent_on : (bytes cuts held : List ℕ) (opening now : S) (written waiting sent rest : List ℕ) (exchanges : List (Exchange F)) → waiting ≡ sent ++ rest
+        → Stands F A bytes cuts held opening now written waiting exchanges → Stands F A bytes cuts held opening now (written ++ sent) rest exchanges
+    sent_on bytes cuts held opening now written waiting sent rest exchanges e s = record {
+      taken = s.taken;
+      stands = s.stands;
+      asked = s.asked;
+      run = s.run;
+      fit = s.fit;
+      wrote = append_assoc written sent rest ∙ ap (λ w. written ++ w) (sym e) ∙ s.wrote;
+      late = (s.late.0 ++ sent, s.late.1 ∙ ap (λ w. s.late.0 ++ w) e ∙ sym (append_assoc s.late.0 sent rest));
+    }
+
+    -- a piece is fed
+    pub fed_on : (bytes cuts held held' piece : List ℕ) (opening now : S) (written waiting : List ℕ) (exchanges : List (Exchange F))
+        → (s : Stands F A bytes cuts held opening now written waiting exchanges)
+        → F.StandsFor (bytes ++ piece) (cuts ++ length (bytes ++ piece) ∷ []) held' s.taken
+        → Stands F A (bytes ++ piece) (cuts ++ length (bytes ++ piece) ∷ []) held' opening now written waiting exchanges
+    fed_on bytes cuts held held' piece opening now written waiting exchanges s grown = record {
+      taken = s.taken;
+      stands = grown;
+      asked = s.asked;
+      run = s.run;
+      fit = s.fit;
+      wrote = s.wrote;
+      late = s.late;
+    }
+
+    -- other bytes are held
+    abbrev pub kept : (bytes cuts held held' : List ℕ) (opening now : S) (written waiting : List ℕ) (exchanges : List (Exchange F))
+        → (s : Stands F A bytes cuts held opening now written waiting exchanges) → F.StandsFor bytes cuts held' s.taken
+        → Stands F A bytes cuts held' opening now written waiting exchanges
+    kept bytes cuts held held' opening now written waiting exchanges s stands = record {
+      taken = s.taken;
+      stands = stands;
+      asked = s.asked;
+      run = s.run;
+      fit = s.fit;
+      wrote = s.wrote;
+      late = s.late;
+    }
+
+    -- where nothing waits
+    module _ (bytes cuts held : List ℕ) (opening now : S) (written : List ℕ) (exchanges : List (Exchange F))
+        (s : Stands F A bytes cuts held opening now written [] exchanges) where
+      all_written : written ≡ output F exchanges
+      all_written = sym (append-nil written) ∙ s.wrote
+
+      -- one more message is answered, and its reply waits
+      pub answered_on : (message : Message F) (held' : List ℕ) (next : S) (x : Exchange F) → F.StandsFor bytes cuts held' (s.taken ++ message ∷ [])
+          → Answered F A message now next x → Fits F x → (made : List ℕ) → made ≡ reply_of F x → Stands F A bytes cuts held' opening next written made (exchanges ++ x ∷ [])
+      answered_on message held' next x stands answered fits made e = record {
+        taken = s.taken ++ message ∷ [];
+        stands = stands;
+        asked = map-append (asked_of F) s.taken (message ∷ []) ∙ ap (λ front. front ++ asked_of F message ∷ []) s.asked
+            ∙ ap (λ last. map (asks F) exchanges ++ last ∷ []) answered.asked ∙ sym (map-append (asks F) exchanges (x ∷ []));
+        run = run_more opening exchanges now x next s.run answered.step;
+        fit = All-append (Fits F) exchanges (x ∷ []) s.fit (All-cons (Fits F) x [] fits (All-nil (Fits F)));
+        wrote = ap (λ w. w ++ made) all_written ∙ ap (λ w. output F exchanges ++ w) e ∙ sym (output_more exchanges x);
+        late = ([], last_more exchanges x ∙ sym e);
+      }
+
+      -- all messages that were taken are those before the place where it stops
+      pub halted : (halt : Halt) (next : S) → Halts F A bytes cuts s.taken now next halt → Served F A bytes cuts opening next written halt
+      halted halt next halts = record {
+        before = s.taken;
+        exchanges = exchanges;
+        asked = s.asked;
+        fit = s.fit;
+        ends = now;
+        run = s.run;
+        wrote = all_written;
+        halts = halts;
+      }
+
+      pub wanting : NothingFails F bytes cuts exchanges → Wanting F A bytes cuts opening now written
+      wanting none = record {
+        held = held;
+        waiting = [];
+        exchanges = exchanges;
+        ends = now;
+        stood = s;
+        left = inl refl;
+        before = exchanges;
+        last = [];
+        splits = sym (append-nil exchanges);
+        once = omega arith;
+        none_fails = none;
+      }
+
+      module _ {E : Type 0} (told : E → ProcessError) (message : Message F) (held' : List ℕ) (next : S) (made : List ℕ)
+          (stands : F.StandsFor bytes cuts held' (s.taken ++ message ∷ [])) (is_next : F.IsNext bytes cuts s.taken message) where
+        replied : AnswersAs F A message now (Ok Framed) next made → TakesAs F A told bytes cuts held' opening next written made exchanges (Ok Reply)
+        replied (x, answered, fits, some, e) = (x, answered_on message held' next x stands answered fits made e, some)
+
+        silenced : AnswersAs F A message now (Ok Quiet) next made → TakesAs F A told bytes cuts held' opening next written made exchanges (Ok Silent)
+        silenced (x, answered, fits, quiet, none) = (x, answered_on message held' next x stands answered fits [] (sym (silent_reply x quiet)), quiet)
+
+        refuses : (reason : _) → AnswersAs F A message now (Err (fault.Refused reason)) next made → TakesAs F A told bytes cuts held' opening next written made exchanges (Err (Refused reason))
+        refuses reason (e, same) = halted (refused reason) next (message, is_next, e, same)
+
+        overlong : (size : ℕ) → AnswersAs F A message now (Err (fault.TooLong size)) next made → TakesAs F A told bytes cuts held' opening next written made exchanges (Err (TooLong size))
+        overlong size (x, answered, e, long) = halted (too_long size) next (message, is_next, x, answered.asked, answered.step, e, long)
+
+        next_is : (request : Asked) → request_of message.1 ≡ Ok request → NextIsRequest F bytes cuts exchanges
+        next_is request asked = (s.taken, message, is_next, s.asked, request, asked)
+
+        wants : AnswersAs F A message now (Err fault.NoMemory) next made → TakesAs F A told bytes cuts held' opening next written made exchanges (Err NoMemory)
+        wants (request, asked, inl same) = (
+          record {
+            held = held;
+            waiting = [];
+            exchanges = exchanges;
+            ends = now;
+            stood = s;
+            left = inl same;
+            before = exchanges;
+            last = [];
+            splits = sym (append-nil exchanges);
+            once = omega arith;
+            none_fails = inl (next_is request asked);
+          },
+          next_is request asked,
+        )
+        wants (request, asked, inr (inl wanted)) = (
+          record {
+            held = held;
+            waiting = [];
+            exchanges = exchanges;
+            ends = now;
+            stood = s;
+            left = inr (message, is_next, wanted);
+            before = exchanges;
+            last = [];
+            splits = sym (append-nil exchanges);
+            once = omega arith;
+            none_fails = inl (next_is request asked);
+          },
+          next_is request asked,
+        )
+        wants (request, asked, inr (inr (x, answered, fits))) = (
+          record {
+            held = held';
+            waiting = reply_of F x;
+            exchanges = exchanges ++ x ∷ [];
+            ends = next;
+            stood = answered_on message held' next x stands answered fits (reply_of F x) refl;
+            left = inl refl;
+            before = exchanges;
+            last = x ∷ [];
+            splits = refl;
+            once = omega arith;
+            none_fails = inl (next_is request asked);
+          },
+          next_is request asked,
+        )
+
+        pub takes_on : (result : Result Answer AnswerError) → AnswersAs F A message now result next made → TakesAs F A told bytes cuts held' opening next written made exchanges (next_of result)
+        takes_on (Ok Framed) h = replied h
+        takes_on (Ok Quiet) h = silenced h
+        takes_on (Err (fault.Refused reason)) h = refuses reason h
+        takes_on (Err (fault.TooLong size)) h = overlong size h
+        takes_on (Err fault.NoMemory) h = wants h

@@ -1,0 +1,318 @@
+-- One step is what the connection takes, and what is moved between it and the outside.
+use Rattle.std.proofs.Common.{◌≡◌, ◌≢◌, ℕ, ◌<◌, List, [], ◌∷◌, ◌++◌, length, refl, sym, ap, ◌∙◌, subst, Ok, Err, Result, Bool, true, false, append-nil, length-append, inl, inr}
+use Rattle.std.proofs.lemmas.List.{take_at}
+use Rattle.modbus_link.specs.Outside.{Input, Output, Rose, shifted, RisesTo}
+use Rattle.modbus_link.specs.Passing.{Passes, Sends, rises_none, rises_one, passes_out, passes_in, passes_none}
+use Rattle.modbus_link.specs.Reads.{HaveRooms, totals}
+use Rattle.modbus_server.specs.declared.error.ProcessError.{ProcessError}
+use Rattle.modbus_server.specs.declared.error.ProcessError.TheVariants.{ReadFault, WriteFault, TooManyRetries, BytesRemaining, InvalidRequest, ResponseTooLong, TurnLimit, InvalidLength, InvalidProtocol, NoMemory}
+use Rattle.modbus_server.specs.declared.error.NextError.{NextError}
+use Rattle.modbus_server.specs.declared.error.NextError.TheVariants as next
+use Rattle.modbus_server.specs.declared.error.Next.TheVariants.{Reply, Waiting}
+use Rattle.modbus_server.specs.declared.error.Next.TheVariants as take
+use Rattle.modbus_server.specs.declared.error.Step.{Step}
+use Rattle.modbus_server.specs.declared.error.Step.TheVariants.{Answered, Silent, MoreRead, Hungry, Ended}
+use Rattle.modbus_server.specs.Framing.{Framing, IsOfFraming}
+use Rattle.modbus_service.specs.Answering.{Answering}
+use Rattle.modbus_server.specs.Exchanges.{Exchange}
+use Rattle.modbus_server.specs.Serving.{Stands, AreAllAnswered, Served, remaining, broken, Wanting, EndsAs}
+use Rattle.modbus_server.specs.State.{State}
+use Rattle.modbus_server.specs.Taking.{TakesAs, Took, told_next, IsToldWell}
+use Rattle.modbus_server.specs.Moving.{Writes, Reads, EndsInput}
+use Rattle.modbus_server.specs.Stepping.{StepsAs, ReadsLast, EndsIfMay, Stepped}
+use Rattle.modbus_server.proofs.Standing.{sent_on, fed_on, halted, wanting}
+
+-- of what holds for each fault that is left to a framing
+pub of_framing : (P : ProcessError → Type 0) → P TooManyRetries → P InvalidLength → ((protocol : ℕ) → P (InvalidProtocol protocol)) → (error : ProcessError) → IsOfFraming error → P error
+of_framing P a b d TooManyRetries own = a
+of_framing P a b d InvalidLength own = b
+of_framing P a b d (InvalidProtocol protocol) own = d protocol
+of_framing P a b d ReadFault own = absurd own
+of_framing P a b d WriteFault own = absurd own
+of_framing P a b d BytesRemaining own = absurd own
+of_framing P a b d (InvalidRequest reason) own = absurd own
+of_framing P a b d (ResponseTooLong size) own = absurd own
+of_framing P a b d TurnLimit own = absurd own
+of_framing P a b d NoMemory own = absurd own
+
+-- nothing is added
+pub along : (P : List ℕ → List ℕ → List ℕ → Type 0) (x x' y y' z z' : List ℕ) → x ≡ x' → y ≡ y' → z ≡ z' → P x' y' z' → P x y z
+along P x x' y y' z z' e f h p = subst (λ v. P v y z) (sym e) (subst (λ v. P x' v z) (sym f) (subst (λ v. P x' y' v) (sym h) p))
+
+pub idle : (P : List ℕ → List ℕ → List ℕ → Type 0) (bytes cuts written : List ℕ) → P bytes cuts written → P (bytes ++ []) (cuts ++ []) (written ++ [])
+idle P bytes cuts written p = along P (bytes ++ []) bytes (cuts ++ []) cuts (written ++ []) written (append-nil bytes) (append-nil cuts) (append-nil written) p
+
+module _ (F : Framing) {S : Type 0} (A : Answering S) where
+  ends_told : {E : Type 0} (told : E → ProcessError) (bytes cuts held : List ℕ) (opening now : S) (written waiting : List ℕ) (exchanges : List (Exchange F)) (error : NextError E)
+      → IsToldWell told error → TakesAs F A told bytes cuts held opening now written waiting exchanges (Err error) → EndsAs F A bytes cuts opening now written (Err (told_next told error))
+  ends_told told bytes cuts held opening now written waiting exchanges (next.Broken fault) own served =
+      of_framing (λ e. Served F A bytes cuts opening now written (broken e) → EndsAs F A bytes cuts opening now written (Err e)) (λ s. s) (λ s. s) (λ p s. s) (told fault) own served
+  ends_told told bytes cuts held opening now written waiting exchanges (next.Refused reason) own served = served
+  ends_told told bytes cuts held opening now written waiting exchanges (next.TooLong size) own served = served
+  ends_told told bytes cuts held opening now written waiting exchanges next.NoMemory own (wanting, request) = wanting
+
+  last_told : {E : Type 0} (told : E → ProcessError) (bytes cuts held : List ℕ) (opening now : S) (written waiting : List ℕ) (exchanges : List (Exchange F)) (error : NextError E) → IsToldWell told error
+      → TakesAs F A told bytes cuts held opening now written waiting exchanges (Err error) → ReadsLast F bytes cuts exchanges (Err (told_next told error))
+  last_told told bytes cuts held opening now written waiting exchanges (next.Broken fault) own served = of_framing (λ e. ReadsLast F bytes cuts exchanges (Err e)) tt tt (λ p. tt) (told fault) own
+  last_told told bytes cuts held opening now written waiting exchanges (next.Refused reason) own served = tt
+  last_told told bytes cuts held opening now written waiting exchanges (next.TooLong size) own served = tt
+  last_told told bytes cuts held opening now written waiting exchanges next.NoMemory own (wanting, request) = inl request
+
+  other_than : {E : Type 0} (told : E → ProcessError) (P : ProcessError → Type 0) → P TooManyRetries → P InvalidLength → ((p : ℕ) → P (InvalidProtocol p)) → ((r : _) → P (InvalidRequest r)) → ((n : ℕ) → P (ResponseTooLong n)) → P NoMemory
+      → (error : NextError E) → IsToldWell told error → P (told_next told error)
+  other_than told P a b d e f h (next.Broken fault) own = of_framing P a b d (told fault) own
+  other_than told P a b d e f h (next.Refused reason) own = e reason
+  other_than told P a b d e f h (next.TooLong size) own = f size
+  other_than told P a b d e f h next.NoMemory own = h
+
+  module _ (old new : State) (before after : S) (a : Input) (k : Output) (may_read : Bool) where
+    pub stepped_error : {E : Type 0} (told : E → ProcessError) (error : NextError E) → IsToldWell told error → Took F A told old new before after (Err error)
+        → Stepped F A old new before after a a k k may_read (Err (told_next told error))
+    stepped_error told error own took = record {
+      fed = [];
+      made = [];
+      sent = [];
+      passes = passes_none a k;
+      stands = λ bytes cuts written opening exchanges s.
+          idle (λ b c w. StepsAs F A b c new.held opening after w new.waiting exchanges (Err (told_next told error))) bytes cuts written
+          (ends_told told bytes cuts new.held opening after written new.waiting exchanges error own (took.stands bytes cuts written opening exchanges s));
+      last = λ bytes cuts written opening exchanges s.
+          last_told told bytes cuts new.held opening after written new.waiting exchanges error own (took.stands bytes cuts written opening exchanges s);
+      rooms = λ bytes cuts written opening exchanges s. tt;
+      leaves = (refl, took.goes_on, other_than told (EndsIfMay may_read) tt tt (λ p. tt) (λ r. tt) (λ n. tt) tt error own);
+      ended = λ t. other_than told (λ e. EndsInput (Err e) a.left) tt tt (λ p. tt) (λ r. tt) (λ n. tt) tt error own;
+      idle = λ e. refl;
+      read_fault = λ e.
+          let same : told_next told error ≡ ReadFault = cc in
+          absurd (other_than told (λ e. e ≢ ReadFault) (λ e. cc) (λ e. cc) (λ p e. cc) (λ r e. cc) (λ n e. cc) (λ e. cc) error own same);
+      write_fault = λ e.
+          let same : told_next told error ≡ WriteFault = cc in
+          absurd (other_than told (λ e. e ≢ WriteFault) (λ e. cc) (λ e. cc) (λ p e. cc) (λ r e. cc) (λ n e. cc) (λ e. cc) error own same);
+    }
+
+    pub stepped_silent : {E : Type 0} (told : E → ProcessError) → Took F A told old new before after (Ok take.Silent) → Stepped F A old new before after a a k k may_read (Ok Silent)
+    stepped_silent told took = record {
+      fed = [];
+      made = [];
+      sent = [];
+      passes = passes_none a k;
+      stands = λ bytes cuts written opening exchanges s.
+          let h = took.stands bytes cuts written opening exchanges s in
+          idle (λ b c w. StepsAs F A b c new.held opening after w new.waiting exchanges (Ok Silent)) bytes cuts written
+          (h.0, subst (λ w. Stands F A bytes cuts new.held opening after written w (exchanges ++ h.0 ∷ [])) (sym took.keeps.1) h.1, h.2);
+      last = λ bytes cuts written opening exchanges s. tt;
+      rooms = λ bytes cuts written opening exchanges s. tt;
+      leaves = (refl, took.keeps.0, took.keeps.1, took.goes_on);
+      ended = λ t. tt;
+      idle = λ e. refl;
+      read_fault = λ e. absurd cc;
+      write_fault = λ e. absurd cc;
+    }
+
+    pub stepped_hungry : {E : Type 0} (told : E → ProcessError) → Took F A told old new before after (Ok Waiting) → may_read ≡ false → Stepped F A old new before after a a k k may_read (Ok Hungry)
+    stepped_hungry told took may = record {
+      fed = [];
+      made = [];
+      sent = [];
+      passes = passes_none a k;
+      stands = λ bytes cuts written opening exchanges s.
+          let h = took.stands bytes cuts written opening exchanges s in
+          idle (λ b c w. StepsAs F A b c new.held opening after w new.waiting exchanges (Ok Hungry)) bytes cuts written
+          (subst (λ w. (s : Stands F A bytes cuts new.held opening after written w exchanges) × F.IsAll bytes cuts new.held s.taken) (sym took.keeps.1) h);
+      last = λ bytes cuts written opening exchanges s.
+          let h = took.stands bytes cuts written opening exchanges s in (h.0.taken, new.held, h.1, h.0.asked);
+      rooms = λ bytes cuts written opening exchanges s. tt;
+      leaves = (refl, took.keeps.0, took.keeps.1, took.goes_on, may, took.keeps.2);
+      ended = λ t. tt;
+      idle = λ e. refl;
+      read_fault = λ e. absurd cc;
+      write_fault = λ e. absurd cc;
+    }
+
+    -- where nothing was fed
+    unfed : (P : List ℕ → List ℕ → List ℕ → Type 0) (bytes cuts written fed : List ℕ) (made : List (ℕ × ℕ)) → fed ≡ [] → made ≡ [] → P bytes cuts written
+        → P (bytes ++ fed) (cuts ++ totals (shifted (length bytes) made)) (written ++ [])
+    unfed P bytes cuts written fed made e f p =
+        along P (bytes ++ fed) bytes (cuts ++ totals (shifted (length bytes) made)) cuts (written ++ []) written
+        (ap (λ x. bytes ++ x) e ∙ append-nil bytes) (ap (λ (m : List (ℕ × ℕ)). cuts ++ totals (shifted (length bytes) m)) f ∙ append-nil cuts) (append-nil written) p
+
+    no_rooms : (bytes fed : List ℕ) (made : List (ℕ × ℕ)) → made ≡ [] → HaveRooms F.HasRoom (bytes ++ fed) (length bytes) (shifted (length bytes) made)
+    no_rooms bytes fed made e = subst (λ m. HaveRooms F.HasRoom (bytes ++ fed) (length bytes) (shifted (length bytes) m)) (sym e) tt
+
+    module _ {E : Type 0} (told : E → ProcessError) (mid : State) (b : Input) (m : Output) where
+      -- the reply is written
+      module _ (took : Took F A told old mid before after (Ok Reply)) (unread : b ≡ a) (sends : Sends k m mid.waiting new.waiting) where
+        wrote_reply : (bytes cuts written : List ℕ) (opening : S) (exchanges : List (Exchange F)) → Stands F A bytes cuts old.held opening before written [] exchanges
+            → (x : Exchange F) × Stands F A bytes cuts mid.held opening after (written ++ sends.sent) new.waiting (exchanges ++ x ∷ [])
+        wrote_reply bytes cuts written opening exchanges s =
+            let h = took.stands bytes cuts written opening exchanges s in
+            (h.0, sent_on F A bytes cuts mid.held opening after written mid.waiting sends.sent new.waiting (exchanges ++ h.0 ∷ []) sends.splits h.1)
+
+        pub stepped_sent : (result : Result Step ProcessError) → Writes mid new result → (result ≡ Err WriteFault → Rose k.faults m.faults) → Stepped F A old new before after a b k m may_read result
+        unfolding wrote_reply
+        stepped_sent (Ok Answered) writes cause = record {
+          fed = [];
+          made = [];
+          sent = sends.sent;
+          passes = passes_out a b k m sends.sent unread sends.sink sends.wrote;
+          stands = λ bytes cuts written opening exchanges s.
+              let h = took.stands bytes cuts written opening exchanges s in
+              let w = wrote_reply bytes cuts written opening exchanges s in
+              along (λ x y z. StepsAs F A x y new.held opening after z new.waiting exchanges (Ok Answered)) (bytes ++ []) bytes (cuts ++ []) cuts (written ++ sends.sent) (written ++ sends.sent) (append-nil bytes) (append-nil cuts) refl
+              (w.0, subst (λ held. Stands F A bytes cuts held opening after (written ++ sends.sent) new.waiting (exchanges ++ w.0 ∷ [])) (sym writes.0) w.1, h.2);
+          last = λ bytes cuts written opening exchanges s. tt;
+          rooms = λ bytes cuts written opening exchanges s. tt;
+          leaves = (refl, subst (λ h. length h < length old.held) (sym writes.0) took.keeps, writes.1, writes.2 ∙ took.goes_on);
+          ended = λ t. tt;
+          idle = λ e. unread;
+          read_fault = λ e. absurd cc;
+          write_fault = cause;
+        }
+        stepped_sent (Err WriteFault) writes cause = record {
+          fed = [];
+          made = [];
+          sent = sends.sent;
+          passes = passes_out a b k m sends.sent unread sends.sink sends.wrote;
+          stands = λ bytes cuts written opening exchanges s.
+              let w = wrote_reply bytes cuts written opening exchanges s in
+              along (λ x y z. StepsAs F A x y new.held opening after z new.waiting exchanges (Err WriteFault)) (bytes ++ []) bytes (cuts ++ []) cuts (written ++ sends.sent) (written ++ sends.sent) (append-nil bytes) (append-nil cuts) refl
+              (record { held = mid.held; waiting = new.waiting; exchanges = exchanges ++ w.0 ∷ []; stood = w.1 });
+          last = λ bytes cuts written opening exchanges s. tt;
+          rooms = λ bytes cuts written opening exchanges s. tt;
+          leaves = (refl, writes.1, tt);
+          ended = λ t. tt;
+          idle = λ e. unread;
+          read_fault = λ e. absurd cc;
+          write_fault = cause;
+        }
+        stepped_sent (Ok _) writes cause = absurd writes
+        stepped_sent (Err _) writes cause = absurd writes
+
+      -- a read is made
+      module _ (took : Took F A told old mid before after (Ok Waiting)) (unsent : m ≡ k) (may : may_read ≡ true) where
+        all_answered : (bytes cuts written : List ℕ) (opening : S) (exchanges : List (Exchange F)) → Stands F A bytes cuts old.held opening before written [] exchanges → AreAllAnswered F bytes cuts exchanges
+        all_answered bytes cuts written opening exchanges s = let h = took.stands bytes cuts written opening exchanges s in (h.0.taken, mid.held, h.1, h.0.asked)
+
+        idle_not : may_read ≡ false → b ≡ a
+        idle_not e = let clash : true ≡ false = sym may ∙ e in absurd cc
+
+        served_all : (bytes cuts written : List ℕ) (opening : S) (exchanges : List (Exchange F)) → Stands F A bytes cuts old.held opening before written [] exchanges → Served F A bytes cuts opening after written (remaining mid.held)
+        served_all bytes cuts written opening exchanges s =
+            let h = took.stands bytes cuts written opening exchanges s in halted F A bytes cuts mid.held opening after written exchanges h.0 (remaining mid.held) after (h.1, refl)
+
+        wanting_all : (bytes cuts written : List ℕ) (opening : S) (exchanges : List (Exchange F)) → Stands F A bytes cuts old.held opening before written [] exchanges → Wanting F A bytes cuts opening after written
+        wanting_all bytes cuts written opening exchanges s =
+            let h = took.stands bytes cuts written opening exchanges s in
+            wanting F A bytes cuts mid.held opening after written exchanges h.0 (inr (inl (all_answered bytes cuts written opening exchanges s)))
+
+        passes_read : (result : Result Step ProcessError) (reads : Reads F a b mid new result) → RisesTo 0 reads.made (length reads.fed) → Passes a b k m reads.fed reads.made []
+        passes_read result reads rises = passes_in a b k m reads.fed reads.made unsent reads.source reads.read reads.cuts rises
+
+        pub stepped_read : (result : Result Step ProcessError) → Reads F a b mid new result → Stepped F A old new before after a b k m may_read result
+        stepped_read (Ok MoreRead) reads =
+            let gives = reads.gives in
+            let fed = reads.fed in
+            let none : new.waiting ≡ [] = gives.3 ∙ took.keeps.1 in
+            record {
+              fed = fed;
+              made = reads.made;
+              sent = [];
+              passes = passes_read (Ok MoreRead) reads (rises_one fed reads.made gives.0 gives.1 gives.2);
+              stands = λ bytes cuts written opening exchanges s.
+                  let h = took.stands bytes cuts written opening exchanges s in
+                  let g = gives.6 bytes cuts h.0.taken h.0.stands in
+                  along (λ x y z. StepsAs F A x y new.held opening after z new.waiting exchanges (Ok MoreRead)) (bytes ++ fed) (bytes ++ fed)
+                  (cuts ++ totals (shifted (length bytes) reads.made)) (cuts ++ length (bytes ++ fed) ∷ []) (written ++ []) written refl
+                  (ap (λ (m : List (ℕ × ℕ)). cuts ++ totals (shifted (length bytes) m)) gives.1 ∙ ap (λ n. cuts ++ n ∷ []) (sym (length-append bytes fed))) (append-nil written)
+                  (subst (λ w. Stands F A (bytes ++ fed) (cuts ++ length (bytes ++ fed) ∷ []) new.held opening after written w exchanges) (sym none)
+                  (fed_on F A bytes cuts mid.held new.held fed opening after written [] exchanges h.0 g.1));
+              last = all_answered;
+              rooms = λ bytes cuts written opening exchanges s.
+                  let h = took.stands bytes cuts written opening exchanges s in
+                  let g = gives.6 bytes cuts h.0.taken h.0.stands in
+                  subst (λ (m : List (ℕ × ℕ)). HaveRooms F.HasRoom (bytes ++ fed) (length bytes) (shifted (length bytes) m)) (sym gives.1)
+                  (subst (λ x. F.HasRoom x gives.0) (sym (take_at bytes fed (length bytes) refl)) g.0, tt);
+              leaves = (ap length gives.1, gives.5, none, gives.4 ∙ took.goes_on, may, took.keeps.2);
+              ended = reads.ended;
+              idle = idle_not;
+              read_fault = reads.cause;
+              write_fault = λ e. absurd cc;
+            }
+        stepped_read (Ok Ended) reads =
+            let gives = reads.gives in
+            let none : new.waiting ≡ [] = gives.4 ∙ took.keeps.1 in
+            let empty : new.held ≡ [] = gives.3 ∙ gives.2 in
+            record {
+              fed = reads.fed;
+              made = reads.made;
+              sent = [];
+              passes = passes_read (Ok Ended) reads (rises_none reads.fed reads.made gives.0 gives.1);
+              stands = λ bytes cuts written opening exchanges s.
+                  let h = took.stands bytes cuts written opening exchanges s in
+                  unfed (λ x y z. StepsAs F A x y new.held opening after z new.waiting exchanges (Ok Ended)) bytes cuts written reads.fed reads.made gives.0 gives.1
+                  (subst (λ held. (s : Stands F A bytes cuts held opening after written new.waiting exchanges) × F.IsAll bytes cuts held s.taken × (held ≡ [])) (sym gives.3)
+                  (subst (λ w. (s : Stands F A bytes cuts mid.held opening after written w exchanges) × F.IsAll bytes cuts mid.held s.taken × (mid.held ≡ [])) (sym none) (h.0, h.1, gives.2)));
+              last = all_answered;
+              rooms = λ bytes cuts written opening exchanges s. no_rooms bytes reads.fed reads.made gives.1;
+              leaves = (gives.1, empty, none, gives.5, may, took.keeps.2);
+              ended = reads.ended;
+              idle = idle_not;
+              read_fault = reads.cause;
+              write_fault = λ e. absurd cc;
+            }
+        stepped_read (Err BytesRemaining) reads =
+            let gives = reads.gives in
+            record {
+              fed = reads.fed;
+              made = reads.made;
+              sent = [];
+              passes = passes_read (Err BytesRemaining) reads (rises_none reads.fed reads.made gives.0 gives.1);
+              stands = λ bytes cuts written opening exchanges s.
+                  unfed (λ x y z. StepsAs F A x y new.held opening after z new.waiting exchanges (Err BytesRemaining)) bytes cuts written reads.fed reads.made gives.0 gives.1
+                  (mid.held, gives.2, served_all bytes cuts written opening exchanges s);
+              last = all_answered;
+              rooms = λ bytes cuts written opening exchanges s. no_rooms bytes reads.fed reads.made gives.1;
+              leaves = (gives.1, gives.3, may);
+              ended = reads.ended;
+              idle = idle_not;
+              read_fault = reads.cause;
+              write_fault = λ e. absurd cc;
+            }
+        stepped_read (Err ReadFault) reads =
+            let gives = reads.gives in
+            record {
+              fed = reads.fed;
+              made = reads.made;
+              sent = [];
+              passes = passes_read (Err ReadFault) reads (rises_none reads.fed reads.made gives.0 gives.1);
+              stands = λ bytes cuts written opening exchanges s.
+                  unfed (λ x y z. StepsAs F A x y new.held opening after z new.waiting exchanges (Err ReadFault)) bytes cuts written reads.fed reads.made gives.0 gives.1
+                  (mid.held, served_all bytes cuts written opening exchanges s);
+              last = all_answered;
+              rooms = λ bytes cuts written opening exchanges s. no_rooms bytes reads.fed reads.made gives.1;
+              leaves = (gives.1, gives.2, may);
+              ended = reads.ended;
+              idle = idle_not;
+              read_fault = reads.cause;
+              write_fault = λ e. absurd cc;
+            }
+        stepped_read (Err NoMemory) reads =
+            let gives = reads.gives in
+            record {
+              fed = reads.fed;
+              made = reads.made;
+              sent = [];
+              passes = passes_read (Err NoMemory) reads (rises_none reads.fed reads.made gives.0 gives.1);
+              stands = λ bytes cuts written opening exchanges s.
+                  unfed (λ x y z. StepsAs F A x y new.held opening after z new.waiting exchanges (Err NoMemory)) bytes cuts written reads.fed reads.made gives.0 gives.1
+                  (wanting_all bytes cuts written opening exchanges s);
+              last = λ bytes cuts written opening exchanges s. inr (inl (all_answered bytes cuts written opening exchanges s));
+              rooms = λ bytes cuts written opening exchanges s. no_rooms bytes reads.fed reads.made gives.1;
+              leaves = (gives.1, gives.2, tt);
+              ended = reads.ended;
+              idle = idle_not;
+              read_fault = reads.cause;
+              write_fault = λ e. absurd cc;
+            }
+        stepped_read (Ok _) reads = absurd reads.gives
+        stepped_read (Err _) reads = absurd reads.gives

@@ -1,0 +1,19 @@
+use Rattle.std.proofs.Common.{[], ◌∷◌, ◌++◌, drop, subst, sym, List, ℕ}
+use Rattle.modbus_server.specs.Serving.{Stands}
+use Rattle.modbus_server.proofs.Standing.{kept, takes_on}
+use Rattle.modbus_server.proofs.connection.take_next.Goals as goal
+
+pub returns-in-Ok-Waiting-clause-stands : goal.returns-in-Ok-Waiting-clause-stands
+returns-in-Ok-Waiting-clause-stands g c = λ bytes cuts written opening exchanges s.
+    let after = (rw c.in-Ok-Waiting.field-0-is at c.in-Ok-Waiting.ensures.finds) bytes cuts s.taken s.stands in
+    let F = g.I.Framing.framing in
+    subst (λ (held : List ℕ). (x : Stands F g.V.Answerer.answering bytes cuts held opening c.args.service.now written [] exchanges) × F.IsAll bytes cuts held x.taken) (sym c.advance.ensures)
+    (kept F g.V.Answerer.answering bytes cuts (g.I.Framing.held c.args.intake.now) (drop c.in-Ok-Waiting.dropped (g.I.Framing.held c.args.intake.now)) opening c.args.service.now written [] exchanges s after.0, after.1)
+
+pub returns-in-Ok-Message-clause-stands : goal.returns-in-Ok-Message-clause-stands
+returns-in-Ok-Message-clause-stands g c = λ bytes cuts written opening exchanges s.
+    let after = (rw c.in-Ok-Message.field-0-is at c.in-Ok-Message.ensures.finds) bytes cuts s.taken s.stands in
+    let F = g.I.Framing.framing in
+    rw c.next_after.ensures (takes_on F g.V.Answerer.answering bytes cuts (g.I.Framing.held c.args.intake.now) opening c.args.service.now written exchanges s g.I.Framing.told
+    (g.I.Framing.header_of c.in-Ok-Message.header, c.in-Ok-Message.pdu.now) (g.I.Framing.held c.advance-in-Ok-Message.new.self) c.answer-answer.new.service c.answer-answer.new.reply.items
+    (subst (λ (held : List ℕ). F.StandsFor bytes cuts held (s.taken ++ (g.I.Framing.header_of c.in-Ok-Message.header, c.in-Ok-Message.pdu.now) ∷ [])) (sym c.advance-in-Ok-Message.ensures) after.0) after.1 c.answer-answer.result c.answer-answer.ensures)

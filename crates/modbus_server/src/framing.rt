@@ -1,0 +1,132 @@
+//! What a connection needs of its framing: which messages stand in the bytes that it was fed, and how answers are framed.
+//!
+//! RTU frames and Modbus TCP are framings; another crate can add its own.
+ghost use Rattle.std.specs.Prelude.{◌≡◌, ◌↔◌, ℕ, ◌<◌, ◌≤◌, ◌++◌, ◌∷◌, List, [], length, drop, IsTrue, IfOk, OnOk};
+ghost use Rattle.std.specs.Result.{ForErr};
+ghost use Rattle.modbus_frame.specs.Codes.{function_number};
+ghost use Rattle.modbus_pdu.specs.Coding.{Encodes};
+ghost use Rattle.modbus_pdu.specs.ResponsePdu.{response_result_pdu};
+ghost use Rattle.modbus_server.specs.declared.error.ProcessError.{ProcessError};
+ghost use Rattle.modbus_server.specs.Framing.{Framing as Frames, Message, IsOfFraming};
+ghost use Rattle.modbus_server.specs.Taking.{Finds, IsWithin};
+
+use crate::error::ProcessError;
+use bytes::BytesMut;
+use modbus_frame::{EncodeError, ExceptionResponse, Response, SlaveId};
+use std::alloc::{AllocError, Global};
+
+/// The most bytes that one read has room for.
+pub const MAX_ROOM: usize = 268;
+
+/// What stands at the front of the bytes that are held.
+#[derive(Debug, PartialEq, Eq)]
+pub enum Front<'a, H> {
+    /// A message: what stands beside its PDU, the PDU where it lies, and how many bytes are taken off with it.
+    Message {
+        header: H,
+        pdu: &'a [u8],
+        end: usize,
+    },
+    /// No whole message. So many bytes are of no use, and those behind them wait for more.
+    Waiting {
+        dropped: usize,
+    },
+}
+
+/// The bytes of a connection that were fed and not used yet, and how messages stand in them.
+pub trait Framing: Drop {
+    /// What stands beside the PDU of a message, as the slave address of an RTU frame.
+    type Header: Copy;
+
+    /// Why the bytes hold no further message.
+    type Fault: Drop;
+
+    ghost framing: { Frames };
+
+    ghost header_of: { Self.Header → framing.Header };
+
+    ghost told: { Self.Fault → ProcessError };
+
+    ghost held: { Self → List ℕ };
+
+    ghost free: { Self → ℕ };
+
+    /// How a server tells a fault: as one of the three causes that are left to framings.
+    fn tell(fault: Self::Fault) -> ProcessError
+        ensures told { result ≡ told fault }
+        ensures own { IsOfFraming result };
+
+    /// Whom a message is for.
+    fn slave(header: Self::Header) -> SlaveId
+        ensures { result ≡ framing.slave (header_of header) };
+
+    /// Appends the bytes of an answer to a message, under the message's own header. The function of an exception is below 0x80.
+    ///
+    /// # Errors
+    /// `TooLong` with the size of the answer's PDU in bytes, exactly where that is above 253; `NoMemory` where memory is refused. The
+    /// buffer is then as it was.
+    fn encode_answer(
+        alloc: Global,
+        header: Self::Header,
+        answer: &Result<Response, ExceptionResponse>,
+        reply: &mut BytesMut,
+    ) -> Result<(), EncodeError>
+        requires { ForErr answer.now (λ refusal. function_number refusal.function < 0x80) }
+        ensures { Encodes (framing.adu (header_of header) (response_result_pdu answer.now)) (response_result_pdu answer.now) reply.old.items result reply.new.items };
+
+    /// One that holds no byte.
+    ///
+    /// # Errors
+    /// `AllocError` where memory is refused.
+    fn open(alloc: Global) -> Result<Self, AllocError>
+        ensures held { IfOk result (λ intake. held intake ≡ []) }
+        ensures stands { framing.StandsFor [] [] [] [] };
+
+    /// Whether no byte is held.
+    fn is_empty(&self) -> bool
+        ensures { IsTrue result ↔ (held self.now ≡ []) };
+
+    /// What stands at the front of the held bytes. It takes no memory.
+    ///
+    /// # Errors
+    /// The fault that stands there.
+    fn front(&self) -> Result<Front<'_, Self::Header>, Self::Fault>
+        ensures finds { (bytes cuts : List ℕ) (taken : List (Message framing)) → framing.StandsFor bytes cuts (held self.now) taken
+            → Finds framing header_of told bytes cuts taken (held self.now) result }
+        ensures within { IsWithin framing.Waits (held self.now) result };
+
+    /// Takes so many bytes off the front.
+    fn advance(&mut self, count: usize)
+        requires { count ≤ length (held self.old) }
+        ensures { held self.new ≡ drop count (held self.old) };
+
+    /// The length in bytes of the room of the next read, which is made where the held bytes wait for more.
+    fn room(&self) -> usize
+        requires { framing.Waits (held self.now) }
+        ensures exact { result ≡ framing.room (held self.now) }
+        ensures some { 0 < result }
+        ensures within { result ≤ MAX_ROOM }
+        ensures rooms { (bytes cuts : List ℕ) (taken : List (Message framing)) → framing.StandsFor bytes cuts (held self.now) taken
+            → framing.HasRoom bytes result };
+
+    /// Makes the room of the next read.
+    ///
+    /// # Errors
+    /// `AllocError` where memory is refused; the same bytes are held.
+    fn make_room(&mut self, alloc: Global) -> Result<(), AllocError>
+        requires { framing.Waits (held self.old) }
+        ensures held { held self.new ≡ held self.old }
+        ensures room { OnOk result (framing.room (held self.old) ≤ free self.new) };
+
+    /// Appends bytes for which there is room. It takes no memory.
+    fn append(&mut self, piece: &[u8])
+        requires waits { framing.Waits (held self.old) }
+        requires fits { length piece.now ≤ framing.room (held self.old) }
+        requires free { length piece.now ≤ free self.old }
+        ensures held { held self.new ≡ held self.old ++ piece.now }
+        ensures most { length (held self.new) ≤ framing.most }
+
+        // What it stands for goes on by the piece.
+        ensures grows { (bytes cuts : List ℕ) (taken : List (Message framing)) → framing.StandsFor bytes cuts (held self.old) taken → 0 < length piece.now
+            → framing.StandsFor (bytes ++ piece.now) (cuts ++ length (bytes ++ piece.now) ∷ []) (held self.new) taken };
+}

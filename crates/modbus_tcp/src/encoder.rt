@@ -1,0 +1,83 @@
+//! ADUs, written as an MBAP header and a PDU (MODBUS Messaging on TCP/IP V1.0b, section 3.1).
+ghost use Rattle.std.specs.Prelude.{◌≡◌, ◌+◌, ◌<◌, ◌≤◌, [], ◌∷◌, ◌++◌};
+ghost use Rattle.std.specs.Result.{ForErr};
+ghost use Rattle.modbus_frame.specs.Codes.{function_number};
+ghost use Rattle.modbus_frame.specs.Meaning.{meaning};
+ghost use Rattle.modbus_pdu.specs.Coding.{Encodes};
+ghost use Rattle.modbus_pdu.specs.RequestPdu.{request_pdu};
+ghost use Rattle.modbus_pdu.specs.ResponsePdu.{response_result_pdu};
+ghost use Rattle.modbus_pdu.specs.Writing.{word};
+ghost use Rattle.modbus_tcp.specs.Unit.{unit};
+
+use crate::mbap::{HEADER, MODBUS};
+use bytes::BytesMut;
+use modbus_frame::{EncodeError, ExceptionResponse, Request, Response, tcp};
+use modbus_pdu::{
+    MAX_PDU, encode_request_pdu, encode_response_result_pdu, request_pdu_size,
+    response_result_pdu_size,
+};
+use std::alloc::Global;
+
+/// Appends the header of an ADU whose PDU has so many bytes (section 3.1.3).
+#[inline]
+fn put_header(buf: &mut BytesMut, header: tcp::Header, pdu_len: usize)
+    requires fits { pdu_len ≤ MAX_PDU }
+    requires room { 7 ≤ buf.old.spare }
+    ensures items { buf.new.items ≡ buf.old.items ++ word header.transaction_id ++ word 0 ++ word (pdu_len + 1) ++ header.unit_id ∷ [] }
+    ensures spare { buf.new.spare + 7 ≡ buf.old.spare }
+{
+    let [t0, t1] = header.transaction_id.to_be_bytes();
+    let [p0, p1] = MODBUS.to_be_bytes();
+    let [l0, l1] = ((pdu_len + 1) as u16).to_be_bytes();
+    buf.extend_reserved(&[t0, t1, p0, p1, l0, l1, header.unit_id]);
+}
+
+/// Appends the ADU of a request: the header, with its transaction and its unit identifier, and the PDU (section 3.1).
+///
+/// # Errors
+/// `TooLong` with the size of the PDU in bytes, exactly where that is above 253. `NoMemory` where memory is refused. The bytes of the
+/// buffer are then as they were.
+#[tactic(auto, unfolding(crate::specs::Unit::unit))]
+pub fn encode_request_adu(
+    alloc: Global,
+    header: tcp::Header,
+    request: &Request<'_>,
+    buf: &mut BytesMut,
+) -> Result<(), EncodeError>
+    ensures { Encodes (unit header (request_pdu (meaning request.now))) (request_pdu (meaning request.now)) buf.old.items result buf.new.items }
+{
+    let pdu_len = request_pdu_size(request)?;
+    // One growth for the whole ADU.
+    buf.reserve(HEADER + pdu_len)?;
+    put_header(buf, header, pdu_len);
+    match encode_request_pdu(alloc, buf, request) {
+        Ok(()) => Ok(()),
+        Err(_) => unreachable!(),
+    }
+}
+
+/// Appends the ADU of a response or an exception: the header, with the transaction and the unit identifier of the request, and the PDU
+/// (section 3.1). The function of an exception is below 0x80.
+///
+/// # Errors
+/// `TooLong` with the size of the PDU in bytes, exactly where that is above 253. `NoMemory` where memory is refused. The bytes of the
+/// buffer are then as they were.
+#[tactic(auto, unfolding(crate::specs::Unit::unit))]
+pub fn encode_response_adu(
+    alloc: Global,
+    header: tcp::Header,
+    answer: &Result<Response, ExceptionResponse>,
+    buf: &mut BytesMut,
+) -> Result<(), EncodeError>
+    requires { ForErr answer.now (λ refusal. function_number refusal.function < 0x80) }
+    ensures { Encodes (unit header (response_result_pdu answer.now)) (response_result_pdu answer.now) buf.old.items result buf.new.items }
+{
+    let pdu_len = response_result_pdu_size(answer)?;
+    // One growth for the whole ADU.
+    buf.reserve(HEADER + pdu_len)?;
+    put_header(buf, header, pdu_len);
+    match encode_response_result_pdu(alloc, buf, answer) {
+        Ok(()) => Ok(()),
+        Err(_) => unreachable!(),
+    }
+}

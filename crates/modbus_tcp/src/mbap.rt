@@ -1,0 +1,98 @@
+//! The MBAP header, and what stands at the front of the bytes of a stream (MODBUS Messaging on TCP/IP V1.0b, section 3.1.3).
+ghost use Rattle.std.specs.Prelude.{◌≡◌, ◌+◌, ◌<◌, ◌≤◌, ◌↔◌, All, length, drop, IfSome, IsNone};
+ghost use Rattle.modbus_pdu.specs.Laws.{IsByte};
+ghost use Rattle.modbus_tcp.specs.Decoding.{Finds, Tells};
+ghost use Rattle.modbus_tcp.specs.Stream.{BeginsWith};
+
+use crate::stream::{Front, HeaderFault};
+use modbus_frame::tcp;
+
+/// How many bytes an MBAP header has.
+pub(crate) const HEADER: usize = 7;
+
+/// How many bytes of a header stand before those that its length counts: all but the unit identifier.
+const UNCOUNTED: usize = 6;
+
+/// The number of the Modbus protocol.
+pub(crate) const MODBUS: u16 = 0;
+
+/// The fields of an MBAP header.
+#[derive(Clone, Copy)]
+struct Mbap {
+    header: tcp::Header,
+    protocol: u16,
+    length: u16,
+}
+
+impl Mbap {
+    /// How many bytes the ADU has.
+    #[inline]
+    fn adu_len(self) -> usize
+        ensures { result ≡ 6 + self.length }
+    {
+        UNCOUNTED + usize::from(self.length)
+    }
+}
+
+/// Reads the header at the front of the bytes, where it is whole.
+#[inline]
+fn read_header(bytes: &[u8]) -> Option<Mbap>
+    ensures none { IsNone result ↔ (length bytes.now < 7) }
+    ensures tells { IfSome result (Tells bytes.now) }
+    ensures bytes { All IsByte bytes.now }
+{
+    match bytes {
+        [t0, t1, p0, p1, l0, l1, unit_id, ..] => Some(Mbap {
+            header: tcp::Header {
+                transaction_id: u16::from_be_bytes([*t0, *t1]),
+                unit_id: *unit_id,
+            },
+            protocol: u16::from_be_bytes([*p0, *p1]),
+            length: u16::from_be_bytes([*l0, *l1]),
+        }),
+        _ => None,
+    }
+}
+
+/// The PDU of the ADU at the front of the bytes.
+#[inline]
+fn pdu_of(bytes: &[u8], mbap: Mbap) -> &[u8]
+    requires bytes { All IsByte bytes.now }
+    requires tells { Tells bytes.now mbap }
+    requires some { 0 < mbap.length }
+    requires whole { 6 + mbap.length ≤ length bytes.now }
+    requires ours { mbap.protocol ≡ 0 }
+    ensures { BeginsWith bytes.now (mbap.header, result.now) (drop (6 + mbap.length) bytes.now) }
+{
+    &bytes[HEADER..mbap.adu_len()]
+}
+
+/// What stands at the front of the bytes of a stream (section 3.1.3). No byte is copied. Where it waits there are fewer than
+/// `LONGEST_ADU` bytes.
+///
+/// # Errors
+/// `InvalidLength` exactly where the header tells the length 0. `InvalidProtocol` with the number, exactly where the ADU is whole and
+/// its protocol is not 0.
+#[inline]
+pub fn front(bytes: &[u8]) -> Result<Front<'_>, HeaderFault>
+    ensures finds { Finds bytes.now result }
+{
+    let Some(mbap) = read_header(bytes) else {
+        return Ok(Front::Waiting);
+    };
+    if mbap.length == 0 {
+        return Err(HeaderFault::InvalidLength);
+    }
+    let end = mbap.adu_len();
+    if bytes.len() < end {
+        return Ok(Front::Waiting);
+    }
+    if mbap.protocol != MODBUS {
+        return Err(HeaderFault::InvalidProtocol(mbap.protocol));
+    }
+    Ok(Front::Adu {
+        header: mbap.header,
+        pdu: pdu_of(bytes, mbap),
+        end,
+    })
+}

@@ -1,0 +1,22 @@
+//! Tests of the public calls of the crates below: what no contract says, values from the standard, and that what may want memory
+//! succeeds with it.
+//!
+//! They stand in a crate of their own, one module for each crate that is tested, so that a crate below is proved once.
+#![tactic(auto)]
+
+#[cfg(test)]
+mod client;
+#[cfg(test)]
+mod frame;
+#[cfg(test)]
+mod link;
+#[cfg(test)]
+mod pdu;
+#[cfg(test)]
+mod rtu;
+#[cfg(test)]
+mod server;
+#[cfg(test)]
+mod store;
+#[cfg(test)]
+mod tcp;

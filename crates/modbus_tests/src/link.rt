@@ -1,0 +1,3 @@
+//! Sources and sinks.
+mod adapters;
+mod memory;

@@ -1,0 +1,147 @@
+//! The adapters over readers and writers, which tell no content.
+use modbus_link::{Failed, ReadSource, Sink, Source, WriteSink};
+use std::io::{Error, ErrorKind, Read, Result as IoResult, Write};
+
+#[test]
+fn a_reader_is_read_to_its_end(rt: HostRuntime) {
+    let mut source = ReadSource::new(b"abc".as_slice());
+    let mut room = [0u8; 2];
+    assert_eq!(rt; source.read(&mut room), Ok(2));
+    assert_eq!(rt; room, *b"ab");
+    assert_eq!(rt; source.read(&mut room), Ok(1));
+    assert_eq!(rt; room, *b"cb");
+    assert_eq!(rt; source.read(&mut room), Ok(0));
+}
+
+#[test]
+fn a_writer_takes_what_fits_and_then_fails(rt: HostRuntime) {
+    let mut buffer = [0u8; 3];
+    {
+        let mut sink = WriteSink::new(buffer.as_mut_slice());
+        assert_eq!(rt; sink.write(b"ab"), Ok(2));
+        assert_eq!(rt; sink.write(b"cd"), Ok(1));
+        assert_eq!(rt; sink.write(b"d"), Err(Failed));
+    }
+    assert_eq!(rt; buffer, *b"abc");
+}
+
+/// What a reader or a writer does at one call.
+#[derive(Clone, Copy)]
+enum Turn {
+    /// It takes this byte from its input, or takes this many bytes.
+    Moves(u8),
+    /// It fails.
+    Fails,
+    /// A signal interrupts it.
+    Stops,
+}
+
+/// Takes the first turn off the list.
+fn take_turn(turns: &mut &[Turn]) -> Option<Turn> {
+    let (first, rest) = turns.split_first()?;
+    *turns = rest;
+    Some(*first)
+}
+
+/// The error of a turn.
+fn error_of(turn: Turn) -> Error {
+    Error::from(match turn {
+        Turn::Stops => ErrorKind::Interrupted,
+        _ => ErrorKind::TimedOut,
+    })
+}
+
+/// A reader with these turns, and then the end of its input.
+#[derive(Drop)]
+struct Reader<'a> {
+    turns: &'a [Turn],
+}
+
+impl Read for Reader<'_> {
+    fn read(&mut self, buf: &mut [u8]) -> IoResult<usize> {
+        match (take_turn(&mut self.turns), buf) {
+            (Some(Turn::Moves(byte)), [first, ..]) => {
+                *first = byte;
+                Ok(1)
+            }
+            (None, _) | (Some(Turn::Moves(_)), _) => Ok(0),
+            (Some(turn), _) => Err(error_of(turn)),
+        }
+    }
+}
+
+#[test]
+fn a_read_that_fails_is_no_end_of_input(rt: HostRuntime) {
+    let turns = [
+        Turn::Stops,
+        Turn::Moves(7),
+        Turn::Fails,
+        Turn::Stops,
+        Turn::Stops,
+        Turn::Moves(8),
+        Turn::Fails,
+        Turn::Fails,
+    ];
+    let mut source = ReadSource::new(Reader { turns: &turns });
+    let mut room = [0u8; 2];
+    for (result, first) in [
+        (Ok(1), 7),
+        (Err(Failed), 7),
+        (Ok(1), 8),
+        (Err(Failed), 8),
+        (Err(Failed), 8),
+        (Ok(0), 8),
+    ] {
+        assert_eq!(rt; source.read(&mut room), result);
+        assert_eq!(rt; room[0], first);
+    }
+}
+
+/// A writer with these turns at its writes and flushes, and then one that takes all; it counts its flushes.
+#[derive(Drop)]
+struct Writer<'a> {
+    writes: &'a [Turn],
+    flushes: &'a [Turn],
+    flushed: u32,
+}
+
+impl Write for Writer<'_> {
+    fn write(&mut self, buf: &[u8]) -> IoResult<usize> {
+        match take_turn(&mut self.writes) {
+            Some(Turn::Moves(count)) => Ok(buf.len().min(usize::from(count))),
+            None => Ok(buf.len()),
+            Some(turn) => Err(error_of(turn)),
+        }
+    }
+
+    fn flush(&mut self) -> IoResult<()> {
+        self.flushed = self.flushed.saturating_add(1);
+        match take_turn(&mut self.flushes) {
+            Some(Turn::Moves(_)) | None => Ok(()),
+            Some(turn) => Err(error_of(turn)),
+        }
+    }
+}
+
+#[test]
+fn each_write_is_flushed_and_each_failure_is_one(rt: HostRuntime) {
+    let cases: [(&[Turn], &[Turn], Result<usize, Failed>, u32); 8] = [
+        (&[], &[], Ok(3), 1),
+        (&[Turn::Moves(2)], &[], Ok(2), 1),
+        (&[Turn::Moves(0)], &[], Err(Failed), 1),
+        (&[Turn::Fails], &[], Err(Failed), 1),
+        (&[], &[Turn::Fails], Err(Failed), 1),
+        (&[Turn::Fails], &[Turn::Fails], Err(Failed), 1),
+        (&[Turn::Stops, Turn::Stops, Turn::Moves(1)], &[], Ok(1), 1),
+        (&[Turn::Moves(2)], &[Turn::Stops, Turn::Stops], Ok(2), 3),
+    ];
+    for (writes, flushes, result, flushed) in cases {
+        let mut writer = Writer {
+            writes,
+            flushes,
+            flushed: 0,
+        };
+        assert_eq!(rt; WriteSink::new(&mut writer).write(b"abc"), result);
+        assert_eq!(rt; writer.flushed, flushed);
+    }
+}

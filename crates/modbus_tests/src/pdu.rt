@@ -1,0 +1,3 @@
+//! Requests and responses as bytes.
+mod requests;
+mod responses;
