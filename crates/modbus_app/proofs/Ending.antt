@@ -37,12 +37,16 @@ module _ (form : Form) (opened now : Tables) (start : opened ≡ opening form) (
   answers ran told told' =
       let ended : to.left ≡ [] = ran.ended told in
       let read : from.left ≡ ran.fed = sym (bytes_read-all from to (ran.passes.source.content told) ended) ∙ ran.passes.read told in
-      let F : Framing = messages_of form.framing in
-      ((now,
+      let F : Framing = messages_of form.framing in (
+        (
+          now,
           subst (λ t. EndsAs F device from.left (totals (cuts_made from to)) t now (bytes_appended sunk sinks) (Ok tt)) start
-          (subst (λ b. EndsAs F device b (totals (cuts_made from to)) opened now (bytes_appended sunk sinks) (Ok tt)) (sym read)
-          (subst (λ m. EndsAs F device ran.fed (totals m) opened now (bytes_appended sunk sinks) (Ok tt)) (sym (ran.passes.cuts told))
-          (subst (λ w. EndsAs F device ran.fed (totals ran.made) opened now w (Ok tt)) (sym (ran.passes.wrote told')) ran.served)))), ended)
+              (subst (λ b. EndsAs F device b (totals (cuts_made from to)) opened now (bytes_appended sunk sinks) (Ok tt)) (sym read)
+              (subst (λ m. EndsAs F device ran.fed (totals m) opened now (bytes_appended sunk sinks) (Ok tt)) (sym (ran.passes.cuts told))
+              (subst (λ w. EndsAs F device ran.fed (totals ran.made) opened now w (Ok tt)) (sym (ran.passes.wrote told')) ran.served))),
+        ),
+        ended,
+      )
 
 -- no device, for want of memory
 pub unserved : (form : Form) (from : Input) (sunk said told : Output) → Reports said told (line_of NoMemory) → Ends form from from sunk sunk said told 11
