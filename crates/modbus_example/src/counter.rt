@@ -1,4 +1,5 @@
 //! An answerer that is no `Service`: it has counted a request, and then wants memory.
+ghost use Rattle.std.specs.Prelude.{◌≡◌};
 ghost use Rattle.modbus_example.specs.Counter.{counting};
 
 use modbus_frame::{ExceptionCode, Response, SlaveRequest};
@@ -16,7 +17,9 @@ pub struct Counter {
 
 impl Counter {
     /// One that was asked nothing.
-    pub fn new(alloc: Global) -> Counter {
+    pub fn new(alloc: Global) -> Counter
+        ensures { result.asked ≡ 0 }
+    {
         Counter {
             asked: 0,
             notes: Vec::new(alloc),
