@@ -6,17 +6,21 @@
 #![tactic(auto)]
 
 mod both;
+mod connector;
 mod link;
 mod memory;
 mod memory_link;
 mod outside;
 mod real;
+mod stop;
 mod write;
 
 pub use both::Both;
+pub use connector::Connector;
 pub use link::Link;
 pub use memory::{MemorySink, MemorySource};
 pub use memory_link::MemoryLink;
 pub use outside::{Ends, Failed, Sink, Source};
 pub use real::{ReadSource, WriteSink};
+pub use stop::Stop;
 pub use write::write_all;
