@@ -7,3 +7,4 @@ pub mod Together
 pub mod Cuts
 pub mod Memory
 pub mod Line
+pub mod Stops

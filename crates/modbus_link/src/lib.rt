@@ -22,5 +22,5 @@ pub use memory::{MemorySink, MemorySource};
 pub use memory_link::MemoryLink;
 pub use outside::{Ends, Failed, Sink, Source};
 pub use real::{ReadSource, WriteSink};
-pub use stop::Stop;
+pub use stop::{FlagStop, MemoryStop, Stop};
 pub use write::write_all;
