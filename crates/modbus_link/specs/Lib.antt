@@ -8,3 +8,4 @@ pub mod Cuts
 pub mod Memory
 pub mod Line
 pub mod Stops
+pub mod Connects

@@ -39,10 +39,10 @@ source_input source = memory_input source.bytes source.rooms source.given source
 abbrev pub counted : ℕ → ℕ
 counted calls = min (calls + 1) (2 ^ 64 - 1)
 
--- a call that succeeds leaves the count of faults as it was, and one that fails raises it by one
-abbrev pub CountsFault : {E : Type 0} → Result ℕ E → ℕ → ℕ → Type 0
-CountsFault (Ok n) old new = new ≡ old
-CountsFault (Err e) old new = new ≡ counted old
+-- the count of faults after a call with this result: one that fails raises it by one
+abbrev pub faults_after : {T E : Type 0} → Result T E → ℕ → ℕ
+faults_after (Ok _) faults = faults
+faults_after (Err _) faults = counted faults
 
 -- the next call is one that fails
 abbrev pub FailsNow : List ℕ → ℕ → Type 0

@@ -16,7 +16,7 @@ mod stop;
 mod write;
 
 pub use both::Both;
-pub use connector::Connector;
+pub use connector::{Connector, MemoryConnector};
 pub use link::Link;
 pub use memory::{MemorySink, MemorySource};
 pub use memory_link::MemoryLink;

@@ -2,7 +2,7 @@
 ghost use Rattle.std.specs.Prelude.{[], ◌≡◌, ◌↔◌, ℕ, ◌+◌, ◌<◌, ◌≤◌, length, All, Contains, IsTrue, IfOk, OnErr, IsErr, vec_len, vec_capacity, slice_index};
 ghost use Rattle.std.specs.Io.{ReadsAtMost, WritesAtMost};
 ghost use Rattle.modbus_link.specs.Outside.{Rose, Advances, Extends, bytes_appended, ReadIsTold, front_of, untold_input, untold_output};
-ghost use Rattle.modbus_link.specs.Memory.{SourceState, SinkState, source_input, sink_output, source_at_start, sink_at_start, FailsNow, GivesMost, KeepsSource, CountsFault, FailsToTake, taken_of, KeepsSink};
+ghost use Rattle.modbus_link.specs.Memory.{SourceState, SinkState, source_input, sink_output, source_at_start, sink_at_start, FailsNow, GivesMost, KeepsSource, faults_after, FailsToTake, taken_of, KeepsSink};
 
 use crate::outside::{Ends, Failed, Sink, Source};
 use std::alloc::{AllocError, Global};
@@ -105,7 +105,7 @@ impl Source for MemorySource {
         ensures fails { IsErr result ↔ FailsNow self.old.fails self.old.calls }
         ensures most { IfOk result (GivesMost self.old (length room.old)) }
         ensures keeps { KeepsSource self.old self.new }
-        ensures counts { CountsFault result self.old.faults self.new.faults }
+        ensures counts { self.new.faults ≡ faults_after result self.old.faults }
     {
         let call = self.calls;
         self.calls = call.saturating_add(1);
@@ -206,7 +206,7 @@ impl Sink for MemorySink {
         ensures fails { IsErr result ↔ FailsToTake self.old (length piece.now) }
         ensures takes { IfOk result (λ count. count ≡ taken_of self.old (length piece.now)) }
         ensures keeps { KeepsSink self.old self.new }
-        ensures counts { CountsFault result self.old.faults self.new.faults }
+        ensures counts { self.new.faults ≡ faults_after result self.old.faults }
     {
         let call = self.calls;
         self.calls = call.saturating_add(1);

@@ -2,7 +2,7 @@
 ghost use Rattle.std.specs.Prelude.{◌≡◌, ◌↔◌, ◌<◌, length, IsTrue, IfOk, IsErr, OnOk, OnErr};
 ghost use Rattle.std.specs.Io.{ReadsAtMost, WritesAtMost};
 ghost use Rattle.modbus_link.specs.Outside.{Rose, Advances, Extends, bytes_appended, ReadIsTold, front_of};
-ghost use Rattle.modbus_link.specs.Memory.{source_input, sink_output, FailsNow, GivesMost, KeepsSource, CountsFault, FailsToTake, taken_of, KeepsSink};
+ghost use Rattle.modbus_link.specs.Memory.{source_input, sink_output, FailsNow, GivesMost, KeepsSource, faults_after, FailsToTake, taken_of, KeepsSink};
 ghost use Rattle.modbus_link.specs.Line.{line_at_start, shut};
 
 use crate::link::Link;
@@ -90,7 +90,7 @@ impl Source for MemoryLink {
         ensures fails { IsErr result ↔ FailsNow self.old.source.fails self.old.source.calls }
         ensures most { IfOk result (GivesMost self.old.source (length room.old)) }
         ensures keeps { KeepsSource self.old.source self.new.source }
-        ensures counts { CountsFault result self.old.source.faults self.new.source.faults }
+        ensures counts { self.new.source.faults ≡ faults_after result self.old.source.faults }
         ensures others { self.new ≡ record self.old { source = self.new.source } }
     {
         self.source.read(room)
@@ -109,7 +109,7 @@ impl Sink for MemoryLink {
         ensures fails { IsErr result ↔ FailsToTake self.old.sink (length piece.now) }
         ensures takes { IfOk result (λ count. count ≡ taken_of self.old.sink (length piece.now)) }
         ensures keeps { KeepsSink self.old.sink self.new.sink }
-        ensures counts { CountsFault result self.old.sink.faults self.new.sink.faults }
+        ensures counts { self.new.sink.faults ≡ faults_after result self.old.sink.faults }
         ensures others { self.new ≡ record self.old { sink = self.new.sink } }
     {
         self.sink.write(piece)
