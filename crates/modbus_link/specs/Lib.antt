@@ -9,3 +9,4 @@ pub mod Memory
 pub mod Line
 pub mod Stops
 pub mod Connects
+pub mod Tcp

@@ -13,6 +13,7 @@ mod memory_link;
 mod outside;
 mod real;
 mod stop;
+mod tcp;
 mod write;
 
 pub use both::Both;
@@ -23,4 +24,5 @@ pub use memory_link::MemoryLink;
 pub use outside::{Ends, Failed, Sink, Source};
 pub use real::{ReadSource, WriteSink};
 pub use stop::{FlagStop, MemoryStop, Stop};
+pub use tcp::{TcpConnector, TcpLink};
 pub use write::write_all;

@@ -127,7 +127,7 @@ impl Link for MemoryLink {
         ensures sink { sink_output self.new.sink ≡ sink_output self.old.sink }
 
         ensures fails { IsErr result ↔ IsTrue self.old.shutdown_fails }
-        ensures shut { self.new ≡ record self.old { line = shut self.old.shutdown_fails self.old.line } }
+        ensures shut { self.new ≡ record self.old { line = shut result self.old.line } }
     {
         if self.shutdown_fails {
             self.faults = self.faults.saturating_add(1);
