@@ -1,5 +1,5 @@
 -- What the objects in memory keep, and what they mean as a source and a sink.
-use Rattle.std.specs.Prelude.{◌-◌, ◌^◌, ◌<◌, ◌≤◌, ◌+◌, ◌≡◌, ◌⊎◌, min, All, Contains, ℕ, true, List, [], length, replicate, ◌==◌, if◌then◌else◌, Result, Ok, Err}
+use Rattle.std.specs.Prelude.{◌-◌, ◌^◌, ◌<◌, ◌≤◌, ◌+◌, ◌≡◌, ◌↔◌, ◌⊎◌, min, All, Contains, ℕ, true, List, [], length, replicate, ◌==◌, if◌then◌else◌, Result, Ok, Err, IsErr, IfOk}
 use Rattle.modbus_link.specs.Outside.{Input, Output}
 use Rattle.modbus_link.specs.Cuts.{memory_input}
 
@@ -60,6 +60,13 @@ pub record KeepsSource (old new : SourceState) : Type 0 where
   pub fails : new.fails ≡ old.fails
   pub calls : new.calls ≡ counted old.calls
 
+-- what one read of a source in memory does, beside what a read of any source does
+pub record MemoryReads {E : Type 0} (old new : SourceState) (room : ℕ) (result : Result ℕ E) : Type 0 where
+  pub fails : IsErr result ↔ FailsNow old.fails old.calls
+  pub most : IfOk result (GivesMost old room)
+  pub keeps : KeepsSource old new
+  pub counts : new.faults ≡ faults_after result old.faults
+
 -- a sink in memory
 pub record SinkState : Type 0 where
   -- what was appended
@@ -108,3 +115,10 @@ pub record KeepsSink (old new : SinkState) : Type 0 where
   pub most : new.most ≡ old.most
   pub fails : new.fails ≡ old.fails
   pub calls : new.calls ≡ counted old.calls
+
+-- what one write of a sink in memory does, beside what a write of any sink does
+pub record MemoryWrites {E : Type 0} (old new : SinkState) (size : ℕ) (result : Result ℕ E) : Type 0 where
+  pub fails : IsErr result ↔ FailsToTake old size
+  pub takes : IfOk result (λ count. count ≡ taken_of old size)
+  pub keeps : KeepsSink old new
+  pub counts : new.faults ≡ faults_after result old.faults
