@@ -20,11 +20,7 @@ pub trait Connector {
     ///
     /// # Errors
     /// `Failed`, only where the connector's count of faults rose.
-    fn connect(
-        &mut self,
-        addr: SocketAddr,
-        timeout: Option<Duration>,
-    ) -> Result<Self::Link, Failed>
+    fn connect(&mut self, addr: SocketAddr, timeout: Option<Duration>) -> Result<Self::Link, Failed>
         ensures later { faults self.old ≤ faults self.new }
         ensures cause { OnErr result (Rose (faults self.old) (faults self.new)) };
 }
