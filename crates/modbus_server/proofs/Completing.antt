@@ -95,5 +95,5 @@ pub completes_until : (F : Framing) {S X : Type 0} (A : Answering S) (stops : X 
     → ((read rest : List ℕ) (clean : IsCleanLine F (read ++ rest)) (cuts : List ℕ) → GoesOn F read rest cuts clean.messages)
     → RanUntil F A stops looks opening now from to sunk sinks turns start end result → Completes F A opening from to sunk sinks turns (to_the_end result)
 completes_until F A stops looks opening now from to sunk sinks turns start end (Ok Aborted) on stopped = λ told clean fit few no_read no_write. inl refl
-completes_until F A stops looks opening now from to sunk sinks turns start end (Ok Finished) on until = completes F A opening now from to sunk sinks turns (Ok tt) on until.0
-completes_until F A stops looks opening now from to sunk sinks turns start end (Err error) on until = completes F A opening now from to sunk sinks turns (Err error) on until.0
+completes_until F A stops looks opening now from to sunk sinks turns start end (Ok Finished) on until = completes F A opening now from to sunk sinks turns (Ok tt) on until.ran
+completes_until F A stops looks opening now from to sunk sinks turns start end (Err error) on until = completes F A opening now from to sunk sinks turns (Err error) on until.ran

@@ -16,8 +16,8 @@ use Rattle.modbus_server.specs.Exchanges.{Exchange}
 use Rattle.modbus_server.specs.Serving.{Stands, Served, remaining}
 use Rattle.modbus_server.specs.State.{State}
 use Rattle.modbus_server.specs.Moving.{EndsInput}
-use Rattle.modbus_server.specs.Stepping.{StepsAs, EndsIfMay, Stepped, EndsRead, spending_of}
-use Rattle.modbus_server.specs.Stopping.{StaysUnset, RanUntil}
+use Rattle.modbus_server.specs.Stepping.{StepsAs, EndsIfMay, Stepped, Ran, EndsRead, spending_of}
+use Rattle.modbus_server.specs.Stopping.{StaysUnset, LooksEach, RanUntil}
 use Rattle.modbus_server.proofs.Standing.{opened, halted, wanting}
 
 -- over lists
@@ -187,9 +187,14 @@ module _ (F : Framing) {S X : Type 0} (A : Answering S) (stops : X → ℕ) (loo
       ended_as BytesRemaining left e = e
       ended_as _ left e = tt
 
+      looks_each : {a c : Input} {k m : Output} {now : S} (error : ProcessError) (ran : Ran F A start now a c k m turns (Err error)) (count : ℕ) → length ran.made < count
+          → LooksEach F A start now a c k m turns (Err error) ran count
+      looks_each NoMemory ran count less = omega (arith, less)
+      looks_each _ ran count less = less
+
       pub ran_error : (error : ProcessError) → Stepped F A old new now next b c l m may_read (Err error) → RanUntil F A stops looks start next a c k m turns first seen (Err error)
-      ran_error error step = (
-        record {
+      ran_error error step = record {
+        ran = record {
           fed = g.fed ++ step.fed;
           made = g.made ++ shifted (length g.fed) step.made;
           sent = g.sent ++ step.sent;
@@ -206,15 +211,15 @@ module _ (F : Framing) {S X : Type 0} (A : Answering S) (stops : X → ℕ) (loo
               let same : error ≡ WriteFault = cc in
               let rose = step.write_fault (ap (λ (x : ProcessError). Err x) same) in
               let before = g.passes.sink.later in omega (arith, rose, before);
-        },
-        length g.made + length g.exchanges + 1,
-        omega (arith, all_made (Err error) step, ap length step.leaves.0),
-        all_looked _ refl,
-      )
+        };
+        count = length g.made + length g.exchanges + 1;
+        each = looks_each error _ _ (omega (arith, all_made (Err error) step, ap length step.leaves.0));
+        looked = all_looked _ refl;
+      }
 
       pub ran_hungry : Stepped F A old new now next b c l m may_read (Ok Hungry) → RanUntil F A stops looks start next a c k m turns first seen (Err TurnLimit)
-      ran_hungry step = let h = all_steps (Ok Hungry) step in (
-        record {
+      ran_hungry step = let h = all_steps (Ok Hungry) step in record {
+        ran = record {
           fed = g.fed ++ step.fed;
           made = g.made ++ shifted (length g.fed) step.made;
           sent = g.sent ++ step.sent;
@@ -225,18 +230,18 @@ module _ (F : Framing) {S X : Type 0} (A : Answering S) (stops : X → ℕ) (loo
           ended = λ told. tt;
           read_fault = λ e. absurd cc;
           write_fault = λ e. absurd cc;
-        },
-        length g.made + length g.exchanges + 1,
-        omega (arith, all_made (Ok Hungry) step, ap length step.leaves.0),
-        all_looked _ refl,
-      )
+        };
+        count = length g.made + length g.exchanges + 1;
+        each = omega (arith, all_made (Ok Hungry) step, ap length step.leaves.0);
+        looked = all_looked _ refl;
+      }
 
       pub ran_ended : Stepped F A old new now next b c l m may_read (Ok Ended) → RanUntil F A stops looks start next a c k m turns first seen (Ok Finished)
       ran_ended step =
           let h = all_steps (Ok Ended) step in
           let used : (served : Served F A (g.fed ++ step.fed) (totals (g.made ++ shifted (length g.fed) step.made)) start next (g.sent ++ step.sent) (remaining [])) × (served.exchanges ≡ g.exchanges) =
-          subst (λ held. (served : Served F A (g.fed ++ step.fed) (totals (g.made ++ shifted (length g.fed) step.made)) start next (g.sent ++ step.sent) (remaining held)) × (served.exchanges ≡ g.exchanges)) h.2 (used_up step.leaves.2 h.0 h.1) in (
-            record {
+          subst (λ held. (served : Served F A (g.fed ++ step.fed) (totals (g.made ++ shifted (length g.fed) step.made)) start next (g.sent ++ step.sent) (remaining held)) × (served.exchanges ≡ g.exchanges)) h.2 (used_up step.leaves.2 h.0 h.1) in record {
+            ran = record {
               fed = g.fed ++ step.fed;
               made = g.made ++ shifted (length g.fed) step.made;
               sent = g.sent ++ step.sent;
@@ -247,14 +252,16 @@ module _ (F : Framing) {S X : Type 0} (A : Answering S) (stops : X → ℕ) (loo
               ended = λ told. step.ended (g.passes.source.told ∙ told);
               read_fault = λ e. absurd cc;
               write_fault = λ e. absurd cc;
-            },
-            all_looked _ (omega (arith, all_made (Ok Ended) step, ap length step.leaves.0, ap length used.1)),
-          )
+            };
+            count = length g.made + length g.exchanges + 1;
+            each = omega (arith, all_made (Ok Ended) step, ap length step.leaves.0, ap length used.1);
+            looked = all_looked _ refl;
+          }
 
   -- no connection was opened for want of memory
   pub ran_none : (start : S) (a : Input) (k : Output) (turns : ℕ) (signal : X) → F.StandsFor [] [] [] [] → RanUntil F A stops looks start start a a k k turns signal signal (Err NoMemory)
-  ran_none start a k turns signal stands = (
-    record {
+  ran_none start a k turns signal stands = record {
+    ran = record {
       fed = [];
       made = [];
       sent = [];
@@ -265,8 +272,8 @@ module _ (F : Framing) {S X : Type 0} (A : Answering S) (stops : X → ℕ) (loo
       ended = λ told. tt;
       read_fault = λ e. absurd cc;
       write_fault = λ e. absurd cc;
-    },
-    0,
-    omega arith,
-    refl,
-  )
+    };
+    count = 0;
+    each = omega arith;
+    looked = refl;
+  }
