@@ -1,5 +1,5 @@
 //! Signals to stop.
-ghost use Rattle.std.specs.Prelude.{◌≡◌, ◌↔◌, ℕ, ◌≤◌, IsTrue, IfOk};
+ghost use Rattle.std.specs.Prelude.{◌≡◌, ◌↔◌, ℕ, ◌≤◌, Bool, IsTrue, IfOk};
 ghost use Rattle.modbus_link.specs.Outside.{Rose};
 ghost use Rattle.modbus_link.specs.Stops.{stop_at_start, looked_at, stops_after};
 
@@ -13,14 +13,20 @@ pub trait Stop {
     // how often it said that it is set
     ghost stops: { Self → ℕ };
 
+    // what a look may lead to: the answer, and the signal after it
+    ghost looks: { Self → Bool → Self → Type 0 } = { λ old answer new. Unit {0} };
+
     /// Whether to stop: true only where the signal's count of stops rose in this call.
     fn is_set(&mut self) -> bool
         ensures later { stops self.old ≤ stops self.new }
-        ensures cause { IsTrue result → Rose (stops self.old) (stops self.new) };
+        ensures cause { IsTrue result → Rose (stops self.old) (stops self.new) }
+        ensures looks { looks self.old result self.new };
 }
 
 impl<T: Stop> Stop for &mut T {
     ghost stops = { λ it. T.stops it.now };
+
+    ghost looks = { λ old answer new. T.looks old.now answer new.now };
 
     fn is_set(&mut self) -> bool {
         (**self).is_set()
@@ -57,13 +63,10 @@ impl MemoryStop {
 impl Stop for MemoryStop {
     ghost stops = { λ stop. stop.stops };
 
-    /// Whether it was looked at as often before as it was made with; each answer `true` is counted.
-    fn is_set(&mut self) -> bool
-        ensures later { self.old.stops ≤ self.new.stops }
+    ghost looks = { λ old answer new. (IsTrue answer ↔ (old.left ≡ 0)) × (new ≡ looked_at old) };
 
-        ensures set { IsTrue result ↔ (self.old.left ≡ 0) }
-        ensures looked { self.new ≡ looked_at self.old }
-    {
+    /// Whether it was looked at as often before as it was made with; each answer `true` is counted.
+    fn is_set(&mut self) -> bool {
         if self.left > 0 {
             self.left -= 1;
             return false;
@@ -125,12 +128,10 @@ impl FlagStop {
 impl Stop for FlagStop {
     ghost stops = { λ stop. stop };
 
-    /// Whether the flag was raised; each answer `true` is counted in this share.
-    fn is_set(&mut self) -> bool
-        ensures later { self.old ≤ self.new }
+    ghost looks = { λ old answer new. new ≡ stops_after answer old };
 
-        ensures counts { self.new ≡ stops_after result self.old }
-    {
+    /// Whether the flag was raised; each answer `true` is counted in this share.
+    fn is_set(&mut self) -> bool {
         let is_raised = self.flag.load(Ordering::Acquire);
         if is_raised {
             self.stops = self.stops.saturating_add(1);

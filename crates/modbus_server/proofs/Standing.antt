@@ -86,7 +86,7 @@ module _ (F : Framing) where
     -- where nothing waits
     module _ (bytes cuts held : List ℕ) (opening now : S) (written : List ℕ) (exchanges : List (Exchange F))
         (s : Stands F A bytes cuts held opening now written [] exchanges) where
-      all_written : written ≡ output F exchanges
+      pub all_written : written ≡ output F exchanges
       all_written = sym (append-nil written) ∙ s.wrote
 
       -- one more message is answered, and its reply waits
@@ -104,7 +104,7 @@ module _ (F : Framing) where
       }
 
       -- all messages that were taken are those before the place where it stops
-      pub halted : (halt : Halt) (next : S) → Halts F A bytes cuts s.taken now next halt → Served F A bytes cuts opening next written halt
+      unfoldable pub halted : (halt : Halt) (next : S) → Halts F A bytes cuts s.taken now next halt → Served F A bytes cuts opening next written halt
       halted halt next halts = record {
         before = s.taken;
         exchanges = exchanges;

@@ -6,6 +6,7 @@ pub mod Serving
 pub mod Taking
 pub mod Moving
 pub mod Stepping
+pub mod Stopping
 pub mod Complete
 pub mod First
 pub mod Tcp

@@ -15,5 +15,6 @@ pub mod tcp;
 pub use crate::connection::Connection;
 pub use crate::error::{AnswerError, Next, NextError, ProcessError, Step};
 pub use crate::framing::{Framing, Front, MAX_ROOM};
-pub use crate::serving::{serve, serve_link};
+pub use crate::serving::{serve, serve_link, serve_until};
+pub use modbus_frame::Terminated;
 pub use modbus_service::{Answerer, Forward, Service, ServiceError};
