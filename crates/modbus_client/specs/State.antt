@@ -26,6 +26,6 @@ abbrev pub attached : {L : Type 0} → L → ℕ → State L
 attached link slave = record { link = link; is_connected = true; slave = slave; turns = TURNS; timeout = None; held = [] }
 
 -- a TCP client also keeps the transaction that comes next
-pub record UnitState (L : Type 0) : Type 0 where
+pub record TcpState (L : Type 0) : Type 0 where
   pub client : State L
   pub next : ℕ

@@ -9,6 +9,6 @@ pub mod Stepping
 pub mod Complete
 pub mod First
 pub mod Tcp
-pub mod FirstUnit
+pub mod FirstAdu
 pub mod Rtu
 pub mod FirstFault
