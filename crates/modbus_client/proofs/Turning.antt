@@ -77,20 +77,28 @@ none_left [] ys e = e
 none_left (x ∷ xs) ys e = cc
 
 module _ {H : Type 0} (P : Protocol H) (a b : Input) (k m : Output) (old new : CallState) where
-  -- memory was refused before the read
-  pub turned_none : (n : ℕ) → b ≡ a → m ≡ k → new ≡ record old { free = n } → Turned P a b k m old new (Some (Err NoMemory))
-  turned_none n same same' e = record {
+  -- nothing was fed, and the call ended so
+  turned_so : (answer : Answer) (n : ℕ) → new ≡ record old { free = n } → Passes a b k m [] [] [] → TurnSpends (Some answer) 0
+      → ((written bytes cuts : List ℕ) → Stands P written bytes cuts old → EndsAs P new.asked new.function (bytes ++ []) (cuts ++ []) new.held answer)
+      → (IsTrue a.told → TurnEnds (Some answer) b.left) → (answer ≡ Err (Transport transport.ReadFault) → Rose a.faults b.faults) → Turned P a b k m old new (Some answer)
+  turned_so answer n e passes spends ends ended fault = record {
     fed = [];
     made = [];
-    passes = subst (λ i. Passes a i k m [] [] []) (sym same) (subst (λ o. Passes a a k o [] [] []) (sym same') (passes_none a k));
+    passes = passes;
     once = inl (refl, refl);
-    spends = tt;
+    spends = spends;
     same = same_call old new n e;
     unwritten = ap (λ (s : CallState). s.unwritten) e;
-    stands = λ written bytes cuts s. tt;
-    ended = λ told. tt;
-    read_fault = λ bad. cc;
+    stands = ends;
+    ended = ended;
+    read_fault = λ is. fault cc;
   }
+
+  -- memory was refused before the read
+  pub turned_none : (n : ℕ) → b ≡ a → m ≡ k → new ≡ record old { free = n } → Turned P a b k m old new (Some (Err NoMemory))
+  turned_none n same same' e =
+      turned_so (Err NoMemory) n e (subst (λ i. Passes a i k m [] [] []) (sym same) (subst (λ o. Passes a a k o [] [] []) (sym same') (passes_none a k)))
+      tt (λ written bytes cuts s. tt) (λ told. tt) (λ bad. cc)
 
   module _ (n : ℕ) (e : new ≡ record old { free = n }) (same : m ≡ k) (adv : Advances a b) where
     nothing : {E : Type 0} (before after : List ℕ) (result : Result ℕ E) → (IsTrue a.told → ReadIsTold a b before after result) → (IsTrue a.told → bytes_read a b ≡ []) → (IsTrue a.told → cuts_made a b ≡ []) → Passes a b k m [] [] []
@@ -102,18 +110,8 @@ module _ {H : Type 0} (P : Protocol H) (a b : Input) (k m : Output) (old new : C
     -- the read failed
     pub turned_fault : {E : Type 0} (f : E) (before after : List ℕ) → (IsTrue a.told → ReadIsTold {E = E} a b before after (Err f)) → Rose a.faults b.faults
         → Turned P a b k m old new (Some (Err (Transport transport.ReadFault)))
-    turned_fault {E} f before after told rose = record {
-      fed = [];
-      made = [];
-      passes = nothing {E = E} before after (Err f) told (λ t. (told t).bytes) (λ t. (told t).cuts);
-      once = inl (refl, refl);
-      spends = refl;
-      same = same_call old new n e;
-      unwritten = ap (λ (s : CallState). s.unwritten) e;
-      stands = waits;
-      ended = λ t. tt;
-      read_fault = λ is. rose;
-    }
+    turned_fault {E} f before after told rose =
+        turned_so (Err (Transport transport.ReadFault)) n e (nothing {E = E} before after (Err f) told (λ t. (told t).bytes) (λ t. (told t).cuts)) refl waits (λ t. tt) (λ is. rose)
 
     -- the input ended
     pub turned_end : {E : Type 0} (count : ℕ) (before after : List ℕ) (fault : TransportError) → count ≡ 0 → (IsTrue a.told → ReadIsTold {E = E} a b before after (Ok count)) → TellsEnd new.held fault
@@ -133,30 +131,10 @@ module _ {H : Type 0} (P : Protocol H) (a b : Input) (k m : Output) (old new : C
         passes = nothing {E = E} before after (Ok count) told none no_cut
 
         by_fault : (fault : TransportError) → TellsEnd new.held fault → Turned P a b k m old new (Some (Err (Transport fault)))
-        by_fault transport.BrokenPipe tells = record {
-          fed = [];
-          made = [];
-          passes = passes;
-          once = inl (refl, refl);
-          spends = refl;
-          same = same_call old new n e;
-          unwritten = ap (λ (s : CallState). s.unwritten) e;
-          stands = λ written bytes cuts s. (waits written bytes cuts s, tells);
-          ended = ended;
-          read_fault = λ is. cc;
-        }
-        by_fault transport.BytesRemaining tells = record {
-          fed = [];
-          made = [];
-          passes = passes;
-          once = inl (refl, refl);
-          spends = refl;
-          same = same_call old new n e;
-          unwritten = ap (λ (s : CallState). s.unwritten) e;
-          stands = λ written bytes cuts s. (waits written bytes cuts s, tells);
-          ended = ended;
-          read_fault = λ is. cc;
-        }
+        by_fault transport.BrokenPipe tells =
+            turned_so (Err (Transport transport.BrokenPipe)) n e passes refl (λ written bytes cuts s. (waits written bytes cuts s, tells)) ended (λ is. cc)
+        by_fault transport.BytesRemaining tells =
+            turned_so (Err (Transport transport.BytesRemaining)) n e passes refl (λ written bytes cuts s. (waits written bytes cuts s, tells)) ended (λ is. cc)
         by_fault _ tells = absurd tells
 
   -- the read gave bytes, which were fed

@@ -1,5 +1,5 @@
 -- What a connection stands for, carried over a message, over what is written of a reply, and over what is fed.
-use Rattle.std.proofs.Common.{◌≡◌, inl, inr, ℕ, List, [], ◌∷◌, ◌++◌, map, length, refl, sym, ap, ◌∙◌, subst, Result, Ok, Err, append-nil, append_assoc, arith}
+use Rattle.std.proofs.Common.{◌≡◌, ◌⊎◌, inl, inr, ℕ, List, [], ◌∷◌, ◌++◌, map, length, refl, sym, ap, ◌∙◌, subst, Result, Ok, Err, append-nil, append_assoc, arith}
 use Rattle.std.proofs.lemmas.List.{map-append}
 use Rattle.std.proofs.lemmas.List.Elements.{All-append, All-cons, All-nil}
 use Rattle.std.proofs.lemmas.Grind.{flat_map-append}
@@ -16,7 +16,7 @@ use Rattle.modbus_service.specs.Outcome.{silence}
 use Rattle.modbus_server.specs.Framing.{Framing, Message}
 use Rattle.modbus_service.specs.Answering.{Answering}
 use Rattle.modbus_server.specs.Exchanges.{Exchange, Gives, Run, Fits, reply_of, output, last_reply, asked_of, asks}
-use Rattle.modbus_server.specs.Answer.{Answered, AnswersAs}
+use Rattle.modbus_server.specs.Answer.{Answered, Wanted, AnswersAs}
 use Rattle.modbus_server.specs.Serving.{Stands, NextIsRequest, NothingFails, Served, Halt, Halts, refused, too_long, Wanting}
 use Rattle.modbus_server.specs.Taking.{TakesAs, next_of}
 
@@ -116,20 +116,25 @@ module _ (F : Framing) where
         halts = halts;
       }
 
-      pub wanting : NothingFails F bytes cuts exchanges → Wanting F A bytes cuts opening now written
-      wanting none = record {
+      -- memory is wanting after these exchanges, and the service stands where they or its own want of memory left it
+      wanting_at : (next : S) → (next ≡ now) ⊎ ((message : Message F) × F.IsNext bytes cuts s.taken message × Wanted F A message now next) → NothingFails F bytes cuts exchanges
+          → Wanting F A bytes cuts opening next written
+      wanting_at next left none = record {
         held = held;
         waiting = [];
         exchanges = exchanges;
         ends = now;
         stood = s;
-        left = inl refl;
+        left = left;
         before = exchanges;
         last = [];
         splits = sym (append-nil exchanges);
         once = omega arith;
         none_fails = none;
       }
+
+      pub wanting : NothingFails F bytes cuts exchanges → Wanting F A bytes cuts opening now written
+      wanting none = wanting_at now (inl refl) none
 
       module _ {E : Type 0} (told : E → ProcessError) (message : Message F) (held' : List ℕ) (next : S) (made : List ℕ)
           (stands : F.StandsFor bytes cuts held' (s.taken ++ message ∷ [])) (is_next : F.IsNext bytes cuts s.taken message) where
@@ -149,38 +154,8 @@ module _ (F : Framing) where
         next_is request asked = (s.taken, message, is_next, s.asked, request, asked)
 
         wants : AnswersAs F A message now (Err fault.NoMemory) next made → TakesAs F A told bytes cuts held' opening next written made exchanges (Err NoMemory)
-        wants (request, asked, inl same) = (
-          record {
-            held = held;
-            waiting = [];
-            exchanges = exchanges;
-            ends = now;
-            stood = s;
-            left = inl same;
-            before = exchanges;
-            last = [];
-            splits = sym (append-nil exchanges);
-            once = omega arith;
-            none_fails = inl (next_is request asked);
-          },
-          next_is request asked,
-        )
-        wants (request, asked, inr (inl wanted)) = (
-          record {
-            held = held;
-            waiting = [];
-            exchanges = exchanges;
-            ends = now;
-            stood = s;
-            left = inr (message, is_next, wanted);
-            before = exchanges;
-            last = [];
-            splits = sym (append-nil exchanges);
-            once = omega arith;
-            none_fails = inl (next_is request asked);
-          },
-          next_is request asked,
-        )
+        wants (request, asked, inl same) = (wanting_at next (inl same) (inl (next_is request asked)), next_is request asked)
+        wants (request, asked, inr (inl wanted)) = (wanting_at next (inr (message, is_next, wanted)) (inl (next_is request asked)), next_is request asked)
         wants (request, asked, inr (inr (x, answered, fits))) = (
           record {
             held = held';
