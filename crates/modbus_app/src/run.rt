@@ -8,7 +8,7 @@ ghost use Rattle.modbus_server.specs.Stepping.{Ran};
 ghost use Rattle.modbus_store.specs.Step.{device};
 ghost use Rattle.modbus_app.specs.Words.{asked};
 ghost use Rattle.modbus_app.specs.declared.words.Form.{Form};
-ghost use Rattle.modbus_app.specs.Device.{Answers, messages_of};
+ghost use Rattle.modbus_app.specs.Device.{EndsServing, messages_of};
 ghost use Rattle.modbus_app.specs.Ending.{IsUsageFault, Ends};
 
 use crate::device::open;
@@ -75,7 +75,7 @@ pub fn run<S: Source, K: Sink, E: Sink>(
     // replies, framed for each request's slave or under its header, that one run of the device gives to the leftmost frames, or to the
     // ADUs, of the whole input in order.
     ensures ok { (form : Form) → asked words.now ≡ Some form → result ≡ 0 → IsTrue (S.input source.old).told → IsTrue (K.output sink.old).told
-        → Answers form (S.input source.old).left (totals (cuts_made (S.input source.old) (S.input source.new)))
+        → EndsServing form (S.input source.old).left (totals (cuts_made (S.input source.old) (S.input source.new)))
         (bytes_appended (K.output sink.old) (K.output sink.new)) (Ok tt) × ((S.input source.new).left ≡ []) }
 
     // Each status is that of an answer of the server, with its cause, what was answered before it, and its text.

@@ -89,9 +89,9 @@ pub struct Client<L> {
 
 /// A contract sees what a client of a serial line keeps, and the transaction that comes next.
 impl<L> Model for Client<L> {
-    ghost use Rattle.modbus_client.specs.State.{TcpState};
+    ghost use Rattle.modbus_client.specs.State.{TcpClientState};
 
-    ghost Value = { TcpState L };
+    ghost Value = { TcpClientState L };
 
     ghost view = { λ client. record { client = client.caller; next = client.ids } };
 }

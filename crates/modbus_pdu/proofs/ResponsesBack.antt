@@ -15,7 +15,7 @@ use Rattle.modbus_frame.specs.Answered.{function_answered}
 use Rattle.modbus_frame.specs.Codes.{function_number, read_code_number, level_number}
 use Rattle.modbus_pdu.specs.Fields.{words_of, coils_of, packed, packed_size}
 use Rattle.modbus_pdu.specs.Laws.{IsWord}
-use Rattle.modbus_pdu.specs.Reading.{◌>>=◌, read_code_or}
+use Rattle.modbus_pdu.specs.Decoding.{◌>>=◌, read_code_or}
 use Rattle.modbus_pdu.specs.RequestOf.{two_words_of, single_coil_of, three_words_of, IsModelled}
 use Rattle.modbus_pdu.specs.Writing.{words}
 use Rattle.modbus_pdu.specs.ResponseOf.{objects_at, level_or, coils_read_of, words_read_of, server_id_of, device_identification_of, answered_by, response_of, exception_response_of, response_result_of}

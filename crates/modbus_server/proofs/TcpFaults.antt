@@ -9,7 +9,7 @@ use Rattle.modbus_tcp.specs.Stream.{Rest, empty, unfinished, no_length, foreign,
 use Rattle.modbus_tcp.specs.Adu.{IsAdu, stream_of}
 use Rattle.modbus_service.specs.Answering.{Answering}
 use Rattle.modbus_server.specs.declared.error.ProcessError.TheVariants.{InvalidLength, InvalidProtocol}
-use Rattle.modbus_server.specs.Exchanges.{Exchange, Run, Fits, told_size, asked_of, asks}
+use Rattle.modbus_server.specs.Exchanges.{Exchange, Run, ReplyFits, told_reply_size, asked_of, asks}
 use Rattle.modbus_server.specs.Tcp.{tcp, IsNextAdu}
 use Rattle.modbus_server.specs.Serving.{Served, Halt, Halts, remaining, broken, refused, too_long, asked_last, all_asked}
 use Rattle.modbus_server.specs.FirstAdu.{HasAduFault, IsFirstAduFault}
@@ -45,7 +45,7 @@ module _ (one : (bytes rest left : List ℕ) (adus others : List (Header × List
       (more.0, more.1 ∙ append_assoc before (message ∷ []) more.0)
 
   module _ (before : List (Header × List ℕ)) (exchanges : List (Exchange tcp)) (asked : map (asked_of tcp) before ≡ map (asks tcp) exchanges)
-      (fit : All (Fits tcp) exchanges) (ends : S) (run : Run tcp A opening exchanges ends) where
+      (fit : All (ReplyFits tcp) exchanges) (ends : S) (run : Run tcp A opening exchanges ends) where
     ran : now ≡ ends → Run tcp A opening exchanges now
     ran same = subst (λ x. Run tcp A opening exchanges x) (sym same) run
 
@@ -188,7 +188,7 @@ module _ (adus : List (Header × List ℕ)) (kind : Rest) (all : List (Exchange 
   same_at place (too_long size) (too_long other) (earlier, message, later, splits, count, before, x, after, is_all, many, asked, is, long)
       (earlier', message', later', splits', count', before', x', after', is_all', many', asked', is', long') =
       let same : x ≡ x' = same_after before before' x x' after after' (sym is_all ∙ is_all') (many ∙ sym many') in
-      ap too_long (is ∙ ap (told_size tcp) same ∙ sym is')
+      ap too_long (is ∙ ap (told_reply_size tcp) same ∙ sym is')
 
   pub one_adu_fault : (p q : ℕ) (f g : Halt) → HasAduFault adus kind all p f → HasAduFault adus kind all q g
       → IsFirstAduFault adus kind all f → IsFirstAduFault adus kind all g → f ≡ g

@@ -5,7 +5,7 @@ use Rattle.modbus_pdu.specs.declared.limits.TheConstants.{MAX_PDU}
 use Rattle.modbus_pdu.specs.RequestOf.{request_of}
 use Rattle.modbus_tcp.specs.Stream.{Rest, no_length, foreign}
 use Rattle.modbus_server.specs.declared.error.ProcessError.TheVariants.{InvalidLength, InvalidProtocol}
-use Rattle.modbus_server.specs.Exchanges.{Exchange, told_size, asked_of, asks}
+use Rattle.modbus_server.specs.Exchanges.{Exchange, told_reply_size, asked_of, asks}
 use Rattle.modbus_server.specs.Serving.{Halt, remaining, broken, refused, too_long}
 use Rattle.modbus_server.specs.First.{IsFirst}
 use Rattle.modbus_server.specs.Tcp.{tcp}
@@ -23,7 +23,7 @@ HasAduFault adus kind all place (refused reason) =
 HasAduFault adus kind all place (too_long size) =
     (earlier : List (Header × List ℕ)) × (message : Header × List ℕ) × (later : List (Header × List ℕ)) × (adus ≡ earlier ++ message ∷ later)
     × (length earlier ≡ place) × (before : List (Exchange tcp)) × (x : Exchange tcp) × (after : List (Exchange tcp)) × (all ≡ before ++ x ∷ after)
-    × (length before ≡ place) × (asked_of tcp message ≡ asks tcp x) × (size ≡ told_size tcp x) × (MAX_PDU < size)
+    × (length before ≡ place) × (asked_of tcp message ≡ asks tcp x) × (size ≡ told_reply_size tcp x) × (MAX_PDU < size)
 
 -- the first place, ADU by ADU and then the rest, where something fails, or that nothing does
 abbrev pub IsFirstAduFault : List (Header × List ℕ) → Rest → List (Exchange tcp) → Halt → Type 0
