@@ -1,5 +1,5 @@
 -- The frame of a response whose first bytes tell its length: it is good whatever follows it, and each front of it waits.
-use Rattle.std.proofs.Common.{◌≡◌, ◌≢◌, ℕ, zero, suc, ◌+◌, ◌-◌, ◌*◌, ◌/◌, ◌%◌, ◌<◌, ◌≤◌, Bool, true, false, eqb, ltb, leb, List, [], ◌∷◌, ◌++◌, length, take, drop, get_or, Option, Some, None, Ok, Err, refl, sym, ap, ◌∙◌, arith, length-append, append_assoc}
+use Rattle.std.proofs.Common.{◌≡◌, ◌≢◌, ℕ, zero, suc, ◌+◌, ◌-◌, ◌*◌, ◌/◌, ◌%◌, ◌<◌, ◌≤◌, Bool, true, false, eqb, ltb, leb, List, [], ◌∷◌, ◌++◌, length, take, drop, get_or, Option, Some, None, Ok, Err, refl, sym, ap, ◌∙◌, arith, length-append}
 use Rattle.std.specs.Prelude.{slice_get}
 use Rattle.std.specs.Option.{option_map}
 use Rattle.std.proofs.lemmas.List.{take_at, take-append-drop, get_or-append_right, length-take-le}
@@ -9,20 +9,9 @@ use Rattle.modbus_rtu.specs.Checksum.{crc}
 use Rattle.modbus_rtu.specs.Frame.{Head, frame}
 use Rattle.modbus_rtu.specs.ResponseHead.{ResponseRule, response_rule, after_object, after_objects, within, response_identified, identified_len, held_len, word_len, response_head_at, response_head_by, response_head, response_verdict, HasResponseHead}
 use Rattle.modbus_rtu.specs.ResponseHead.ResponseRule.{fixed, counted, counted_word, identification, unknown}
-use Rattle.modbus_rtu.proofs.Verdicts.{by_frame}
+use Rattle.modbus_rtu.proofs.Verdicts.{got_again, IsKept, Stays, by_frame}
 use Rattle.modbus_rtu.proofs.Judging.{judged_good, judged_missing, judged_short}
-
-got_again : (xs more : List ℕ) (k x : ℕ) → slice_get xs k ≡ Some x → slice_get (xs ++ more) k ≡ Some x
-got_again [] more k x e = cc
-got_again (y ∷ xs) more zero x e = e
-got_again (y ∷ xs) more (suc k) x e = got_again xs more k x e
-
--- what is told by bytes that are there stays
-abbrev IsKept : Option ℕ → Option ℕ → Type 0
-IsKept o o' = (x : ℕ) → o ≡ Some x → o' ≡ Some x
-
-abbrev Stays : Head → Head → Type 0
-Stays h h' = h ≢ Ok None → h' ≡ h
+use Rattle.modbus_rtu.proofs.Framed.{frame_append, length-frame}
 
 within_again : (adu more : List ℕ) (place : ℕ) → IsKept (within adu place) (within (adu ++ more) place)
 within_again adu more place next e = go (leb place (length adu)) refl
@@ -153,14 +142,6 @@ told_again whole more unknown told = told
 
 told_head_again : (whole more : List ℕ) → IsToldHead whole → IsToldHead (whole ++ more)
 told_head_again whole more (code, at, told) = (code, got_again whole more 1 code at, told_again whole more (response_rule code) told)
-
-frame_append : (slave : ℕ) (pdu rest : List ℕ) → frame slave pdu ++ rest ≡ (slave ∷ pdu) ++ (crc (slave ∷ pdu) % 256 ∷ crc (slave ∷ pdu) / 256 ∷ rest)
-unfolding frame
-frame_append slave pdu rest = append_assoc (slave ∷ pdu) (crc (slave ∷ pdu) % 256 ∷ crc (slave ∷ pdu) / 256 ∷ []) rest
-
-length-frame : (slave : ℕ) (pdu : List ℕ) → length (frame slave pdu) ≡ length pdu + 3
-unfolding frame
-length-frame slave pdu = omega (arith, length-append (slave ∷ pdu) (crc (slave ∷ pdu) % 256 ∷ crc (slave ∷ pdu) / 256 ∷ []))
 
 head_of_body : (slave : ℕ) (pdu more : List ℕ) → HasResponseHead (slave, pdu) → response_head ((slave ∷ pdu) ++ more) ≡ Ok (Some (length pdu))
 head_of_body slave pdu more has = head_stays (slave ∷ pdu) more (told_head_again (slave ∷ pdu) more (told_of slave pdu has)) (λ o. cc (o, has)) ∙ has

@@ -98,32 +98,32 @@ module _ (F : Framing) {S : Type 0} (A : Answering S) where
     stepped_error told error own took =
         still (Err (told_next told error))
         (λ bytes cuts written opening exchanges s.
-            ends_told told bytes cuts new.held opening after written new.waiting exchanges error own (took.stands bytes cuts written opening exchanges s))
+        ends_told told bytes cuts new.held opening after written new.waiting exchanges error own (took.stands bytes cuts written opening exchanges s))
         (λ bytes cuts written opening exchanges s.
-            last_told told bytes cuts new.held opening after written new.waiting exchanges error own (took.stands bytes cuts written opening exchanges s))
+        last_told told bytes cuts new.held opening after written new.waiting exchanges error own (took.stands bytes cuts written opening exchanges s))
         (refl, took.goes_on, other_than told (EndsIfMay may_read) tt tt (λ p. tt) (λ r. tt) (λ n. tt) tt error own)
         (other_than told (λ e. EndsInput (Err e) a.left) tt tt (λ p. tt) (λ r. tt) (λ n. tt) tt error own)
         (λ e.
-            let same : told_next told error ≡ ReadFault = cc in
-            other_than told (λ e. e ≢ ReadFault) (λ e. cc) (λ e. cc) (λ p e. cc) (λ r e. cc) (λ n e. cc) (λ e. cc) error own same)
+        let same : told_next told error ≡ ReadFault = cc in
+        other_than told (λ e. e ≢ ReadFault) (λ e. cc) (λ e. cc) (λ p e. cc) (λ r e. cc) (λ n e. cc) (λ e. cc) error own same)
         (λ e.
-            let same : told_next told error ≡ WriteFault = cc in
-            other_than told (λ e. e ≢ WriteFault) (λ e. cc) (λ e. cc) (λ p e. cc) (λ r e. cc) (λ n e. cc) (λ e. cc) error own same)
+        let same : told_next told error ≡ WriteFault = cc in
+        other_than told (λ e. e ≢ WriteFault) (λ e. cc) (λ e. cc) (λ p e. cc) (λ r e. cc) (λ n e. cc) (λ e. cc) error own same)
 
     pub stepped_silent : {E : Type 0} (told : E → ProcessError) → Took F A told old new before after (Ok take.Silent) → Stepped F A old new before after a a k k may_read (Ok Silent)
     stepped_silent told took =
         still (Ok Silent)
         (λ bytes cuts written opening exchanges s.
-            let h = took.stands bytes cuts written opening exchanges s in
-            (h.0, subst (λ w. Stands F A bytes cuts new.held opening after written w (exchanges ++ h.0 ∷ [])) (sym took.keeps.1) h.1, h.2))
+        let h = took.stands bytes cuts written opening exchanges s in
+        (h.0, subst (λ w. Stands F A bytes cuts new.held opening after written w (exchanges ++ h.0 ∷ [])) (sym took.keeps.1) h.1, h.2))
         (λ bytes cuts written opening exchanges s. tt) (refl, took.keeps.0, took.keeps.1, took.goes_on) tt (λ e. cc) (λ e. cc)
 
     pub stepped_hungry : {E : Type 0} (told : E → ProcessError) → Took F A told old new before after (Ok Waiting) → may_read ≡ false → Stepped F A old new before after a a k k may_read (Ok Hungry)
     stepped_hungry told took may =
         still (Ok Hungry)
         (λ bytes cuts written opening exchanges s.
-            let h = took.stands bytes cuts written opening exchanges s in
-            subst (λ w. (s : Stands F A bytes cuts new.held opening after written w exchanges) × F.IsAll bytes cuts new.held s.taken) (sym took.keeps.1) h)
+        let h = took.stands bytes cuts written opening exchanges s in
+        subst (λ w. (s : Stands F A bytes cuts new.held opening after written w exchanges) × F.IsAll bytes cuts new.held s.taken) (sym took.keeps.1) h)
         (λ bytes cuts written opening exchanges s. let h = took.stands bytes cuts written opening exchanges s in (h.0.taken, new.held, h.1, h.0.asked))
         (refl, took.keeps.0, took.keeps.1, took.goes_on, may, took.keeps.2) tt (λ e. cc) (λ e. cc)
 
@@ -174,15 +174,15 @@ module _ (F : Framing) {S : Type 0} (A : Answering S) where
         stepped_sent (Ok Answered) writes cause =
             writes_as (Ok Answered)
             (λ bytes cuts written opening exchanges s.
-                let h = took.stands bytes cuts written opening exchanges s in
-                let w = wrote_reply bytes cuts written opening exchanges s in
-                (w.0, subst (λ held. Stands F A bytes cuts held opening after (written ++ sends.sent) new.waiting (exchanges ++ w.0 ∷ [])) (sym writes.0) w.1, h.2))
+            let h = took.stands bytes cuts written opening exchanges s in
+            let w = wrote_reply bytes cuts written opening exchanges s in
+            (w.0, subst (λ held. Stands F A bytes cuts held opening after (written ++ sends.sent) new.waiting (exchanges ++ w.0 ∷ [])) (sym writes.0) w.1, h.2))
             (λ bytes cuts written opening exchanges s. tt) (refl, subst (λ h. length h < length old.held) (sym writes.0) took.keeps, writes.1, writes.2 ∙ took.goes_on) tt (λ e. cc) cause
         stepped_sent (Err WriteFault) writes cause =
             writes_as (Err WriteFault)
             (λ bytes cuts written opening exchanges s.
-                let w = wrote_reply bytes cuts written opening exchanges s in
-                record { held = mid.held; waiting = new.waiting; exchanges = exchanges ++ w.0 ∷ []; stood = w.1 })
+            let w = wrote_reply bytes cuts written opening exchanges s in
+            record { held = mid.held; waiting = new.waiting; exchanges = exchanges ++ w.0 ∷ []; stood = w.1 })
             (λ bytes cuts written opening exchanges s. tt) (refl, writes.1, tt) tt (λ e. cc) cause
         stepped_sent (Ok _) writes cause = absurd writes
         stepped_sent (Err _) writes cause = absurd writes
@@ -266,9 +266,9 @@ module _ (F : Framing) {S : Type 0} (A : Answering S) where
             let empty : new.held ≡ [] = gives.3 ∙ gives.2 in
             reads_none (Ok Ended) reads gives.0 gives.1
             (λ bytes cuts written opening exchanges s.
-                let h = took.stands bytes cuts written opening exchanges s in
-                subst (λ held. (s : Stands F A bytes cuts held opening after written new.waiting exchanges) × F.IsAll bytes cuts held s.taken × (held ≡ [])) (sym gives.3)
-                (subst (λ w. (s : Stands F A bytes cuts mid.held opening after written w exchanges) × F.IsAll bytes cuts mid.held s.taken × (mid.held ≡ [])) (sym none) (h.0, h.1, gives.2)))
+            let h = took.stands bytes cuts written opening exchanges s in
+            subst (λ held. (s : Stands F A bytes cuts held opening after written new.waiting exchanges) × F.IsAll bytes cuts held s.taken × (held ≡ [])) (sym gives.3)
+            (subst (λ w. (s : Stands F A bytes cuts mid.held opening after written w exchanges) × F.IsAll bytes cuts mid.held s.taken × (mid.held ≡ [])) (sym none) (h.0, h.1, gives.2)))
             all_answered (gives.1, empty, none, gives.5, may, took.keeps.2) (λ e. cc)
         stepped_read (Err BytesRemaining) reads =
             let gives = reads.gives in
