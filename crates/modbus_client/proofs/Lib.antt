@@ -6,6 +6,6 @@ pub mod Looking
 pub mod OneSearch
 pub mod OneFrame
 pub mod FrameAlone
-pub mod OneUnit
+pub mod OneAdu
 pub mod Completing
 pub mod Exactly

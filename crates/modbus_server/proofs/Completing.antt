@@ -13,7 +13,7 @@ use Rattle.modbus_server.specs.declared.error.ProcessError.{ProcessError}
 use Rattle.modbus_server.specs.declared.error.ProcessError.TheVariants.{ReadFault, WriteFault, BytesRemaining, InvalidRequest, ResponseTooLong, TurnLimit, NoMemory}
 use Rattle.modbus_service.specs.Answering.{Answering}
 use Rattle.modbus_server.specs.Framing.{Framing, Message}
-use Rattle.modbus_server.specs.Exchanges.{Fits, asked_of, asks}
+use Rattle.modbus_server.specs.Exchanges.{ReplyFits, asked_of, asks}
 use Rattle.modbus_server.specs.Serving.{Served, Halts, remaining, broken, refused, too_long, EndsAs}
 use Rattle.modbus_server.specs.Stepping.{EndsRead, spending_of, Ran}
 use Rattle.modbus_server.specs.Stopping.{RanUntil, to_the_end}
@@ -55,7 +55,7 @@ module _ (F : Framing) {S : Type 0} (A : Answering S) (read rest cuts : List ℕ
           map-append (asked_of F) s.before (message ∷ []) ∙ ap (λ front. front ++ asked_of F message ∷ []) s.asked
           ∙ ap (λ last. map (asks F) s.exchanges ++ last ∷ []) asked ∙ sym (map-append (asks F) s.exchanges (x ∷ [])) in
           let fits = fit (s.exchanges ++ x ∷ []) now (s.before ++ message ∷ []) later.0 (run_more F A opening s.exchanges s.ends x now s.run step) later.1 all_asked in
-          let one : Fits F x = All-contains (Fits F) (s.exchanges ++ x ∷ []) x fits (Contains-push s.exchanges x) in
+          let one : ReplyFits F x = All-contains (ReplyFits F) (s.exchanges ++ x ∷ []) x fits (Contains-push s.exchanges x) in
           omega arith
 
   none_left : rest ≡ [] → (left : List ℕ) → (left ≡ [] → ⊥) → Served F A read cuts opening now written (remaining left) → ⊥

@@ -1,11 +1,10 @@
 -- One step after others is one run of steps, with a look at a signal before each.
-use Rattle.std.proofs.Common.{◌≡◌, ℕ, ◌+◌, ◌<◌, ◌≤◌, List, [], ◌∷◌, ◌++◌, map, length, refl, sym, ap, ◌∙◌, subst, arith, add-one, Result, Ok, Err, Bool, true, false, length-append, IsTrue, inr}
-use Rattle.std.proofs.lemmas.List.{map-append, take-append-le}
+use Rattle.std.proofs.Common.{◌≡◌, ℕ, ◌+◌, ◌<◌, ◌≤◌, List, [], ◌∷◌, ◌++◌, length, refl, sym, ap, ◌∙◌, subst, arith, add-one, Result, Ok, Err, Bool, true, false, IsTrue, inr}
 use Rattle.modbus_frame.specs.declared.server.Terminated.TheVariants.{Finished, Aborted}
-use Rattle.modbus_link.specs.Outside.{Input, Output, Rose, RisesTo, shifted}
-use Rattle.modbus_link.specs.Runs.{RisesTo-count}
+use Rattle.modbus_link.specs.Outside.{Input, Output, Rose, shifted}
 use Rattle.modbus_link.specs.Passing.{Passes, passes_both, passes_none}
 use Rattle.modbus_link.specs.Reads.{HaveRooms, totals, Spends}
+use Rattle.modbus_link.specs.Together.{count_both, totals_both, rooms_more, rooms_then}
 use Rattle.modbus_server.specs.declared.error.ProcessError.{ProcessError}
 use Rattle.modbus_server.specs.declared.error.ProcessError.TheVariants.{ReadFault, WriteFault, TooManyRetries, BytesRemaining, InvalidRequest, ResponseTooLong, TurnLimit, InvalidLength, InvalidProtocol, NoMemory}
 use Rattle.modbus_server.specs.declared.error.Step.{Step}
@@ -19,27 +18,6 @@ use Rattle.modbus_server.specs.Moving.{EndsInput}
 use Rattle.modbus_server.specs.Stepping.{StepsAs, EndsIfMay, Stepped, Ran, EndsRead, spending_of}
 use Rattle.modbus_server.specs.Stopping.{StaysUnset, LooksEach, RanUntil}
 use Rattle.modbus_server.proofs.Standing.{opened, halted, wanting}
-
--- over lists
-rooms_more : (F : Framing) (bytes more : List ℕ) (total end : ℕ) (cuts : List (ℕ × ℕ)) → RisesTo total cuts end → end ≤ length bytes → HaveRooms F.HasRoom bytes total cuts → HaveRooms F.HasRoom (bytes ++ more) total cuts
-rooms_more F bytes more total end [] p le rooms = tt
-rooms_more F bytes more total end (cut ∷ cuts) p le rooms =
-    let low : total ≤ length bytes = omega (arith, p.0, RisesTo-count cut.0 end cuts p.1) in
-    (subst (λ b. F.HasRoom b cut.1) (sym (take-append-le total bytes more low)) rooms.0, rooms_more F bytes more cut.0 end cuts p.1 le rooms.1)
-
-rooms_then : (F : Framing) (bytes : List ℕ) (total end : ℕ) (xs ys : List (ℕ × ℕ)) → RisesTo total xs end → HaveRooms F.HasRoom bytes total xs → HaveRooms F.HasRoom bytes end ys → HaveRooms F.HasRoom bytes total (xs ++ ys)
-rooms_then F bytes total end [] ys p q r = subst (λ t. HaveRooms F.HasRoom bytes t ys) (sym p) r
-rooms_then F bytes total end (x ∷ xs) ys p q r = (q.0, rooms_then F bytes x.0 end xs ys p.1 q.1 r)
-
-length_map : (f : ℕ × ℕ → ℕ × ℕ) (xs : List (ℕ × ℕ)) → length (map f xs) ≡ length xs
-length_map f [] = refl
-length_map f (x ∷ xs) = omega (arith, length_map f xs)
-
-count_both : (n : ℕ) (xs ys : List (ℕ × ℕ)) → length (xs ++ shifted n ys) ≡ length xs + length ys
-count_both n xs ys = length-append xs (shifted n ys) ∙ ap (λ m. length xs + m) (length_map (λ (cut : ℕ × ℕ). (n + cut.0, cut.1)) ys)
-
-totals_both : (n : ℕ) (xs ys : List (ℕ × ℕ)) → totals (xs ++ shifted n ys) ≡ totals xs ++ totals (shifted n ys)
-totals_both n xs ys = map-append (λ (cut : ℕ × ℕ). cut.0) xs (shifted n ys)
 
 module _ (F : Framing) {S X : Type 0} (A : Answering S) (stops : X → ℕ) (looks : X → Bool → X → Type 0) where
   -- what a loop of steps keeps
@@ -107,8 +85,8 @@ module _ (F : Framing) {S X : Type 0} (A : Answering S) (stops : X → ℕ) (loo
           (step.stands g.fed (totals g.made) g.sent start g.exchanges g.stands)
 
       all_rooms : HaveRooms F.HasRoom (g.fed ++ step.fed) 0 (g.made ++ shifted (length g.fed) step.made)
-      all_rooms = rooms_then F (g.fed ++ step.fed) 0 (length g.fed) g.made (shifted (length g.fed) step.made) g.passes.rises
-          (rooms_more F g.fed step.fed 0 (length g.fed) g.made g.passes.rises (omega arith) g.rooms)
+      all_rooms = rooms_then F.HasRoom (g.fed ++ step.fed) 0 (length g.fed) g.made (shifted (length g.fed) step.made) g.passes.rises
+          (rooms_more F.HasRoom g.fed step.fed 0 (length g.fed) g.made g.passes.rises (omega arith) g.rooms)
           (step.rooms g.fed (totals g.made) g.sent start g.exchanges g.stands)
 
       all_made : length (g.made ++ shifted (length g.fed) step.made) ≡ length g.made + length step.made

@@ -10,6 +10,6 @@ pub mod Stopping
 pub mod Complete
 pub mod First
 pub mod Tcp
-pub mod FirstUnit
+pub mod FirstAdu
 pub mod Rtu
 pub mod FirstFault

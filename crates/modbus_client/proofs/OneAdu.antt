@@ -3,13 +3,13 @@ use Rattle.std.proofs.Common.{◌≡◌, ◌⊎◌, inl, inr, ℕ, List, [], ◌
 use Rattle.modbus_frame.specs.declared.tcp.Header.{Header}
 use Rattle.modbus_frame.specs.declared.fault.TransportError.{TransportError}
 use Rattle.modbus_frame.specs.declared.fault.TransportError.TheVariants.{InvalidLength, InvalidProtocol}
-use Rattle.modbus_tcp.specs.Unit.{unit, IsUnit}
+use Rattle.modbus_tcp.specs.Adu.{adu_of, IsAdu}
 use Rattle.modbus_tcp.specs.Stream.{Rest, empty, unfinished, no_length, foreign, IsRest, BeginsWith}
 use Rattle.modbus_client.specs.Protocol.{Found, waiting, reply, broken, IsOfMessage}
-use Rattle.modbus_client.specs.Tcp.{unit_seen, IsBrokenAt, FindsUnit}
+use Rattle.modbus_client.specs.Tcp.{header_seen, IsBrokenAt, FindsAdu}
 use Rattle.modbus_client.proofs.OneFrame.{same_reply, same_broken}
 
--- one front of bytes: a unit and the others, or a rest of one kind
+-- one front of bytes: an ADU and the others, or a rest of one kind
 abbrev pub OneBegins : Type 0
 OneBegins = (bytes others left : List ℕ) (message other : Header × List ℕ) → BeginsWith bytes message others → BeginsWith bytes other left → (message ≡ other) × (others ≡ left)
 
@@ -55,28 +55,28 @@ module _ (one_begins : OneBegins) (one_rest : OneRest) (apart : AreApart) where
     one_broken held held' (InvalidProtocol p) _ a b = absurd b
     one_broken held held' _ fault' a b = absurd a
 
-    pub one_unit : (found other : Found) → FindsUnit bytes cuts found → FindsUnit bytes cuts other → found ≡ other
-    one_unit (waiting held) (waiting held') a b = ap waiting (a.1 ∙ sym b.1)
-    one_unit (waiting held) (reply held' seen pdu) a (header, begins, is) = not_waiting held' (header, pdu) a.0 begins
-    one_unit (waiting held) (broken held' fault) a b = not_both held' fault a.0 b
-    one_unit (reply held seen pdu) (waiting held') (header, begins, is) b = not_waiting held (header, pdu) b.0 begins
-    one_unit (reply held seen pdu) (reply held' seen' pdu') (header, begins, is) (header', begins', is') =
+    pub one_adu : (found other : Found) → FindsAdu bytes cuts found → FindsAdu bytes cuts other → found ≡ other
+    one_adu (waiting held) (waiting held') a b = ap waiting (a.1 ∙ sym b.1)
+    one_adu (waiting held) (reply held' seen pdu) a (header, begins, is) = not_waiting held' (header, pdu) a.0 begins
+    one_adu (waiting held) (broken held' fault) a b = not_both held' fault a.0 b
+    one_adu (reply held seen pdu) (waiting held') (header, begins, is) b = not_waiting held (header, pdu) b.0 begins
+    one_adu (reply held seen pdu) (reply held' seen' pdu') (header, begins, is) (header', begins', is') =
         let same = one_begins bytes held held' (header, pdu) (header', pdu') begins begins' in
         let first : header ≡ header' = ap (λ (m : Header × List ℕ). m.0) same.0 in
         let second : pdu ≡ pdu' = ap (λ (m : Header × List ℕ). m.1) same.0 in
-        same_reply held held' seen seen' pdu pdu' same.1 (is ∙ ap unit_seen first ∙ sym is') second
-    one_unit (reply held seen pdu) (broken held' fault) (header, begins, is) b = not_broken held held' (header, pdu) fault begins b
-    one_unit (broken held fault) (waiting held') a b = not_both held fault b.0 a
-    one_unit (broken held fault) (reply held' seen pdu) a (header, begins, is) = not_broken held' held (header, pdu) fault begins a
-    one_unit (broken held fault) (broken held' fault') a b = one_broken held held' fault fault' a b
+        same_reply held held' seen seen' pdu pdu' same.1 (is ∙ ap header_seen first ∙ sym is') second
+    one_adu (reply held seen pdu) (broken held' fault) (header, begins, is) b = not_broken held held' (header, pdu) fault begins b
+    one_adu (broken held fault) (waiting held') a b = not_both held fault b.0 a
+    one_adu (broken held fault) (reply held' seen pdu) a (header, begins, is) = not_broken held' held (header, pdu) fault begins a
+    one_adu (broken held fault) (broken held' fault') a b = one_broken held held' fault fault' a b
 
   -- what stands at the front stays when bytes follow
   module _ (begins_on : (bytes more others : List ℕ) (message : Header × List ℕ) → BeginsWith bytes message others → BeginsWith (bytes ++ more) message (others ++ more))
       (no_length_on : (bytes more : List ℕ) → IsRest bytes no_length → IsRest (bytes ++ more) no_length)
       (foreign_on : (bytes more : List ℕ) (protocol : ℕ) → IsRest bytes (foreign protocol) → IsRest (bytes ++ more) (foreign protocol))
-      (header : Header) (pdu bytes rest cuts : List ℕ) (whole : IsUnit (header, pdu)) (joined : unit header pdu ≡ bytes ++ rest) where
+      (header : Header) (pdu bytes rest cuts : List ℕ) (whole : IsAdu (header, pdu)) (joined : adu_of header pdu ≡ bytes ++ rest) where
     begins : BeginsWith (bytes ++ rest) (header, pdu) []
-    begins = record { joined = sym joined ∙ sym (append-nil (unit header pdu)); whole = whole }
+    begins = record { joined = sym joined ∙ sym (append-nil (adu_of header pdu)); whole = whole }
 
     both_none : (xs ys : List ℕ) → xs ++ ys ≡ [] → (xs ≡ []) × (ys ≡ [])
     both_none [] ys e = (refl, e)
@@ -87,12 +87,12 @@ module _ (one_begins : OneBegins) (one_rest : OneRest) (apart : AreApart) where
     no_fault held (InvalidProtocol protocol) b = apart (bytes ++ rest) [] (header, pdu) (foreign protocol) begins (foreign_on bytes rest protocol b.0)
     no_fault held _ b = b
 
-    pub unit_alone : (found : Found) → FindsUnit bytes cuts found → IsOfMessage (unit_seen header) pdu rest found
-    unit_alone (waiting held) a = λ none.
-        let alone : BeginsWith bytes (header, pdu) [] = record { joined = sym (joined ∙ ap (λ r. bytes ++ r) none ∙ append-nil bytes) ∙ sym (append-nil (unit header pdu)); whole = whole } in
+    pub adu_alone : (found : Found) → FindsAdu bytes cuts found → IsOfMessage (header_seen header) pdu rest found
+    adu_alone (waiting held) a = λ none.
+        let alone : BeginsWith bytes (header, pdu) [] = record { joined = sym (joined ∙ ap (λ r. bytes ++ r) none ∙ append-nil bytes) ∙ sym (append-nil (adu_of header pdu)); whole = whole } in
         not_waiting bytes cuts [] (header, pdu) a.0 alone
-    unit_alone (reply held seen found) (other, here, is) =
+    adu_alone (reply held seen found) (other, here, is) =
         let same = one_begins (bytes ++ rest) (held ++ rest) [] (other, found) (header, pdu) (begins_on bytes rest held (other, found) here) begins in
         let none = both_none held rest same.1 in
-        (none.1, none.0, is ∙ ap (λ (m : Header × List ℕ). unit_seen m.0) same.0, ap (λ (m : Header × List ℕ). m.1) same.0)
-    unit_alone (broken held fault) a = no_fault held fault a
+        (none.1, none.0, is ∙ ap (λ (m : Header × List ℕ). header_seen m.0) same.0, ap (λ (m : Header × List ℕ). m.1) same.0)
+    adu_alone (broken held fault) a = no_fault held fault a

@@ -1,6 +1,6 @@
 use Rattle.std.proofs.Common.{arith}
 use Rattle.modbus_tcp.proofs.Fronts.{told}
-use Rattle.modbus_tcp.proofs.laws.units_go_on.Goals as goal
+use Rattle.modbus_tcp.proofs.laws.adus_go_on.Goals as goal
 
 pub returns-clause-size : goal.returns-clause-size
 returns-clause-size c = λ bytes others message begins. let tells = told begins in omega (arith, tells.all)
