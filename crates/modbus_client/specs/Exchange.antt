@@ -1,0 +1,70 @@
+-- An exchange over memory: what a call answers whose link gives the bytes that a server appends.
+use Rattle.std.specs.Prelude.{◌≡◌, ◌↔◌, ◌⊎◌, ℕ, zero, suc, ◌+◌, ◌*◌, ◌<◌, min, List, [], ◌∷◌, ◌++◌, length, take, drop, Result, Ok, Err}
+use Rattle.modbus_frame.specs.Meaning.{Asked, function_asked}
+use Rattle.modbus_frame.specs.declared.code.FunctionCode.{FunctionCode}
+use Rattle.modbus_frame.specs.declared.fault.HeaderSeen.{HeaderSeen}
+use Rattle.modbus_frame.specs.declared.fault.Error.TheVariants.{Transport, NoMemory}
+use Rattle.modbus_frame.specs.declared.fault.TransportError.TheVariants as transport
+use Rattle.modbus_pdu.specs.Coding.{Fits, told_size}
+use Rattle.modbus_pdu.specs.declared.limits.TheConstants.{MAX_PDU}
+use Rattle.modbus_pdu.specs.RequestPdu.{request_pdu}
+use Rattle.modbus_rtu.specs.Frame.{frame}
+use Rattle.modbus_service.specs.Answering.{Answering}
+use Rattle.modbus_server.specs.declared.error.ProcessError.{ProcessError}
+use Rattle.modbus_server.specs.declared.error.ProcessError.TheVariants as process
+use Rattle.modbus_server.specs.Piece.{IsOfNoRead}
+use Rattle.modbus_server.specs.Serving as server
+use Rattle.modbus_server.specs.Rtu.{rtu}
+use Rattle.modbus_client.specs.declared.call.TheConstants.{ROOM}
+use Rattle.modbus_client.specs.Protocol.{Protocol}
+use Rattle.modbus_client.specs.Matching.{Answer}
+use Rattle.modbus_client.specs.Calling.{EndsAs, EndsRead}
+use Rattle.modbus_client.specs.Rtu.{rtu_protocol, slave_seen}
+
+-- the cuts of the first so many reads, each of which gives as many bytes as its room holds
+abbrev pub full_cuts : ℕ → List ℕ → List ℕ
+full_cuts zero bytes = []
+full_cuts (suc n) bytes = full_cuts n bytes ++ min ((n + 1) * ROOM) (length bytes) ∷ []
+
+-- the answers that come neither of a link nor of a limit of turns
+abbrev pub IsOfMemory : Answer → Type 0
+IsOfMemory (Err (Transport transport.NotConnected)) = ⊥
+IsOfMemory (Err (Transport transport.ReadFault)) = ⊥
+IsOfMemory (Err (Transport transport.WriteFault)) = ⊥
+IsOfMemory (Err (Transport transport.TurnLimit)) = ⊥
+IsOfMemory _ = Unit {0}
+
+-- A call that was asked gets these bytes, as many in each read as its room holds, and then their end: so many reads were made of them,
+-- and it ended so.
+pub record ReadsAll {H : Type 0} (P : Protocol H) (asked : HeaderSeen) (function : FunctionCode) (bytes held : List ℕ) (answer : Answer) : Type 0 where
+  pub reads : ℕ
+  pub ends : EndsAs P asked function (take (reads * ROOM) bytes) (full_cuts reads bytes) held answer
+  pub ended : EndsRead answer (drop (reads * ROOM) bytes)
+
+-- memory was refused to the server
+abbrev pub IsWanting : Result (Unit {0}) ProcessError → Type 0
+IsWanting (Err process.NoMemory) = Unit {0}
+IsWanting (Err process.WriteFault) = Unit {0}
+IsWanting _ = ⊥
+
+-- A request that fits was asked: the server was given its frame in one piece as the whole input and appended `sent`, and the call
+-- answers what these bytes give. Where memory is refused to the server the exchange answers that.
+pub record Exchanged {S : Type 0} (A : Answering S) (before after : S) (slave : ℕ) (asked : Asked) (answer : Answer) : Type 0 where
+  pub fed : List ℕ
+  pub cuts : List ℕ
+  pub sent : List ℕ
+  pub served : Result (Unit {0}) ProcessError
+  pub whole : ((fed ≡ frame slave (request_pdu asked)) × (cuts ≡ length fed ∷ [])) ⊎ ((fed ≡ []) × (cuts ≡ []) × (served ≡ Err process.NoMemory))
+  pub only : IsOfNoRead served
+  pub server : server.EndsAs rtu A fed cuts before after sent served
+  pub wanting : IsWanting served → answer ≡ Err NoMemory
+  pub held : List ℕ
+  pub client : ReadsAll rtu_protocol (slave_seen slave) (function_asked asked) sent held answer
+
+-- what `exchange` promises
+pub record Exchanges {S : Type 0} (A : Answering S) (before after : S) (slave : ℕ) (asked : Asked) (answer : Answer) : Type 0 where
+  pub only : IsOfMemory answer
+  pub too_long : (size : ℕ) → (answer ≡ Err (Transport (transport.RequestTooLong size))) ↔ ((MAX_PDU < length (request_pdu asked)) × (size ≡ told_size (request_pdu asked)))
+  -- a request that doesn't fit isn't asked
+  pub unasked : MAX_PDU < length (request_pdu asked) → after ≡ before
+  pub asks : Fits (request_pdu asked) → Exchanged A before after slave asked answer
