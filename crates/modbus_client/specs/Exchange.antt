@@ -24,19 +24,21 @@ use Rattle.modbus_client.specs.Rtu.{rtu_protocol, slave_seen}
 -- the cuts of the first so many reads, each of which gives as many bytes as its room holds
 abbrev pub full_cuts : ℕ → List ℕ → List ℕ
 full_cuts zero bytes = []
-full_cuts (suc n) bytes = full_cuts n bytes ++ min ((n + 1) * ROOM) (length bytes) ∷ []
+full_cuts (suc n) bytes = full_cuts n bytes ++ min (suc n * ROOM) (length bytes) ∷ []
 
--- the answers that come neither of a link nor of a limit of turns
-abbrev pub IsOfMemory : Answer → Type 0
-IsOfMemory (Err (Transport transport.NotConnected)) = ⊥
-IsOfMemory (Err (Transport transport.ReadFault)) = ⊥
-IsOfMemory (Err (Transport transport.WriteFault)) = ⊥
-IsOfMemory (Err (Transport transport.TurnLimit)) = ⊥
-IsOfMemory _ = Unit {0}
+-- the answers of a call that gets bytes and then their end
+abbrev pub IsOfReplies : Answer → Type 0
+IsOfReplies (Err (Transport transport.NotConnected)) = ⊥
+IsOfReplies (Err (Transport (transport.RequestTooLong size))) = ⊥
+IsOfReplies (Err (Transport transport.WriteFault)) = ⊥
+IsOfReplies (Err (Transport transport.ReadFault)) = ⊥
+IsOfReplies (Err (Transport transport.TurnLimit)) = ⊥
+IsOfReplies _ = Unit {0}
 
 -- A call that was asked gets these bytes, as many in each read as its room holds, and then their end: so many reads were made of them,
 -- and it ended so.
 pub record ReadsAll {H : Type 0} (P : Protocol H) (asked : HeaderSeen) (function : FunctionCode) (bytes held : List ℕ) (answer : Answer) : Type 0 where
+  pub only : IsOfReplies answer
   pub reads : ℕ
   pub ends : EndsAs P asked function (take (reads * ROOM) bytes) (full_cuts reads bytes) held answer
   pub ended : EndsRead answer (drop (reads * ROOM) bytes)
@@ -50,21 +52,16 @@ IsWanting _ = ⊥
 -- A request that fits was asked: the server was given its frame in one piece as the whole input and appended `sent`, and the call
 -- answers what these bytes give. Where memory is refused to the server the exchange answers that.
 pub record Exchanged {S : Type 0} (A : Answering S) (before after : S) (slave : ℕ) (asked : Asked) (answer : Answer) : Type 0 where
-  pub fed : List ℕ
-  pub cuts : List ℕ
   pub sent : List ℕ
   pub served : Result (Unit {0}) ProcessError
-  pub whole : ((fed ≡ frame slave (request_pdu asked)) × (cuts ≡ length fed ∷ [])) ⊎ ((fed ≡ []) × (cuts ≡ []) × (served ≡ Err process.NoMemory))
   pub only : IsOfNoRead served
-  pub server : server.EndsAs rtu A fed cuts before after sent served
+  pub server : server.EndsAs rtu A (frame slave (request_pdu asked)) (length (frame slave (request_pdu asked)) ∷ []) before after sent served
   pub wanting : IsWanting served → answer ≡ Err NoMemory
   pub held : List ℕ
   pub client : ReadsAll rtu_protocol (slave_seen slave) (function_asked asked) sent held answer
 
--- what `exchange` promises
+-- What `exchange` promises. A request that doesn't fit isn't asked, and one that fits may find no memory before it is.
 pub record Exchanges {S : Type 0} (A : Answering S) (before after : S) (slave : ℕ) (asked : Asked) (answer : Answer) : Type 0 where
-  pub only : IsOfMemory answer
   pub too_long : (size : ℕ) → (answer ≡ Err (Transport (transport.RequestTooLong size))) ↔ ((MAX_PDU < length (request_pdu asked)) × (size ≡ told_size (request_pdu asked)))
-  -- a request that doesn't fit isn't asked
   pub unasked : MAX_PDU < length (request_pdu asked) → after ≡ before
-  pub asks : Fits (request_pdu asked) → Exchanged A before after slave asked answer
+  pub asks : Fits (request_pdu asked) → Exchanged A before after slave asked answer ⊎ ((answer ≡ Err NoMemory) × (after ≡ before))

@@ -12,7 +12,7 @@ use Rattle.modbus_server.specs.Serving.{Stands, Served, remaining}
 use Rattle.modbus_server.specs.State.{State}
 use Rattle.modbus_server.specs.Taking.{Took, Fed, told_next, IsToldWell}
 use Rattle.modbus_server.specs.Piece.{IsOfNoRead, ServedHeld, ServedPiece}
-use Rattle.modbus_server.proofs.Standing.{opened, sent_on, halted, wanting}
+use Rattle.modbus_server.proofs.Standing.{sent_on, halted}
 use Rattle.modbus_server.proofs.Stepping.{ends_told, other_than}
 
 module _ (F : Framing) {S : Type 0} (A : Answering S) (start : S) (held : List ℕ) (old : List ℕ) where
@@ -108,32 +108,21 @@ module _ (F : Framing) {S : Type 0} (A : Answering S) (start : S) (held : List �
     }
 
 -- the whole of a piece
-module _ (F : Framing) {S : Type 0} (A : Answering S) (before : S) (piece : List ℕ) (stands : F.StandsFor [] [] [] []) (old : List ℕ) where
+module _ (F : Framing) {S : Type 0} (A : Answering S) (before : S) (piece : List ℕ) (old : List ℕ) where
   pub unopened : ServedPiece F A piece before before old old (Err NoMemory)
-  unopened = record {
-    fed = [];
-    cuts = [];
-    sent = [];
-    whole = inr (refl, refl, refl);
-    appended = sym (append-nil old);
-    only = tt;
-    ends = wanting F A [] [] [] before before [] [] (opened F A before stands) (inr (inr refl));
-  }
+  unopened = record { sent = []; appended = sym (append-nil old); only = tt; ends = inr (refl, refl, refl) }
 
   -- all of it was fed, and nothing was taken yet
   began_with : (held : List ℕ) → F.StandsFor piece (length piece ∷ []) held [] → Stands F A piece (length piece ∷ []) held before before [] [] []
   began_with held fed = record { taken = []; stands = fed; asked = refl; run = refl; fit = All-nil (Fits F); wrote = refl; late = ([], refl) }
 
-  pub piece_served : (after : S) (new : List ℕ) (opening fed : State) (result : _) → opening.held ≡ [] → Fed F opening fed piece → 0 < length piece
+  pub piece_served : (after : S) (new : List ℕ) (opening fed : State) (result : _) → F.StandsFor [] [] [] [] → opening.held ≡ [] → Fed F opening fed piece → 0 < length piece
       → ServedHeld F A fed.held before after old new result → ServedPiece F A piece before after old new result
-  piece_served after new opening fed result empty grown some served =
+  piece_served after new opening fed result stands empty grown some served =
       let began : F.StandsFor [] [] opening.held [] = subst (λ h. F.StandsFor [] [] h []) (sym empty) stands in
       record {
-        fed = piece;
-        cuts = length piece ∷ [];
         sent = served.sent;
-        whole = inl (refl, refl);
         appended = served.appended;
         only = served.only;
-        ends = served.ends piece (length piece ∷ []) [] before [] (began_with fed.held (grown.grows [] [] [] began some));
+        ends = inl (served.ends piece (length piece ∷ []) [] before [] (began_with fed.held (grown.grows [] [] [] began some)));
       }

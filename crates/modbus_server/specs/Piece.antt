@@ -21,13 +21,10 @@ pub record ServedHeld (F : Framing) {S : Type 0} (A : Answering S) (held : List 
   pub ends : (bytes cuts written : List ℕ) (opening : S) (exchanges : List (Exchange F)) → Stands F A bytes cuts held opening before written [] exchanges
       → EndsAs F A bytes cuts opening after (written ++ sent) result
 
--- Of a piece as the whole input, which one read gave: the run ends so, and these bytes are appended to the replies. Where memory for a
--- connection was refused nothing was fed.
+-- Of a piece as the whole input, which one read gave: the run ends so, and these bytes are appended to the replies. Or memory for a
+-- connection was refused, and nothing was done.
 pub record ServedPiece (F : Framing) {S : Type 0} (A : Answering S) (piece : List ℕ) (before after : S) (old new : List ℕ) (result : Result (Unit {0}) ProcessError) : Type 0 where
-  pub fed : List ℕ
-  pub cuts : List ℕ
   pub sent : List ℕ
-  pub whole : ((fed ≡ piece) × (cuts ≡ length piece ∷ [])) ⊎ ((fed ≡ []) × (cuts ≡ []) × (result ≡ Err NoMemory))
   pub appended : new ≡ old ++ sent
   pub only : IsOfNoRead result
-  pub ends : EndsAs F A fed cuts before after sent result
+  pub ends : EndsAs F A piece (length piece ∷ []) before after sent result ⊎ ((result ≡ Err NoMemory) × (after ≡ before) × (sent ≡ []))

@@ -1,8 +1,8 @@
 //! A request to a service without a transport: a call and a connection take turns over memory.
-ghost use Rattle.std.specs.Prelude.{◌≡◌, ◌^◌, ◌-◌, []};
+ghost use Rattle.std.specs.Prelude.{◌≡◌, ◌↔◌, ◌^◌, ◌-◌, [], IsTrue};
 ghost use Rattle.modbus_frame.specs.Meaning.{meaning};
 ghost use Rattle.modbus_client.specs.Call.{Stands};
-ghost use Rattle.modbus_client.specs.Exchange.{ReadsAll, Exchanges};
+ghost use Rattle.modbus_client.specs.Exchange.{IsWanting, ReadsAll, Exchanges};
 
 use crate::call::{Call, ROOM};
 use crate::protocol::Protocol;
@@ -26,13 +26,23 @@ fn receive_all<P: Protocol>(call: &mut Call<P>, alloc: Global, replies: &[u8]) -
         if call.make_room().is_err() {
             return Err(Error::NoMemory);
         }
-        let (piece, rest) = left.split_at(left.len().min(ROOM));
+        let (piece, rest) = left.split_at(ROOM.min(left.len()));
         if let Some(answer) = call.feed(alloc, piece) {
             return answer;
         }
         left = rest;
     }
     Err(Error::Transport(call.end()))
+}
+
+/// Whether memory was refused to the server.
+fn lacked_memory(served: &std::result::Result<(), ProcessError>) -> bool
+    ensures { IsTrue result ↔ IsWanting served.now }
+{
+    matches!(
+        served,
+        Err(ProcessError::NoMemory | ProcessError::WriteFault)
+    )
 }
 
 /// Asks a service, or another answerer, a request to a slave, with no transport between them.
@@ -52,6 +62,7 @@ pub fn exchange<V: Answerer>(
 ) -> Result<Response>
     ensures { Exchanges V.answering service.old service.new slave.0 (meaning request.entry) result }
 {
+    modbus_rtu::laws::verdicts_by_offset();
     let header = Header { slave_id: slave.0 };
     let space = BytesMut::new(alloc);
     let mut call = match Call::<Frames>::open(alloc, header, &request, u64::MAX, space) {
@@ -62,10 +73,10 @@ pub fn exchange<V: Answerer>(
         Err(EncodeError::NoMemory) => return Err(Error::NoMemory),
     };
     let mut replies = BytesMut::new(alloc);
-    match serve_piece::<Inbox, V>(alloc, call.to_write(), service, &mut replies) {
-        Err(ProcessError::NoMemory | ProcessError::WriteFault) => return Err(Error::NoMemory),
-        // What a server tells of its input, its client sees in the bytes alone.
-        Ok(()) | Err(_) => {}
+    // What a server tells of its input, its client sees by the bytes of the replies alone.
+    let served = serve_piece::<Inbox, V>(alloc, call.to_write(), service, &mut replies);
+    if lacked_memory(&served) {
+        return Err(Error::NoMemory);
     }
     let count = call.to_write().len();
     call.wrote(count);
