@@ -9,3 +9,5 @@ pub mod FrameAlone
 pub mod OneAdu
 pub mod Completing
 pub mod Exactly
+pub mod Exchanging
+pub mod Exchanged

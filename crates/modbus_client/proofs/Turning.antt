@@ -33,7 +33,7 @@ module _ {H : Type 0} (P : Protocol H) where
   still bytes cuts held held' e finds = rw (append-nil bytes, append-nil cuts, e) finds
 
   -- an answer of the bytes ends the call
-  answered_ends : (asked : HeaderSeen) (function : FunctionCode) (bytes cuts held : List ℕ) (answer : Answer) → IsAnswered P asked function bytes cuts held answer → CallEndsAs P asked function bytes cuts held answer
+  pub answered_ends : (asked : HeaderSeen) (function : FunctionCode) (bytes cuts held : List ℕ) (answer : Answer) → IsAnswered P asked function bytes cuts held answer → CallEndsAs P asked function bytes cuts held answer
   answered_ends asked function bytes cuts held (Ok result) is = is
   answered_ends asked function bytes cuts held (Err (protocol fault)) is = is
   answered_ends asked function bytes cuts held (Err (Transport (transport.InvalidResponse reason))) is = is
@@ -58,7 +58,7 @@ fed_spends (Some (Err (Transport (transport.InvalidProtocol number)))) late = tt
 fed_spends (Some (Err (Transport _))) late = absurd late
 fed_spends (Some (Err NoMemory)) late = tt
 
-fed_goes : (answer : Option Answer) (left : List ℕ) → IsOfBytesIfSome answer → TurnEnds answer left
+pub fed_goes : (answer : Option Answer) (left : List ℕ) → IsOfBytesIfSome answer → TurnEnds answer left
 fed_goes None left late = tt
 fed_goes (Some (Ok result)) left late = tt
 fed_goes (Some (Err (protocol fault))) left late = tt

@@ -43,7 +43,7 @@ pub idle : (P : List ℕ → List ℕ → List ℕ → Type 0) (bytes cuts writt
 idle P bytes cuts written p = along P (bytes ++ []) bytes (cuts ++ []) cuts (written ++ []) written (append-nil bytes) (append-nil cuts) (append-nil written) p
 
 module _ (F : Framing) {S : Type 0} (A : Answering S) where
-  ends_told : {E : Type 0} (told : E → ProcessError) (bytes cuts held : List ℕ) (opening now : S) (written waiting : List ℕ) (exchanges : List (Exchange F)) (error : NextError E)
+  pub ends_told : {E : Type 0} (told : E → ProcessError) (bytes cuts held : List ℕ) (opening now : S) (written waiting : List ℕ) (exchanges : List (Exchange F)) (error : NextError E)
       → IsToldWell told error → TakesAs F A told bytes cuts held opening now written waiting exchanges (Err error) → EndsAs F A bytes cuts opening now written (Err (told_next told error))
   ends_told told bytes cuts held opening now written waiting exchanges (next.Broken fault) own served =
       of_framing (λ e. Served F A bytes cuts opening now written (broken e) → EndsAs F A bytes cuts opening now written (Err e)) (λ s. s) (λ s. s) (λ p s. s) (told fault) own served
@@ -58,7 +58,7 @@ module _ (F : Framing) {S : Type 0} (A : Answering S) where
   last_told told bytes cuts held opening now written waiting exchanges (next.TooLong size) own served = tt
   last_told told bytes cuts held opening now written waiting exchanges next.NoMemory own (wanting, request) = inl request
 
-  other_than : {E : Type 0} (told : E → ProcessError) (P : ProcessError → Type 0) → P TooManyRetries → P InvalidLength → ((p : ℕ) → P (InvalidProtocol p)) → ((r : _) → P (InvalidRequest r)) → ((n : ℕ) → P (ResponseTooLong n)) → P NoMemory
+  pub other_than : {E : Type 0} (told : E → ProcessError) (P : ProcessError → Type 0) → P TooManyRetries → P InvalidLength → ((p : ℕ) → P (InvalidProtocol p)) → ((r : _) → P (InvalidRequest r)) → ((n : ℕ) → P (ResponseTooLong n)) → P NoMemory
       → (error : NextError E) → IsToldWell told error → P (told_next told error)
   other_than told P a b d e f h (next.Broken fault) own = of_framing P a b d (told fault) own
   other_than told P a b d e f h (next.Refused reason) own = e reason

@@ -5,6 +5,7 @@ pub mod Answer
 pub mod Serving
 pub mod Taking
 pub mod Moving
+pub mod Piece
 pub mod Stepping
 pub mod Stopping
 pub mod Complete
