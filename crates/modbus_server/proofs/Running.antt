@@ -1,5 +1,5 @@
 -- One step after others is one run of steps, with a look at a signal before each.
-use Rattle.std.proofs.Common.{◌≡◌, ℕ, ◌+◌, ◌<◌, ◌≤◌, List, [], ◌∷◌, ◌++◌, length, refl, sym, ap, ◌∙◌, subst, arith, add-one, Result, Ok, Err, Bool, true, false, IsTrue, inr}
+use Rattle.std.proofs.Common.{◌≡◌, ℕ, ◌+◌, ◌<◌, ◌≤◌, List, [], ◌∷◌, ◌++◌, length, refl, sym, ap, ◌∙◌, subst, arith, add-one, Result, Ok, Err, Bool, true, false, length-append, IsTrue, inr}
 use Rattle.modbus_frame.specs.declared.server.Terminated.TheVariants.{Finished, Aborted}
 use Rattle.modbus_link.specs.Outside.{Input, Output, Rose, shifted}
 use Rattle.modbus_link.specs.Passing.{Passes, passes_both, passes_none}
