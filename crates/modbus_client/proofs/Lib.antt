@@ -9,3 +9,4 @@ pub mod FrameAlone
 pub mod OneUnit
 pub mod Completing
 pub mod Exactly
+pub mod Boxing

@@ -10,3 +10,6 @@ pub mod Rtu
 pub mod Tcp
 pub mod TcpClient
 pub mod Exactly
+pub mod Typed
+pub mod Boxed
+pub mod Connecting

@@ -7,14 +7,22 @@
 mod call;
 mod caller;
 mod client;
+mod context;
 mod drive;
 pub mod laws;
 mod matching;
+pub mod prelude;
 mod protocol;
+mod reader;
 pub mod rtu;
 pub mod tcp;
+mod typed;
+mod writer;
 
 pub use crate::call::{Call, ROOM};
 pub use crate::caller::TURNS;
 pub use crate::client::Client;
+pub use crate::context::Context;
 pub use crate::protocol::{LookError, Protocol, Reply};
+pub use crate::reader::Reader;
+pub use crate::writer::Writer;
