@@ -10,3 +10,4 @@ pub mod OneUnit
 pub mod Completing
 pub mod Exactly
 pub mod Boxing
+pub mod Connecting

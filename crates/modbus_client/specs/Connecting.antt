@@ -12,7 +12,7 @@ use Rattle.modbus_client.specs.State.{UnitState, attached}
 -- is as it was given, but for the timeout, which is set on it too.
 pub record IsConnected {L : Type 0} (line : L → Line) (input : L → Input) (output : L → Output) (unit : ℕ) (timeout : Option Duration) (given : L) (client : UnitState L) : Type 0 where
   pub state : client ≡ record { client = record (attached client.client.link unit) { timeout = timeout }; next = 0 }
-  pub line : line client.client.link ≡ record (line given) { timeout = timeout }
+  pub timed : line client.client.link ≡ record (line given) { timeout = timeout }
   pub source : input client.client.link ≡ input given
   pub sink : output client.client.link ≡ output given
 
