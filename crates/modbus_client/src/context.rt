@@ -1,4 +1,4 @@
-//! A client behind a box.
+//! A client behind a box, for programs that choose its type as they run.
 ghost use Rattle.std.specs.Prelude.{◌≡◌};
 ghost use Rattle.modbus_client.specs.Boxed.{boxed, Becomes};
 
@@ -6,14 +6,14 @@ use crate::client::Client;
 use modbus_frame::{Request, Response, Result, ShutdownFault, Slave, SlaveContext};
 use std::time::Duration;
 
-/// A client of any type. It does what the client in its box does, which stays of its type.
+/// A client of any type, in a box. Each of its calls is that of the client in the box.
 #[derive(Drop)]
 pub struct Context {
     client: Box<dyn Client>,
 }
 
 impl Context {
-    /// Sets no timeout.
+    /// Lets each read and write take any time from then on: `set_timeout` with `None`.
     pub fn reset_timeout(&mut self)
         ensures keeps { ⟦<Context as Client>⟧.time_limit self.new ≡ None }
         ensures limits { ⟦<Context as Client>⟧.limits self.old None self.new }

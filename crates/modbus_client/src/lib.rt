@@ -1,7 +1,8 @@
 //! Modbus clients: a client sends a request over its link and waits for the reply, whatever pieces its bytes come in.
 //!
 //! A `Call` is a machine without IO: it has the bytes of a request to be written, and is fed the bytes that come. The clients of a
-//! serial line and of TCP drive it over a link, with blocking reads and writes.
+//! serial line and of TCP drive it over a link, with blocking reads and writes. Every `Client` has the typed calls of `Reader` and
+//! `Writer`, also a caller's own one; a `Context` is any of them behind a box.
 #![tactic(auto)]
 
 mod call;
