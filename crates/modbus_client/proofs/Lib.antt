@@ -11,3 +11,5 @@ pub mod Completing
 pub mod Exactly
 pub mod Exchanging
 pub mod Exchanged
+pub mod Boxing
+pub mod Connecting

@@ -16,10 +16,10 @@ pub record Disconnected {L : Type 0} (line : L → Line) (input : L → Input) (
   pub fault : (f : ShutdownFault) → result ≡ Err f → Rose (line old.link).faults (line new.link).faults
   pub again : old.is_connected ≡ false → (new ≡ old) × (result ≡ Ok tt)
 
--- The timeout is kept, and set on the link of a connected client.
+-- The timeout is kept, and set on the link of a connected client, which stays as it was otherwise.
 pub record Limited {L : Type 0} (line : L → Line) (input : L → Input) (output : L → Output) (old : ClientState L) (duration : Option Duration) (new : ClientState L) : Type 0 where
   pub rest : new ≡ record old { link = new.link; timeout = duration }
   pub source : input new.link ≡ input old.link
   pub sink : output new.link ≡ output old.link
-  pub set : IsTrue old.is_connected → (line new.link).timeout ≡ duration
+  pub set : IsTrue old.is_connected → line new.link ≡ record (line old.link) { timeout = duration }
   pub unused : old.is_connected ≡ false → new.link ≡ old.link

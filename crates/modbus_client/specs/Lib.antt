@@ -11,3 +11,6 @@ pub mod Exchange
 pub mod Tcp
 pub mod TcpClient
 pub mod Exactly
+pub mod Typed
+pub mod Boxed
+pub mod Connecting

@@ -1,22 +1,31 @@
 //! Modbus clients: a client sends a request over its link and waits for the reply, whatever pieces its bytes come in.
 //!
 //! A `Call` is a machine without IO: it has the bytes of a request to be written, and is fed the bytes that come. The clients of a
-//! serial line and of TCP drive it over a link, with blocking reads and writes.
+//! serial line and of TCP drive it over a link, with blocking reads and writes. Every `Client` has the typed calls of `Reader` and
+//! `Writer`, also a caller's own one; a `Context` is any of them behind a box.
 #![tactic(auto)]
 
 mod call;
 mod caller;
 mod client;
+mod context;
 mod drive;
 pub mod laws;
 mod local;
 mod matching;
+pub mod prelude;
 mod protocol;
+mod reader;
 pub mod rtu;
 pub mod tcp;
+mod typed;
+mod writer;
 
 pub use crate::call::{Call, ROOM};
 pub use crate::caller::TURNS;
 pub use crate::client::Client;
+pub use crate::context::Context;
 pub use crate::local::exchange;
 pub use crate::protocol::{LookError, Protocol, Reply};
+pub use crate::reader::Reader;
+pub use crate::writer::Writer;

@@ -5,19 +5,21 @@ ghost use Rattle.modbus_client.specs.Tcp.{tcp_protocol};
 ghost use Rattle.modbus_client.specs.State.{attached};
 ghost use Rattle.modbus_client.specs.Calling.{IsComplete};
 ghost use Rattle.modbus_client.specs.TcpClient.{TcpCalled, TcpDisconnected, TcpLimited, next_header};
+ghost use Rattle.modbus_client.specs.Connecting.{Connects};
 
 use crate::caller::Caller;
 use crate::protocol::{LookError, Protocol, Reply};
 use bytes::BytesMut;
 use modbus_frame::tcp::Header;
 use modbus_frame::{
-    EncodeError, HeaderSeen, Request, Response, Result, ShutdownFault, Slave, SlaveContext,
-    TransportError,
+    ConnectFault, EncodeError, HeaderSeen, Request, Response, Result, ShutdownFault, Slave,
+    SlaveContext, TransportError,
 };
-use modbus_link::Link;
+use modbus_link::{Connector, Failed, Link};
 use modbus_tcp::{ClientCodec, TcpError, TransactionIds, encode_request_adu};
 use std::alloc::Global;
 use std::marker::Model;
+use std::net::SocketAddr;
 use std::time::Duration;
 
 /// The ADUs of a TCP stream.
@@ -110,6 +112,83 @@ pub fn attach_slave<L: Link>(alloc: Global, link: L, slave: Slave) -> Client<L>
     Client {
         caller: Caller::attach(alloc, link, slave),
         ids: TransactionIds::new(),
+    }
+}
+
+/// A client of unit 255 of the device at an address. It keeps the allocator, and takes no memory yet.
+///
+/// # Errors
+/// `ConnectFault`, only where the connector's count of faults rose.
+pub fn connect<C: Connector>(
+    alloc: Global,
+    connector: &mut C,
+    socket_addr: SocketAddr,
+) -> std::result::Result<Client<C::Link>, ConnectFault>
+where
+    C::Link: Link,
+    ensures { Connects C.connects C.faults C.Link.line C.Link.input C.Link.output connector.old socket_addr 255 None result connector.new }
+{
+    connect_slave(alloc, connector, socket_addr, Slave::tcp_device())
+}
+
+/// A client of a unit of the device at an address, or behind the gateway there. It keeps the allocator, and takes no memory yet.
+///
+/// # Errors
+/// `ConnectFault`, only where the connector's count of faults rose.
+pub fn connect_slave<C: Connector>(
+    alloc: Global,
+    connector: &mut C,
+    socket_addr: SocketAddr,
+    slave: Slave,
+) -> std::result::Result<Client<C::Link>, ConnectFault>
+where
+    C::Link: Link,
+    ensures { Connects C.connects C.faults C.Link.line C.Link.input C.Link.output connector.old socket_addr slave.0 None result connector.new }
+{
+    connect_slave_with_timeout(alloc, connector, socket_addr, slave, None)
+}
+
+/// A client of unit 255 of the device at an address, which connects within `timeout`, as each of its reads and writes then ends. It
+/// keeps the allocator, and takes no memory yet.
+///
+/// # Errors
+/// `ConnectFault`, only where the connector's count of faults rose.
+pub fn connect_with_timeout<C: Connector>(
+    alloc: Global,
+    connector: &mut C,
+    socket_addr: SocketAddr,
+    timeout: Option<Duration>,
+) -> std::result::Result<Client<C::Link>, ConnectFault>
+where
+    C::Link: Link,
+    ensures { Connects C.connects C.faults C.Link.line C.Link.input C.Link.output connector.old socket_addr 255 timeout result connector.new }
+{
+    connect_slave_with_timeout(alloc, connector, socket_addr, Slave::tcp_device(), timeout)
+}
+
+/// A client of a unit of the device at an address, or behind the gateway there, which connects within `timeout`, as each of its reads
+/// and writes then ends. It keeps the allocator, and takes no memory yet.
+///
+/// # Errors
+/// `ConnectFault`, only where the connector's count of faults rose.
+pub fn connect_slave_with_timeout<C: Connector>(
+    alloc: Global,
+    connector: &mut C,
+    socket_addr: SocketAddr,
+    slave: Slave,
+    timeout: Option<Duration>,
+) -> std::result::Result<Client<C::Link>, ConnectFault>
+where
+    C::Link: Link,
+    ensures { Connects C.connects C.faults C.Link.line C.Link.input C.Link.output connector.old socket_addr slave.0 timeout result connector.new }
+{
+    match connector.connect(socket_addr, timeout) {
+        Ok(link) => {
+            let mut client = attach_slave(alloc, link, slave);
+            client.caller.set_timeout(timeout);
+            Ok(client)
+        }
+        Err(Failed) => Err(ConnectFault),
     }
 }
 

@@ -1,7 +1,10 @@
 //! What makes links to addresses.
-ghost use Rattle.std.specs.Prelude.{◌≡◌, ◌↔◌, ℕ, ◌≤◌, None, Some, IsErr, IfOk, OnErr};
+ghost use Rattle.std.specs.Prelude.{◌≡◌, ℕ, ◌≤◌, Option, Result, OnErr};
+ghost use Rattle.std.specs.declared.net.SocketAddr.{SocketAddr};
+ghost use Rattle.std.specs.declared.time.Duration.{Duration};
+ghost use Rattle.modbus_link.specs.declared.outside.Failed.{Failed};
 ghost use Rattle.modbus_link.specs.Outside.{Rose};
-ghost use Rattle.modbus_link.specs.Memory.{faults_after};
+ghost use Rattle.modbus_link.specs.Connects.{ConnectsOnce};
 
 use crate::outside::Failed;
 use std::marker::Model;
@@ -16,12 +19,17 @@ pub trait Connector {
     // how often it failed
     ghost faults: { Self → ℕ };
 
+    // what a connection may lead to, by the state before, what was asked, the answer and the state after; an implementation says it, and
+    // by default nothing is said
+    ghost connects: { Self → SocketAddr → Option Duration → Result Self.Link Failed → Self → Type 0 } = { λ _ _ _ _ _. Unit {0} };
+
     /// Makes a link to an address, within `timeout`; `None` for any time.
     ///
     /// # Errors
     /// `Failed`, only where the connector's count of faults rose.
     fn connect(&mut self, addr: SocketAddr, timeout: Option<Duration>) -> Result<Self::Link, Failed>
         ensures later { faults self.old ≤ faults self.new }
+        ensures connects { connects self.old addr timeout result self.new }
         ensures cause { OnErr result (Rose (faults self.old) (faults self.new)) };
 }
 
@@ -29,6 +37,8 @@ impl<T: Connector> Connector for &mut T {
     type Link = T::Link;
 
     ghost faults = { λ it. T.faults it.now };
+
+    ghost connects = { λ old addr timeout result new. T.connects old.now addr timeout result new.now };
 
     fn connect(&mut self, addr: SocketAddr, timeout: Option<Duration>) -> Result<T::Link, Failed> {
         (**self).connect(addr, timeout)
@@ -64,18 +74,13 @@ impl<L> Connector for MemoryConnector<L> {
 
     ghost faults = { λ connector. connector.faults };
 
+    ghost connects = { λ old addr timeout result new. ConnectsOnce old result new };
+
     /// Gives its link, to whatever address and with whatever timeout.
     ///
     /// # Errors
     /// `Failed`, exactly where it has no link, or has none left.
-    fn connect(&mut self, _addr: SocketAddr, _timeout: Option<Duration>) -> Result<L, Failed>
-        ensures later { self.old.faults ≤ self.new.faults }
-
-        ensures gives { IfOk result (λ link. self.old.link ≡ Some link) }
-        ensures fails { IsErr result ↔ (self.old.link ≡ None) }
-        ensures left { self.new.link ≡ None }
-        ensures counts { self.new.faults ≡ faults_after result self.old.faults }
-    {
+    fn connect(&mut self, _addr: SocketAddr, _timeout: Option<Duration>) -> Result<L, Failed> {
         if let Some(link) = self.link.take() {
             return Ok(link);
         }

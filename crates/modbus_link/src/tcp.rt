@@ -208,17 +208,13 @@ impl<'r, R: Net<Stream = TcpStream>> Connector for TcpConnector<'r, R> {
 
     ghost faults = { λ connector. connector };
 
+    ghost connects = { λ old addr timeout result new. IfOk result (λ link. link ≡ tcp_at_start) × (new ≡ faults_after result old) };
+
     /// Connects to `addr`, within `timeout`. The link that it gives has no timeout for its reads and writes.
     ///
     /// # Errors
     /// `Failed` where there was no connection in time, or the system refused one, as it does within no time at all.
-    fn connect(&mut self, addr: SocketAddr, timeout: Option<Duration>) -> Result<TcpLink, Failed>
-        ensures later { self.old ≤ self.new }
-        ensures cause { OnErr result (Rose self.old self.new) }
-
-        ensures gives { IfOk result (λ link. link ≡ tcp_at_start) }
-        ensures counts { self.new ≡ faults_after result self.old }
-    {
+    fn connect(&mut self, addr: SocketAddr, timeout: Option<Duration>) -> Result<TcpLink, Failed> {
         let connected = match timeout {
             None => TcpStream::connect(self.rt, addr),
             Some(duration) => TcpStream::connect_timeout(self.rt, &addr, duration),
