@@ -111,10 +111,10 @@ impl FlagStop {
         self.flag.store(true, Ordering::Release);
     }
 
-    /// Another share of this flag, with a count of its own. Today's shares need no memory.
+    /// Another share of this flag, with a count of its own. It takes no memory.
     ///
     /// # Errors
-    /// `AllocError` where memory is refused.
+    /// `AllocError` where the flag has as many holders as can be counted.
     pub fn share(&self) -> Result<FlagStop, AllocError>
         ensures { IfOk result (λ stop. stop ≡ 0) }
     {

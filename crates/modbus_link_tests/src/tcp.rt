@@ -53,40 +53,55 @@ fn bytes_go_both_ways_until_the_peer_closes(rt: HostRuntime) -> Result<(), Fail>
     Ok(())
 }
 
+/// How long a read and a write of this stream may take.
+fn timeouts(stream: &TcpStream) -> IoResult<(Option<Duration>, Option<Duration>)> {
+    Ok((stream.read_timeout()?, stream.write_timeout()?))
+}
+
 #[test]
-fn a_timeout_is_set_at_the_next_read_or_write(rt: HostRuntime) -> Result<(), Fail> {
+fn a_timeout_is_set_at_the_next_write_both_ways(rt: HostRuntime) -> Result<(), Fail> {
     let Pair {
         stream,
         handle,
+        peer: _peer,
+    } = open_pair(&rt)?;
+    let mut before = Some(Duration::from_secs(9));
+    handle.set_read_timeout(before)?;
+    handle.set_write_timeout(before)?;
+    let mut link = TcpLink::new(stream);
+    assert_eq!(rt; link.write(b"a"), Ok(1));
+    for limit in [None, Some(Duration::from_secs(2)), None] {
+        link.set_timeout(limit);
+        assert!(rt; timeouts(&handle)? == (before, before));
+        assert_eq!(rt; link.write(b"a"), Ok(1));
+        assert!(rt; timeouts(&handle)? == (limit, limit));
+        before = limit;
+    }
+    Ok(())
+}
+
+#[test]
+fn a_timeout_that_expires_or_is_refused_is_a_fault(rt: HostRuntime) -> Result<(), Fail> {
+    let Pair {
+        stream,
+        handle: _handle,
         mut peer,
     } = open_pair(&rt)?;
-    handle.set_read_timeout(Some(Duration::from_secs(9)))?;
     let mut link = TcpLink::new(stream);
     let mut room = [0u8; 8];
-    peer.write_all(b"a")?;
-    assert_eq!(rt; link.read(&mut room), Ok(1));
-    assert!(rt; handle.read_timeout()? == Some(Duration::from_secs(9)));
-
-    let limit = Some(Duration::from_secs(2));
-    link.set_timeout(limit);
-    assert!(rt; handle.write_timeout()?.is_none());
-    assert_eq!(rt; link.write(b"a"), Ok(1));
-    assert!(rt; handle.read_timeout()? == limit);
-    assert!(rt; handle.write_timeout()? == limit);
-
-    link.set_timeout(Some(Duration::from_millis(50)));
-    assert_eq!(rt; link.read(&mut room), Err(Failed));
-    peer.write_all(b"bc")?;
-    assert_eq!(rt; link.read(&mut room), Ok(2));
-
-    link.set_timeout(Some(Duration::ZERO));
-    peer.write_all(b"d")?;
-    assert_eq!(rt; link.read(&mut room), Err(Failed));
-    assert_eq!(rt; link.write(b"a"), Err(Failed));
-    link.set_timeout(None);
-    assert_eq!(rt; link.read(&mut room), Ok(1));
-    assert!(rt; handle.read_timeout()?.is_none());
-    assert!(rt; handle.write_timeout()?.is_none());
+    let soon = Some(Duration::from_millis(50));
+    let never = Some(Duration::ZERO);
+    for (limit, sent, read, wrote) in [
+        (soon, b"".as_slice(), Err(Failed), Ok(1)),
+        (soon, b"ab".as_slice(), Ok(2), Ok(1)),
+        (never, b"c".as_slice(), Err(Failed), Err(Failed)),
+        (None, b"".as_slice(), Ok(1), Ok(1)),
+    ] {
+        link.set_timeout(limit);
+        peer.write_all(sent)?;
+        assert_eq!(rt; link.read(&mut room), read);
+        assert_eq!(rt; link.write(b"a"), wrote);
+    }
     Ok(())
 }
 
