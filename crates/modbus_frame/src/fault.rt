@@ -148,7 +148,7 @@ impl From<AllocError> for Error {
 /// A response that can be read does not belong to its request. Each fault carries what was received.
 #[derive(Debug, PartialEq, Eq, Drop, thiserror::Error)]
 pub enum ProtocolError {
-    /// The response is of another slave, unit or transaction.
+    /// The response is of another slave, unit identifier or transaction.
     #[error("mismatching headers")]
     HeaderMismatch {
         /// The header of the request.
@@ -178,9 +178,9 @@ pub enum ProtocolError {
 /// What a client compares of two headers.
 #[derive(Clone, Copy, Debug, PartialEq, Eq)]
 pub struct HeaderSeen {
-    /// The transaction of a TCP unit; `None` on a serial line.
+    /// The transaction of an ADU of Modbus TCP; `None` on a serial line.
     pub transaction_id: Option<u16>,
-    /// The slave, or the unit of a TCP unit.
+    /// The slave, or the unit identifier of such an ADU.
     pub slave_id: SlaveId,
 }
 

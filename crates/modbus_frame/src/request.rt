@@ -179,7 +179,7 @@ impl<'a> Request<'a> {
 /// A request, and the slave that it is for.
 #[derive(Debug, PartialEq, Eq, Drop)]
 pub struct SlaveRequest<'a> {
-    /// The slave, or the unit of a TCP request.
+    /// The slave, or the unit identifier of a TCP request.
     pub slave: SlaveId,
     /// What is asked.
     pub request: Request<'a>,

@@ -1,4 +1,4 @@
-//! Units of a TCP stream: an MBAP header and a PDU (MODBUS Messaging on TCP/IP V1.0b, section 3.1).
+//! ADUs of Modbus TCP: an MBAP header and a PDU (MODBUS Messaging on TCP/IP V1.0b, section 3.1).
 //!
 //! The header's protocol number and length are no part of these types: the first is always 0, the second follows from
 //! the PDU.
@@ -8,7 +8,7 @@ use crate::pdu::{RequestPdu, ResponsePdu};
 use crate::request::{Request, SlaveRequest};
 use crate::slave::SlaveId;
 
-/// What the MBAP header of a unit tells (section 3.1.3).
+/// What the MBAP header of an ADU tells (section 3.1.3).
 #[derive(Clone, Copy, Debug, PartialEq, Eq)]
 pub struct Header {
     /// The number that a client gives a request, and the server its response.
@@ -17,7 +17,7 @@ pub struct Header {
     pub unit_id: SlaveId,
 }
 
-/// A request unit of a TCP stream.
+/// The ADU of a request.
 #[derive(Debug, PartialEq, Eq, Drop)]
 pub struct RequestAdu<'a> {
     /// Whom it is for.
@@ -26,7 +26,7 @@ pub struct RequestAdu<'a> {
     pub pdu: RequestPdu<'a>,
 }
 
-/// A response unit of a TCP stream.
+/// The ADU of a response.
 #[derive(Debug, PartialEq, Eq, Drop)]
 pub struct ResponseAdu {
     /// Whom it is from.
