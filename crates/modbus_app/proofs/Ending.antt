@@ -11,8 +11,8 @@ use Rattle.modbus_server.specs.Stepping.{Ran}
 use Rattle.modbus_store.specs.Tables.{Tables}
 use Rattle.modbus_store.specs.Step.{device}
 use Rattle.modbus_app.specs.declared.words.Form.{Form}
-use Rattle.modbus_app.specs.Device.{Answers, Serves, messages_of, opening}
-use Rattle.modbus_app.specs.Ending.{Ends, Tells}
+use Rattle.modbus_app.specs.Device.{EndsServing, Serves, messages_of, opening}
+use Rattle.modbus_app.specs.Ending.{Ends, TellsResult}
 use Rattle.modbus_app.specs.Status.{ending_of, Reports, line_of}
 
 abbrev form_or : Form → Option Form → Form
@@ -28,12 +28,12 @@ module _ (form : Form) (opened now : Tables) (start : opened ≡ opening form) (
   serves result ran = record { now = now; ran = subst (λ t. Ran (messages_of form.framing) device t now from to sunk sinks (2 ^ 64 - 1) result) start ran }
 
   pub ends : (said told : Output) (status : ℕ) (result : Result (Unit {0}) ProcessError) → Ran (messages_of form.framing) device opened now from to sunk sinks (2 ^ 64 - 1) result
-      → ending_of result ≡ Some status → Tells said told result → Ends form from to sunk sinks said told status
+      → ending_of result ≡ Some status → TellsResult said told result → Ends form from to sunk sinks said told status
   ends said told status result ran is tells = record { result = result; is = is; served = inl (serves result ran); tells = tells }
 
   -- where all was served, all that was left was read, and what was appended is the output
   pub answers : Ran (messages_of form.framing) device opened now from to sunk sinks (2 ^ 64 - 1) (Ok tt) → IsTrue from.told → IsTrue sunk.told
-      → Answers form from.left (totals (cuts_made from to)) (bytes_appended sunk sinks) (Ok tt) × (to.left ≡ [])
+      → EndsServing form from.left (totals (cuts_made from to)) (bytes_appended sunk sinks) (Ok tt) × (to.left ≡ [])
   answers ran told told' =
       let ended : to.left ≡ [] = ran.ended told in
       let read : from.left ≡ ran.fed = sym (bytes_read-all from to (ran.passes.source.content told) ended) ∙ ran.passes.read told in

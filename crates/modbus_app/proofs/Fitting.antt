@@ -5,7 +5,7 @@ use Rattle.std.proofs.lemmas.List.Elements.{All-cons, All-nil}
 use Rattle.modbus_frame.specs.Meaning.{Asked}
 use Rattle.modbus_pdu.specs.declared.limits.TheConstants.{MAX_PDU}
 use Rattle.modbus_service.specs.Outcome.{Outcome, reply_pdu, code_of}
-use Rattle.modbus_server.specs.Exchanges.{Exchange, Gives, Run, Fits}
+use Rattle.modbus_server.specs.Exchanges.{Exchange, GivesOutcome, Run, ReplyFits}
 use Rattle.modbus_server.specs.Framing.{Framing, Message}
 use Rattle.modbus_server.specs.Complete.{RepliesFit}
 use Rattle.modbus_server.specs.Serving.{EndsAs, Served, Halts, too_long}
@@ -16,12 +16,12 @@ use Rattle.modbus_store.specs.Step.{device, store_step}
 
 -- where the store's answers fit
 module _ (answers_fit : (code : ℕ) (tables : Tables) (slave : ℕ) (request : Asked) → length (reply_pdu code (store_step tables slave request).0) ≤ MAX_PDU) where
-  pub each_fits : (F : Framing) (old new : Tables) (x : Exchange F) → Gives F device old x new → Fits F x
+  pub each_fits : (F : Framing) (old new : Tables) (x : Exchange F) → GivesOutcome F device old x new → ReplyFits F x
   each_fits F old new x e = omega (arith, ap (λ (o : Outcome × Tables). length (reply_pdu (code_of x.request) o.0)) e, answers_fit (code_of x.request) old (F.slave x.header) x.request)
 
-  all_fit : (F : Framing) (start : Tables) (xs : List (Exchange F)) (end : Tables) → Run F device start xs end → All (Fits F) xs
-  all_fit F start [] end run = All-nil (Fits F)
-  all_fit F start (x ∷ xs) end (next, step, rest) = All-cons (Fits F) x xs (each_fits F start next x step) (all_fit F next xs end rest)
+  all_fit : (F : Framing) (start : Tables) (xs : List (Exchange F)) (end : Tables) → Run F device start xs end → All (ReplyFits F) xs
+  all_fit F start [] end run = All-nil (ReplyFits F)
+  all_fit F start (x ∷ xs) end (next, step, rest) = All-cons (ReplyFits F) x xs (each_fits F start next x step) (all_fit F next xs end rest)
 
   -- so the replies to any input fit
   pub replies_fit : (F : Framing) (start : Tables) (messages : List (Message F)) → RepliesFit F device start messages

@@ -51,8 +51,8 @@ messages_of Rtu = rtu
 messages_of Tcp = tcp
 
 -- how serving the device ended, over all that was read and written; its tables are then those after one run over the requests
-abbrev pub Answers : Form → List ℕ → List ℕ → List ℕ → Result (Unit {0}) ProcessError → Type 0
-Answers form bytes cuts written result = (now : Tables) × EndsAs (messages_of form.framing) device bytes cuts (opening form) now written result
+abbrev pub EndsServing : Form → List ℕ → List ℕ → List ℕ → Result (Unit {0}) ProcessError → Type 0
+EndsServing form bytes cuts written result = (now : Tables) × EndsAs (messages_of form.framing) device bytes cuts (opening form) now written result
 
 -- serving the device, over a source and a sink, with no limit of turns but that of a counter of 64 bits
 pub record Serves (form : Form) (from to : Input) (sunk sinks : Output) (result : Result (Unit {0}) ProcessError) : Type 0 where

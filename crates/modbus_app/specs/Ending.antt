@@ -19,13 +19,13 @@ IsUnserved from to sunk sinks (Err NoMemory) = (to ≡ from) × (sinks ≡ sunk)
 IsUnserved from to sunk sinks _ = ⊥
 
 -- nothing is told where all was served, and else the line of the fault
-abbrev pub Tells : Output → Output → Result (Unit {0}) ProcessError → Type 0
-Tells said told (Ok done) = told ≡ said
-Tells said told (Err error) = Reports said told (line_of error)
+abbrev pub TellsResult : Output → Output → Result (Unit {0}) ProcessError → Type 0
+TellsResult said told (Ok done) = told ≡ said
+TellsResult said told (Err error) = Reports said told (line_of error)
 
 -- Serving ended so. All that is said speaks of one and the same answer of the server.
 pub record Ends (form : Form) (from to : Input) (sunk sinks said told : Output) (status : ℕ) : Type 0 where
   pub result : Result (Unit {0}) ProcessError
   pub is : ending_of result ≡ Some status
   pub served : Serves form from to sunk sinks result ⊎ IsUnserved from to sunk sinks result
-  pub tells : Tells said told result
+  pub tells : TellsResult said told result

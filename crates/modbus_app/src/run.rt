@@ -8,7 +8,7 @@ ghost use Rattle.modbus_server.specs.Stepping.{Ran};
 ghost use Rattle.modbus_store.specs.Step.{device};
 ghost use Rattle.modbus_app.specs.Words.{asked};
 ghost use Rattle.modbus_app.specs.declared.words.Form.{Form};
-ghost use Rattle.modbus_app.specs.Device.{Answers, messages_of};
+ghost use Rattle.modbus_app.specs.Device.{EndsServing, messages_of};
 ghost use Rattle.modbus_app.specs.Ending.{IsUsageFault, Ends};
 
 use crate::device::open;
@@ -45,20 +45,20 @@ fn serve<S: Source, K: Sink>(
 ///
 /// With the words `rtu`, `rtu size` or `rtu size seeded` it serves RTU frames, with a device of four tables of so many entries (1024
 /// where no size is given), which hold 0 at first or a pattern; a broadcast has its effect and no answer. With `tcp` or `tcp size` it
-/// serves units with an MBAP header in the same way, and unit 0 is answered like any other. A status other than 0 is told by a line of
+/// serves ADUs with an MBAP header in the same way, and unit 0 is answered like any other. A status other than 0 is told by a line of
 /// text on `errors`; where that fails, the line is cut short and the status stays.
 ///
 /// | Status | When |
 /// |---|---|
-/// | 0 | the input ended, with no frame or unit begun, and all were answered |
+/// | 0 | the input ended, with no frame or ADU begun, and all were answered |
 /// | 2 | the words are others |
 /// | 3, 4 | the source, the sink failed |
 /// | 5 | twenty offsets in a row, which came with one read, have no frame |
-/// | 6 | the input ended within a frame or unit |
-/// | 7 | the PDU of a frame or unit is no request |
+/// | 6 | the input ended within a frame or ADU |
+/// | 7 | the PDU of a frame or ADU is no request |
 /// | 8 | as many reads gave bytes as a `u64` counts |
-/// | 9 | the header of a unit tells a length of 0 |
-/// | 10 | a unit is of another protocol than Modbus |
+/// | 9 | the header of an ADU tells a length of 0 |
+/// | 10 | an ADU is of another protocol than Modbus |
 /// | 11 | memory was refused |
 pub fn run<S: Source, K: Sink, E: Sink>(
     alloc: Global,
@@ -75,7 +75,7 @@ pub fn run<S: Source, K: Sink, E: Sink>(
     // replies, framed for each request's slave or under its header, that one run of the device gives to the leftmost frames, or to the
     // ADUs, of the whole input in order.
     ensures ok { (form : Form) → asked words.now ≡ Some form → result ≡ 0 → IsTrue (S.input source.old).told → IsTrue (K.output sink.old).told
-        → Answers form (S.input source.old).left (totals (cuts_made (S.input source.old) (S.input source.new)))
+        → EndsServing form (S.input source.old).left (totals (cuts_made (S.input source.old) (S.input source.new)))
         (bytes_appended (K.output sink.old) (K.output sink.new)) (Ok tt) × ((S.input source.new).left ≡ []) }
 
     // Each status is that of an answer of the server, with its cause, what was answered before it, and its text.

@@ -75,7 +75,7 @@ fn push(line: &mut ArrayString<PROTOCOL_LINE>, text: &str)
     }
 }
 
-/// The line of a unit of another protocol.
+/// The line of an ADU of another protocol.
 fn protocol_line(protocol: u16) -> ArrayString<PROTOCOL_LINE>
     ensures { result.bytes ≡ line_of (InvalidProtocol protocol) }
 {

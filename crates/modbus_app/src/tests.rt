@@ -255,11 +255,11 @@ fn faults_have_their_status_and_lose_no_reply(rt: HostRuntime) -> Result<(), Fai
 }
 
 /// A read of one register from address 0 of unit 255, and its reply.
-const READ_UNIT: [u8; 12] = [
+const READ_ADU: [u8; 12] = [
     0x00, 0x00, 0x00, 0x00, 0x00, 0x06, 0xFF, 0x03, 0x00, 0x00, 0x00, 0x01,
 ];
 
-const UNIT_ZERO: [u8; 11] = [
+const ADU_ZERO: [u8; 11] = [
     0x00, 0x00, 0x00, 0x00, 0x00, 0x05, 0xFF, 0x03, 0x02, 0x00, 0x00,
 ];
 
@@ -281,9 +281,9 @@ fn expect_tcp(
 }
 
 #[test]
-fn units_are_answered_one_by_one(rt: HostRuntime) -> Result<(), Fail> {
+fn adus_are_answered_one_by_one(rt: HostRuntime) -> Result<(), Fail> {
     let alloc = rt.alloc();
-    expect_tcp(&rt, alloc, &["tcp"], &READ_UNIT, 0, &UNIT_ZERO, "")?;
+    expect_tcp(&rt, alloc, &["tcp"], &READ_ADU, 0, &ADU_ZERO, "")?;
     expect_tcp(&rt, alloc, &["tcp"], b"", 0, b"", "")?;
     // Unit 0 is answered, here that the device lacks the function.
     let report = [0x00, 0x09, 0x00, 0x00, 0x00, 0x02, 0x00, 0x11];
@@ -313,11 +313,11 @@ fn units_are_answered_one_by_one(rt: HostRuntime) -> Result<(), Fail> {
     ];
     let outside = [0x00, 0x00, 0x00, 0x00, 0x00, 0x03, 0xFF, 0x83, 0x02];
     expect_tcp(&rt, alloc, &["tcp", "1"], &read_second, 0, &outside, "")?;
-    expect_tcp(&rt, alloc, &["tcp", "1"], &READ_UNIT, 0, &UNIT_ZERO, "")
+    expect_tcp(&rt, alloc, &["tcp", "1"], &READ_ADU, 0, &ADU_ZERO, "")
 }
 
 #[test]
-fn units_with_faults_have_their_status(rt: HostRuntime) -> Result<(), Fail> {
+fn adus_with_faults_have_their_status(rt: HostRuntime) -> Result<(), Fail> {
     let alloc = rt.alloc();
     let no_length = [0x00, 0x01, 0x00, 0x00, 0x00, 0x00, 0xFF];
     expect_tcp(
@@ -354,19 +354,19 @@ fn units_with_faults_have_their_status(rt: HostRuntime) -> Result<(), Fail> {
     ];
     let invalid = "modbus: invalid request: invalid coil value\n";
     expect_tcp(&rt, alloc, &["tcp"], &coil, 7, b"", invalid)?;
-    // A reply to an earlier unit is written whole.
-    let mut input = Vec::from_slice(alloc, &READ_UNIT)?;
-    input.extend_from_slice(&READ_UNIT[..6])?;
+    // A reply to an earlier ADU is written whole.
+    let mut input = Vec::from_slice(alloc, &READ_ADU)?;
+    input.extend_from_slice(&READ_ADU[..6])?;
     expect_tcp(
         &rt,
         alloc,
         &["tcp"],
         &input,
         6,
-        &UNIT_ZERO,
+        &ADU_ZERO,
         "modbus: bytes remaining\n",
     )?;
-    let mut input = Vec::from_slice(alloc, &READ_UNIT)?;
+    let mut input = Vec::from_slice(alloc, &READ_ADU)?;
     input.extend_from_slice(&no_length)?;
     expect_tcp(
         &rt,
@@ -374,10 +374,10 @@ fn units_with_faults_have_their_status(rt: HostRuntime) -> Result<(), Fail> {
         &["tcp"],
         &input,
         9,
-        &UNIT_ZERO,
+        &ADU_ZERO,
         "modbus: invalid length\n",
     )?;
-    let (status, _sink, _errors) = ran(alloc, &["tcp", "8", "seeded"], &READ_UNIT, &[], &[], &[])?;
+    let (status, _sink, _errors) = ran(alloc, &["tcp", "8", "seeded"], &READ_ADU, &[], &[], &[])?;
     assert_eq!(rt; status, 2);
     Ok(())
 }

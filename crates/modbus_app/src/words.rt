@@ -37,7 +37,7 @@ pub fn table_size(word: &str) -> Option<u32>
 pub enum Framing {
     /// RTU frames.
     Rtu,
-    /// Units with an MBAP header.
+    /// ADUs with an MBAP header.
     Tcp,
 }
 

@@ -18,7 +18,7 @@ use Rattle.modbus_pdu.specs.ResponseOf.{response_result_of}
 use Rattle.modbus_client.specs.Protocol.{Protocol, Found, waiting, reply, broken, IsOfMessage}
 use Rattle.modbus_client.specs.Matching.{Answer, IsOf, Judges, answer_of}
 use Rattle.modbus_client.specs.Call.{IsJudged}
-use Rattle.modbus_client.specs.Calling.{Ran}
+use Rattle.modbus_client.specs.Calling.{Exchanged}
 
 abbrev pub IsFoundAlone : {H : Type 0} → Protocol H → Type 0
 IsFoundAlone {H} P = (header : H) (pdu bytes rest cuts : List ℕ) (found : Found) → P.IsWhole header pdu → P.adu header pdu ≡ bytes ++ rest → P.Finds bytes cuts found → IsOfMessage (P.seen header) pdu rest found
@@ -44,7 +44,7 @@ module _ {H : Type 0} (P : Protocol H) (alone : IsFoundAlone P) (from to : Input
     (fits : Fits (request_pdu asked)) (told : IsTrue from.told) (no_read : Rose from.faults to.faults → ⊥) (no_write : Rose sunk.faults sinks.faults → ⊥)
     (pdu : List ℕ) (result : Result Response ExceptionResponse) (whole : P.IsWhole header pdu) (means : response_result_of pdu ≡ Ok result) (of : IsOf (function_asked asked) result)
     (left : from.left ≡ P.adu header pdu) (short : length from.left < turns) where
-  module _ (answer : Answer) (r : Ran P from to sunk sinks header asked turns held answer) where
+  module _ (answer : Answer) (r : Exchanged P from to sunk sinks header asked turns held answer) where
     parts : from.left ≡ r.fed ++ to.left
     parts = (r.passes.source.content told).left ∙ ap (λ b. b ++ to.left) (r.passes.read told)
 
@@ -63,7 +63,7 @@ module _ {H : Type 0} (P : Protocol H) (alone : IsFoundAlone P) (from to : Input
     count : length r.made < turns
     count = omega (arith, RisesTo-count 0 (length r.fed) r.made r.passes.rises, ap length parts, length-append r.fed to.left)
 
-  pub completes : (answer : Answer) → Ran P from to sunk sinks header asked turns held answer → (answer ≡ answer_of result) ⊎ (answer ≡ Err NoMemory)
+  pub completes : (answer : Answer) → Exchanged P from to sunk sinks header asked turns held answer → (answer ≡ answer_of result) ⊎ (answer ≡ Err NoMemory)
   completes (Ok x) r = inl (judged (Ok x) r r.ends)
   completes (Err (protocol fault)) r = inl (judged (Err (protocol fault)) r r.ends)
   completes (Err (Transport transport.NotConnected)) r = absurd r.ends

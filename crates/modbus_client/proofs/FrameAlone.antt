@@ -11,10 +11,10 @@ use Rattle.modbus_rtu.specs.declared.verdict.Verdict.TheVariants.{Open, Bad, Goo
 use Rattle.modbus_rtu.specs.Checksum.{crc}
 use Rattle.modbus_rtu.specs.Frame.{frame}
 use Rattle.modbus_rtu.specs.ResponseHead.{response_verdict, HasResponseHead}
-use Rattle.modbus_client.specs.Search.{seen, counts_from, ArePassed, reply, crowd, waiting, Finds}
+use Rattle.modbus_client.specs.Search.{seen, counts_from, ArePassed, reply, crowd, waiting, SearchFinds}
 use Rattle.modbus_client.specs.Protocol as found
 use Rattle.modbus_client.specs.Protocol.{Found, IsOfMessage}
-use Rattle.modbus_client.specs.Rtu.{slave_seen, FindsFrame, HasFrame}
+use Rattle.modbus_client.specs.Rtu.{slave_seen, FindsFrame, FoundFrame}
 
 abbrev pub FramesAreGood : Type 0
 FramesAreGood = (slave : ℕ) (pdu more : List ℕ) → HasResponseHead (slave, pdu) → response_verdict (frame slave pdu ++ more) ≡ Good (length pdu)
@@ -66,7 +66,7 @@ module _ (frame_good : FramesAreGood) (front_open : FrontsAreOpen) (slave : ℕ)
   none_passed [] passed = refl
   none_passed (look ∷ looks) passed = absurd (never_bad look (passed.bad 0 (omega arith)))
 
-  pub no_crowd : (offset : ℕ) → Finds bytes cuts (crowd offset) → ⊥
+  pub no_crowd : (offset : ℕ) → SearchFinds bytes cuts (crowd offset) → ⊥
   no_crowd offset (looks, passed, (e, cut, l, bad, first, is, share)) = omega (arith, none_passed looks passed, e, is)
 
   same_len : {v : Verdict} {n m : ℕ} → v ≡ Good n → v ≡ Good m → n ≡ m
@@ -75,7 +75,7 @@ module _ (frame_good : FramesAreGood) (front_open : FrontsAreOpen) (slave : ℕ)
   open_good : {P : Type 0} {v : Verdict} {n : ℕ} → v ≡ Open → v ≡ Good n → P
   open_good o g = cc
 
-  pub whole_reply : (offset n : ℕ) → Finds bytes cuts (reply offset n) → (offset ≡ 0) × (n ≡ length pdu) × (bytes ≡ frame slave pdu)
+  pub whole_reply : (offset n : ℕ) → SearchFinds bytes cuts (reply offset n) → (offset ≡ 0) × (n ≡ length pdu) × (bytes ≡ frame slave pdu)
   whole_reply offset n (looks, passed, (e, cut, l, good)) =
       let first : offset ≡ 0 = e ∙ none_passed looks passed in
       let good' : seen bytes 0 cut ≡ Good n = subst (λ k. seen bytes k cut ≡ Good n) first good in
@@ -93,7 +93,7 @@ module _ (frame_good : FramesAreGood) (front_open : FrontsAreOpen) (slave : ℕ)
   last_in total (c ∷ d ∷ more) lt = let later = last_in c (d ∷ more) (omega arith) in (suc later.0, omega (arith, later.1), later.2)
 
   -- a search that waits has not seen the whole of it
-  pub not_whole : AreCuts bytes cuts → (offset : ℕ) → Finds bytes cuts (waiting offset) → bytes ≡ frame slave pdu → ⊥
+  pub not_whole : AreCuts bytes cuts → (offset : ℕ) → SearchFinds bytes cuts (waiting offset) → bytes ≡ frame slave pdu → ⊥
   not_whole are offset (looks, passed, (e, waits)) whole = by_cuts cuts refl
     where
       some : 0 < length bytes
@@ -116,7 +116,7 @@ module _ (frame_good : FramesAreGood) (front_open : FrontsAreOpen) (slave : ℕ)
               let all : take (length bytes) bytes ≡ bytes = take_all (length bytes) bytes (omega arith) in
               open_good o (ap response_verdict (all ∙ whole ∙ sym (append-nil (frame slave pdu))) ∙ frame_good slave pdu [] has)
 
-  pub reply_is : (held : List ℕ) (header : HeaderSeen) (found : List ℕ) → HasFrame bytes cuts held header found → (rest ≡ []) × (held ≡ []) × (header ≡ slave_seen slave) × (found ≡ pdu)
+  pub reply_is : (held : List ℕ) (header : HeaderSeen) (found : List ℕ) → FoundFrame bytes cuts held header found → (rest ≡ []) × (held ≡ []) × (header ≡ slave_seen slave) × (found ≡ pdu)
   reply_is held header found r =
       let is = whole_reply r.offset r.pdu_len r.finds in
       let parts = frame_parts slave pdu in

@@ -6,8 +6,10 @@ pub mod Looking
 pub mod OneSearch
 pub mod OneFrame
 pub mod FrameAlone
-pub mod OneUnit
+pub mod OneAdu
 pub mod Completing
 pub mod Exactly
 pub mod Boxing
 pub mod Connecting
+pub mod Exchanging
+pub mod Exchanged

@@ -8,7 +8,7 @@ use Rattle.modbus_rtu.specs.declared.verdict.Verdict.TheVariants.{Open}
 use Rattle.modbus_rtu.specs.declared.search.Next.TheVariants.{Frame, Waiting, TooManyRetries}
 use Rattle.modbus_rtu.specs.ResponseHead.{response_verdict}
 use Rattle.modbus_rtu.specs.Next.{IsNextBy}
-use Rattle.modbus_client.specs.Rtu.{slave_seen, Waits, HasFrame, HasCrowd}
+use Rattle.modbus_client.specs.Rtu.{slave_seen, Waits, FoundFrame, FoundCrowd}
 use Rattle.modbus_client.proofs.Searching.{frame_found, crowd_found, waits_on, rest_from, place_is}
 
 module _ (nothing_open : response_verdict [] ≡ Open) (bytes cuts earlier : List ℕ) (s : Waits bytes cuts earlier) (more old : List ℕ) (is : old ≡ earlier ++ more) (some : 0 < length more) where
@@ -20,7 +20,7 @@ module _ (nothing_open : response_verdict [] ≡ Open) (bytes cuts earlier : Lis
 
   -- a frame is the reply
   pub looks_reply : (start n : ℕ) (header : HeaderSeen) (new : List ℕ) → IsNextBy response_verdict old (Frame start n) → header ≡ slave_seen (slice_index old start)
-      → new ≡ drop (start + (n + 3)) old → HasFrame all all_cuts new header (take n (drop (start + 1) old))
+      → new ≡ drop (start + (n + 3)) old → FoundFrame all all_cuts new header (take n (drop (start + 1) old))
   looks_reply start n header new next from rest = record {
     offset = s.place + start;
     pdu_len = n;
@@ -33,7 +33,7 @@ module _ (nothing_open : response_verdict [] ≡ Open) (bytes cuts earlier : Lis
     holds = rest ∙ ap (drop (start + (n + 3))) is ∙ rest_from nothing_open bytes cuts earlier s more some (start + (n + 3)) ∙ ap (λ k. drop k all) (omega arith);
   }
 
-  pub looks_crowd : (new : List ℕ) → IsNextBy response_verdict old TooManyRetries → new ≡ drop 20 old → HasCrowd all all_cuts new too_many
+  pub looks_crowd : (new : List ℕ) → IsNextBy response_verdict old TooManyRetries → new ≡ drop 20 old → FoundCrowd all all_cuts new too_many
   looks_crowd new next rest = record {
     offset = s.place + 19;
     finds = crowd_found nothing_open bytes cuts earlier s more some (subst (λ h. IsNextBy response_verdict h TooManyRetries) is next);

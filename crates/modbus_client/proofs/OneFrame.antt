@@ -5,7 +5,7 @@ use Rattle.modbus_frame.specs.declared.fault.HeaderSeen.{HeaderSeen}
 use Rattle.modbus_frame.specs.declared.fault.TransportError.{TransportError}
 use Rattle.modbus_client.specs.Protocol.{Found, waiting, reply, broken}
 use Rattle.modbus_client.specs.Search as search
-use Rattle.modbus_client.specs.Rtu.{slave_seen, FindsFrame, HasFrame}
+use Rattle.modbus_client.specs.Rtu.{slave_seen, FindsFrame, FoundFrame}
 use Rattle.modbus_client.proofs.OneSearch.{one_search}
 
 pub same_reply : (h h' : List ℕ) (s s' : HeaderSeen) (p p' : List ℕ) → h ≡ h' → s ≡ s' → p ≡ p' → reply h s p ≡ reply h' s' p'
@@ -15,7 +15,7 @@ pub same_broken : (h h' : List ℕ) (f f' : TransportError) → h ≡ h' → f �
 same_broken h h' f f' e g = ap (λ x. broken x f) e ∙ ap (λ x. broken h' x) g
 
 module _ (bytes cuts : List ℕ) where
-  same_frame : (held held' : List ℕ) (header header' : HeaderSeen) (pdu pdu' : List ℕ) → HasFrame bytes cuts held header pdu → HasFrame bytes cuts held' header' pdu' → reply held header pdu ≡ reply held' header' pdu'
+  same_frame : (held held' : List ℕ) (header header' : HeaderSeen) (pdu pdu' : List ℕ) → FoundFrame bytes cuts held header pdu → FoundFrame bytes cuts held' header' pdu' → reply held header pdu ≡ reply held' header' pdu'
   same_frame held held' header header' pdu pdu' a b =
       let e : search.reply a.offset a.pdu_len ≡ search.reply b.offset b.pdu_len = one_search bytes cuts (search.reply a.offset a.pdu_len) (search.reply b.offset b.pdu_len) a.finds b.finds in
       let at : a.offset ≡ b.offset = cc in

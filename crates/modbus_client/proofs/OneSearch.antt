@@ -4,7 +4,7 @@ use Rattle.std.specs.Prelude.{Contains, slice_index}
 use Rattle.std.proofs.lemmas.Bool.{cases_lt}
 use Rattle.modbus_rtu.specs.declared.verdict.Verdict.{Verdict}
 use Rattle.modbus_rtu.specs.declared.verdict.Verdict.TheVariants.{Open, Bad, Good}
-use Rattle.modbus_client.specs.Search.{seen, IsLookedAt, counts_from, Share, ArePassed, Found, reply, crowd, waiting, IsFoundAfter, Finds}
+use Rattle.modbus_client.specs.Search.{seen, IsLookedAt, counts_from, Share, ArePassed, SearchState, reply, crowd, waiting, IsFoundAfter, SearchFinds}
 
 module _ (bytes cuts : List ℕ) where
   -- an offset is looked at in one cut
@@ -45,7 +45,7 @@ module _ (bytes cuts : List ℕ) where
         | inr ge ↦ (let is : i ≡ 19 = omega (arith, ge, lt) in subst (λ j. slice_index ys (first + j) ≡ cut) (sym is) last)
       ]
 
-      not_shorter : (f : Found) → IsFoundAfter bytes cuts xs f → ⊥
+      not_shorter : (f : SearchState) → IsFoundAfter bytes cuts xs f → ⊥
       not_shorter (reply offset len) (e, cut, l, good) =
           let same : cut ≡ slice_index ys offset = same_cut (counts_from xs offset) offset cut (slice_index ys offset) l (look offset e) in
           let bad = bad_at offset e in
@@ -85,7 +85,7 @@ module _ (bytes cuts : List ℕ) where
   good_bad : {v w : Verdict} {n : ℕ} → v ≡ w → v ≡ Good n → w ≡ Bad → ⊥
   good_bad e g h = cc (e, g, h)
 
-  same_found : (xs ys : List ℕ) (p : ArePassed bytes cuts xs) (q : ArePassed bytes cuts ys) → length xs ≡ length ys → (f g : Found)
+  same_found : (xs ys : List ℕ) (p : ArePassed bytes cuts xs) (q : ArePassed bytes cuts ys) → length xs ≡ length ys → (f g : SearchState)
       → IsFoundAfter bytes cuts xs f → IsFoundAfter bytes cuts ys g → f ≡ g
   same_found xs ys p q equal (reply offset n) (reply other m) (e, c, l, good) (e', d, l', good') =
       same_reply offset other n m (e ∙ equal ∙ sym e') (good_same (same_seen xs ys p q equal offset other e e' c d l l') good good')
@@ -100,7 +100,7 @@ module _ (bytes cuts : List ℕ) where
   same_found xs ys p q equal (waiting offset) (crowd other) (e, waits) (e', d, l', bad, first, is, share) = absurd (not_waiting xs ys p q equal offset other e e' d l' waits)
   same_found xs ys p q equal (waiting offset) (waiting other) (e, waits) (e', waits') = ap waiting (e ∙ equal ∙ sym e')
 
-  pub one_search : (f g : Found) → Finds bytes cuts f → Finds bytes cuts g → f ≡ g
+  pub one_search : (f g : SearchState) → SearchFinds bytes cuts f → SearchFinds bytes cuts g → f ≡ g
   one_search f g (xs, p, found) (ys, q, found') = elim (cases_lt (length xs) (length ys)) [
     | inl lt ↦ absurd (not_shorter xs ys p q lt f found)
     | inr ge ↦ elim (cases_lt (length ys) (length xs)) [

@@ -10,8 +10,8 @@ use Rattle.modbus_frame.specs.declared.fault.HeaderSeen.{HeaderSeen}
 use Rattle.modbus_frame.specs.declared.fault.TransportError.TheVariants as transport
 use Rattle.modbus_client.specs.Protocol.{Protocol}
 use Rattle.modbus_client.specs.Matching.{Answer}
-use Rattle.modbus_client.specs.Call.{CallState, Stands, IsSameCall}
-use Rattle.modbus_client.specs.Calling.{HasRoom, EndsAs, spending_of, IsOneRead, TurnsAs, TurnSpends, Turned, IsOfReply, Received}
+use Rattle.modbus_client.specs.Call.{CallState, CallStands, IsSameCall}
+use Rattle.modbus_client.specs.Calling.{HasRoom, CallEndsAs, call_spending, IsOneRead, TurnsAs, TurnSpends, Turned, IsOfReply, Received}
 
 pub rose_later : (a b c : ℕ) → a ≤ b → Rose b c → Rose a c
 rose_later a b c le rose = omega (arith, rose)
@@ -25,7 +25,7 @@ late_turn (Err (Transport transport.WriteFault)) count spends = spends
 late_turn (Err (Transport _)) count spends = tt
 late_turn (Err NoMemory) count spends = tt
 
-spends_by : (answer : Answer) (made count turns : ℕ) → TurnSpends (Some answer) count → count ≤ 1 → made < turns → Spends (spending_of answer) (made + count) turns
+spends_by : (answer : Answer) (made count turns : ℕ) → TurnSpends (Some answer) count → count ≤ 1 → made < turns → Spends (call_spending answer) (made + count) turns
 spends_by (Ok result) made count turns spends most less = omega arith
 spends_by (Err (protocol fault)) made count turns spends most less = omega arith
 spends_by (Err (Transport transport.BrokenPipe)) made count turns spends most less = omega (arith, spends)
@@ -53,13 +53,13 @@ module _ {H : Type 0} (P : Protocol H) where
     pub fed : List ℕ
     pub made : List (ℕ × ℕ)
     pub passes : Passes from to sunk sinks fed made []
-    pub stands : Stands P first.request fed (totals made) call
+    pub stands : CallStands P first.request fed (totals made) call
     pub same : IsSameCall first call
     pub written : call.unwritten ≡ []
     pub rooms : HaveRooms HasRoom fed 0 made
     pub within : call.reads ≤ call.turns
 
-  pub going : (a : Input) (k : Output) (call : CallState) → call.unwritten ≡ [] → Stands P call.request [] [] call → Going a a k k call call
+  pub going : (a : Input) (k : Output) (call : CallState) → call.unwritten ≡ [] → CallStands P call.request [] [] call → Going a a k k call call
   going a k call written stands = record {
     fed = [];
     made = [];
@@ -101,7 +101,7 @@ module _ {H : Type 0} (P : Protocol H) where
 
     pub goes_on : Turned P b c l m old new None → Going a c k m first new
     goes_on t =
-        let stands : Stands P first.request (g.fed ++ t.fed) (totals (g.made ++ shifted (length g.fed) t.made)) new = all_turns None t in
+        let stands : CallStands P first.request (g.fed ++ t.fed) (totals (g.made ++ shifted (length g.fed) t.made)) new = all_turns None t in
         record {
           fed = g.fed ++ t.fed;
           made = g.made ++ shifted (length g.fed) t.made;
@@ -122,11 +122,11 @@ module _ {H : Type 0} (P : Protocol H) where
       ends =
           let all : List ℕ = g.fed ++ t.fed in
           let cuts : List ℕ = totals (g.made ++ shifted (length g.fed) t.made) in
-          subst (λ (asked : HeaderSeen). EndsAs P asked first.function all cuts new.held answer) (all_same (Some answer) t).asked
-          (subst (λ (function : FunctionCode). EndsAs P new.asked function all cuts new.held answer) (all_same (Some answer) t).function (all_turns (Some answer) t));
+          subst (λ (asked : HeaderSeen). CallEndsAs P asked first.function all cuts new.held answer) (all_same (Some answer) t).asked
+          (subst (λ (function : FunctionCode). CallEndsAs P new.asked function all cuts new.held answer) (all_same (Some answer) t).function (all_turns (Some answer) t));
       ended = λ told. t.ended (g.passes.source.told ∙ told);
-      spends = subst (λ n. Spends (spending_of answer) n first.turns) (sym (all_made (Some answer) t))
-          (subst (λ n. Spends (spending_of answer) (length g.made + length t.made) n) g.same.turns
+      spends = subst (λ n. Spends (call_spending answer) n first.turns) (sym (all_made (Some answer) t))
+          (subst (λ n. Spends (call_spending answer) (length g.made + length t.made) n) g.same.turns
           (spends_by answer (length g.made) (length t.made) old.turns t.spends (once_most t.fed t.made t.once) (omega (arith, made_is (Some answer) t))));
       rooms = all_rooms (Some answer) t;
       read_fault = λ e. rose_later a.faults b.faults c.faults g.passes.source.later (t.read_fault (ap Some e));

@@ -9,7 +9,7 @@ use Rattle.modbus_rtu.specs.declared.verdict.Verdict.TheVariants.{Open, Bad, Goo
 use Rattle.modbus_rtu.specs.ResponseHead.{response_verdict}
 use Rattle.modbus_rtu.specs.declared.search.Next.TheVariants.{Frame, Waiting, TooManyRetries}
 use Rattle.modbus_rtu.specs.Next.{AreBadBy, IsNextBy}
-use Rattle.modbus_client.specs.Search.{seen, IsLookedAt, counts_from, Share, ArePassed, reply, crowd, waiting, Finds}
+use Rattle.modbus_client.specs.Search.{seen, IsLookedAt, counts_from, Share, ArePassed, reply, crowd, waiting, SearchFinds}
 use Rattle.modbus_client.specs.Rtu.{Waits}
 use Rattle.modbus_link.specs.Reads.{last_cut, Rise, AreCuts}
 
@@ -182,11 +182,11 @@ module _ (bytes cuts more looks : List ℕ) (bounds : (c : ℕ) → Contains cut
   passed_more = record { looked = looked; bad = all_bad; calm = calm }
 
   -- how the next offset stands
-  pub found_more : (len : ℕ) → response_verdict (drop (n + m) (bytes ++ more)) ≡ Good len → Finds (bytes ++ more) cuts_now (reply (n + m) len)
+  pub found_more : (len : ℕ) → response_verdict (drop (n + m) (bytes ++ more)) ≡ Good len → SearchFinds (bytes ++ more) cuts_now (reply (n + m) len)
   found_more len good =
       (looks_now, passed_more, (sym looks_length, now, next_looked m (omega arith) (good_decided refl good), seen_now (bytes ++ more) (n + m) ∙ good))
 
-  pub crowd_more : m ≡ 19 → response_verdict (drop (n + m) (bytes ++ more)) ≡ Bad → Finds (bytes ++ more) cuts_now (crowd (n + m))
+  pub crowd_more : m ≡ 19 → response_verdict (drop (n + m) (bytes ++ more)) ≡ Bad → SearchFinds (bytes ++ more) cuts_now (crowd (n + m))
   crowd_more full bad' = (
     looks_now,
     passed_more,
@@ -201,7 +201,7 @@ module _ (bytes cuts more looks : List ℕ) (bounds : (c : ℕ) → Contains cut
     ),
   )
 
-  pub waits_more : response_verdict (drop (n + m) (bytes ++ more)) ≡ Open → Finds (bytes ++ more) cuts_now (waiting (n + m))
+  pub waits_more : response_verdict (drop (n + m) (bytes ++ more)) ≡ Open → SearchFinds (bytes ++ more) cuts_now (waiting (n + m))
   waits_more open' = (
     looks_now,
     passed_more,
@@ -256,7 +256,7 @@ waits_at_first = record {
 }
 
 -- the offset at which the search waits lies within
-place_within : response_verdict [] ≡ Open → (bytes cuts : List ℕ) (place : ℕ) → Finds bytes cuts (waiting place) → place ≤ length bytes
+place_within : response_verdict [] ≡ Open → (bytes cuts : List ℕ) (place : ℕ) → SearchFinds bytes cuts (waiting place) → place ≤ length bytes
 place_within nothing_open bytes cuts zero finds = omega arith
 place_within nothing_open bytes cuts (suc k) (looks, passed, found) =
     omega (arith, looked_within nothing_open bytes cuts (counts_from looks k) k (slice_index looks k) (passed.looked k (omega (arith, found.0))))
@@ -286,17 +286,17 @@ module _ (nothing_open : response_verdict [] ≡ Open) (bytes cuts held : List �
 
   -- a frame is the reply
   pub frame_found : (start len : ℕ) → IsNextBy response_verdict (held ++ more) (Frame start len)
-      → Finds (bytes ++ more) (cuts ++ length (bytes ++ more) ∷ []) (reply (s.place + start) len)
+      → SearchFinds (bytes ++ more) (cuts ++ length (bytes ++ more) ∷ []) (reply (s.place + start) len)
   frame_found start len (few, bad, good) =
-      subst (λ n. Finds (bytes ++ more) (cuts ++ length (bytes ++ more) ∷ []) (reply (n + start) len)) (sym at)
+      subst (λ n. SearchFinds (bytes ++ more) (cuts ++ length (bytes ++ more) ∷ []) (reply (n + start) len)) (sym at)
       (found_more bytes cuts more s.finds.0 (cuts_within bytes cuts s.are_cuts) some s.finds.1 waits_at start few (bad_from start bad) len
       (ap response_verdict (sym (from_place start)) ∙ good))
 
   -- twenty bad offsets are a crowd
   pub crowd_found : IsNextBy response_verdict (held ++ more) TooManyRetries
-      → Finds (bytes ++ more) (cuts ++ length (bytes ++ more) ∷ []) (crowd (s.place + 19))
+      → SearchFinds (bytes ++ more) (cuts ++ length (bytes ++ more) ∷ []) (crowd (s.place + 19))
   crowd_found bad =
-      subst (λ n. Finds (bytes ++ more) (cuts ++ length (bytes ++ more) ∷ []) (crowd (n + 19))) (sym at)
+      subst (λ n. SearchFinds (bytes ++ more) (cuts ++ length (bytes ++ more) ∷ []) (crowd (n + 19))) (sym at)
       (crowd_more bytes cuts more s.finds.0 (cuts_within bytes cuts s.are_cuts) some s.finds.1 waits_at 19 (omega arith)
       (λ i lt. bad_from 20 bad i (omega (arith, lt))) refl (bad_from 20 bad 19 (omega arith)))
 
@@ -306,7 +306,7 @@ module _ (nothing_open : response_verdict [] ≡ Open) (bytes cuts held : List �
   waits_on dropped (few, bad, open') = record {
     are_cuts = cuts_more bytes cuts more s.are_cuts some;
     place = s.place + dropped;
-    finds = subst (λ n. Finds (bytes ++ more) (cuts ++ length (bytes ++ more) ∷ []) (waiting (n + dropped))) (sym at)
+    finds = subst (λ n. SearchFinds (bytes ++ more) (cuts ++ length (bytes ++ more) ∷ []) (waiting (n + dropped))) (sym at)
         (waits_more bytes cuts more s.finds.0 (cuts_within bytes cuts s.are_cuts) some s.finds.1 waits_at dropped few (bad_from dropped bad)
         (ap response_verdict (sym (from_place dropped)) ∙ open'));
     holds = held_from held more bytes s.place dropped (place_is nothing_open bytes cuts held s more);

@@ -12,8 +12,8 @@ use Rattle.modbus_frame.specs.declared.fault.TransportError.TheVariants as trans
 use Rattle.modbus_client.specs.declared.call.TheConstants.{ROOM}
 use Rattle.modbus_client.specs.Protocol.{Protocol, waiting}
 use Rattle.modbus_client.specs.Matching.{Answer}
-use Rattle.modbus_client.specs.Call.{CallState, Stands, IsSameCall, IsAnswered, IsOfBytesIfSome, FeedsAs, Fed, TellsEnd}
-use Rattle.modbus_client.specs.Calling.{EndsAs, TurnsAs, TurnSpends, TurnEnds, Turned}
+use Rattle.modbus_client.specs.Call.{CallState, CallStands, IsSameCall, IsAnswered, IsOfBytesIfSome, FeedsAs, CallFed, TellsEnd}
+use Rattle.modbus_client.specs.Calling.{CallEndsAs, TurnsAs, TurnSpends, TurnEnds, Turned}
 
 pub keeps_more : (old now new : CallState) (w : List ℕ) → now ≡ record old { unwritten = now.unwritten } → new ≡ record now { unwritten = w } → new ≡ record old { unwritten = new.unwritten }
 keeps_more old now new w e f =
@@ -33,7 +33,7 @@ module _ {H : Type 0} (P : Protocol H) where
   still bytes cuts held held' e finds = rw (append-nil bytes, append-nil cuts, e) finds
 
   -- an answer of the bytes ends the call
-  answered_ends : (asked : HeaderSeen) (function : FunctionCode) (bytes cuts held : List ℕ) (answer : Answer) → IsAnswered P asked function bytes cuts held answer → EndsAs P asked function bytes cuts held answer
+  pub answered_ends : (asked : HeaderSeen) (function : FunctionCode) (bytes cuts held : List ℕ) (answer : Answer) → IsAnswered P asked function bytes cuts held answer → CallEndsAs P asked function bytes cuts held answer
   answered_ends asked function bytes cuts held (Ok result) is = is
   answered_ends asked function bytes cuts held (Err (protocol fault)) is = is
   answered_ends asked function bytes cuts held (Err (Transport (transport.InvalidResponse reason))) is = is
@@ -58,7 +58,7 @@ fed_spends (Some (Err (Transport (transport.InvalidProtocol number)))) late = tt
 fed_spends (Some (Err (Transport _))) late = absurd late
 fed_spends (Some (Err NoMemory)) late = tt
 
-fed_goes : (answer : Option Answer) (left : List ℕ) → IsOfBytesIfSome answer → TurnEnds answer left
+pub fed_goes : (answer : Option Answer) (left : List ℕ) → IsOfBytesIfSome answer → TurnEnds answer left
 fed_goes None left late = tt
 fed_goes (Some (Ok result)) left late = tt
 fed_goes (Some (Err (protocol fault))) left late = tt
@@ -77,43 +77,41 @@ none_left [] ys e = e
 none_left (x ∷ xs) ys e = cc
 
 module _ {H : Type 0} (P : Protocol H) (a b : Input) (k m : Output) (old new : CallState) where
-  -- memory was refused before the read
-  pub turned_none : (n : ℕ) → b ≡ a → m ≡ k → new ≡ record old { free = n } → Turned P a b k m old new (Some (Err NoMemory))
-  turned_none n same same' e = record {
+  -- nothing was fed, and the call ended so
+  turned_so : (answer : Answer) (n : ℕ) → new ≡ record old { free = n } → Passes a b k m [] [] [] → TurnSpends (Some answer) 0
+      → ((written bytes cuts : List ℕ) → CallStands P written bytes cuts old → CallEndsAs P new.asked new.function (bytes ++ []) (cuts ++ []) new.held answer)
+      → (IsTrue a.told → TurnEnds (Some answer) b.left) → (answer ≡ Err (Transport transport.ReadFault) → Rose a.faults b.faults) → Turned P a b k m old new (Some answer)
+  turned_so answer n e passes spends ends ended fault = record {
     fed = [];
     made = [];
-    passes = subst (λ i. Passes a i k m [] [] []) (sym same) (subst (λ o. Passes a a k o [] [] []) (sym same') (passes_none a k));
+    passes = passes;
     once = inl (refl, refl);
-    spends = tt;
+    spends = spends;
     same = same_call old new n e;
     unwritten = ap (λ (s : CallState). s.unwritten) e;
-    stands = λ written bytes cuts s. tt;
-    ended = λ told. tt;
-    read_fault = λ bad. cc;
+    stands = ends;
+    ended = ended;
+    read_fault = λ is. fault cc;
   }
+
+  -- memory was refused before the read
+  pub turned_none : (n : ℕ) → b ≡ a → m ≡ k → new ≡ record old { free = n } → Turned P a b k m old new (Some (Err NoMemory))
+  turned_none n same same' e =
+      turned_so (Err NoMemory) n e (subst (λ i. Passes a i k m [] [] []) (sym same) (subst (λ o. Passes a a k o [] [] []) (sym same') (passes_none a k)))
+      tt (λ written bytes cuts s. tt) (λ told. tt) (λ bad. cc)
 
   module _ (n : ℕ) (e : new ≡ record old { free = n }) (same : m ≡ k) (adv : Advances a b) where
     nothing : {E : Type 0} (before after : List ℕ) (result : Result ℕ E) → (IsTrue a.told → ReadIsTold a b before after result) → (IsTrue a.told → bytes_read a b ≡ []) → (IsTrue a.told → cuts_made a b ≡ []) → Passes a b k m [] [] []
     nothing before after result told none no_cut = passes_in a b k m [] [] same adv none no_cut refl
 
-    waits : (written bytes cuts : List ℕ) → Stands P written bytes cuts old → P.Finds (bytes ++ []) (cuts ++ []) (waiting new.held)
+    waits : (written bytes cuts : List ℕ) → CallStands P written bytes cuts old → P.Finds (bytes ++ []) (cuts ++ []) (waiting new.held)
     waits written bytes cuts s = still P bytes cuts old.held new.held (ap (λ (s : CallState). s.held) e) s.finds
 
     -- the read failed
     pub turned_fault : {E : Type 0} (f : E) (before after : List ℕ) → (IsTrue a.told → ReadIsTold {E = E} a b before after (Err f)) → Rose a.faults b.faults
         → Turned P a b k m old new (Some (Err (Transport transport.ReadFault)))
-    turned_fault {E} f before after told rose = record {
-      fed = [];
-      made = [];
-      passes = nothing {E = E} before after (Err f) told (λ t. (told t).bytes) (λ t. (told t).cuts);
-      once = inl (refl, refl);
-      spends = refl;
-      same = same_call old new n e;
-      unwritten = ap (λ (s : CallState). s.unwritten) e;
-      stands = waits;
-      ended = λ t. tt;
-      read_fault = λ is. rose;
-    }
+    turned_fault {E} f before after told rose =
+        turned_so (Err (Transport transport.ReadFault)) n e (nothing {E = E} before after (Err f) told (λ t. (told t).bytes) (λ t. (told t).cuts)) refl waits (λ t. tt) (λ is. rose)
 
     -- the input ended
     pub turned_end : {E : Type 0} (count : ℕ) (before after : List ℕ) (fault : TransportError) → count ≡ 0 → (IsTrue a.told → ReadIsTold {E = E} a b before after (Ok count)) → TellsEnd new.held fault
@@ -133,34 +131,14 @@ module _ {H : Type 0} (P : Protocol H) (a b : Input) (k m : Output) (old new : C
         passes = nothing {E = E} before after (Ok count) told none no_cut
 
         by_fault : (fault : TransportError) → TellsEnd new.held fault → Turned P a b k m old new (Some (Err (Transport fault)))
-        by_fault transport.BrokenPipe tells = record {
-          fed = [];
-          made = [];
-          passes = passes;
-          once = inl (refl, refl);
-          spends = refl;
-          same = same_call old new n e;
-          unwritten = ap (λ (s : CallState). s.unwritten) e;
-          stands = λ written bytes cuts s. (waits written bytes cuts s, tells);
-          ended = ended;
-          read_fault = λ is. cc;
-        }
-        by_fault transport.BytesRemaining tells = record {
-          fed = [];
-          made = [];
-          passes = passes;
-          once = inl (refl, refl);
-          spends = refl;
-          same = same_call old new n e;
-          unwritten = ap (λ (s : CallState). s.unwritten) e;
-          stands = λ written bytes cuts s. (waits written bytes cuts s, tells);
-          ended = ended;
-          read_fault = λ is. cc;
-        }
+        by_fault transport.BrokenPipe tells =
+            turned_so (Err (Transport transport.BrokenPipe)) n e passes refl (λ written bytes cuts s. (waits written bytes cuts s, tells)) ended (λ is. cc)
+        by_fault transport.BytesRemaining tells =
+            turned_so (Err (Transport transport.BytesRemaining)) n e passes refl (λ written bytes cuts s. (waits written bytes cuts s, tells)) ended (λ is. cc)
         by_fault _ tells = absurd tells
 
   -- the read gave bytes, which were fed
-  pub turned_some : {E : Type 0} (mid : CallState) (free count : ℕ) (before after piece : List ℕ) (answer : Option Answer) → mid ≡ record old { free = free } → Fed P mid new piece answer
+  pub turned_some : {E : Type 0} (mid : CallState) (free count : ℕ) (before after piece : List ℕ) (answer : Option Answer) → mid ≡ record old { free = free } → CallFed P mid new piece answer
       → m ≡ k → Advances a b → (IsTrue a.told → ReadIsTold {E = E} a b before after (Ok count)) → piece ≡ take count after → (count ≡ 0 → ⊥) → count ≤ length after → length before ≡ ROOM
       → Turned P a b k m old new answer
   turned_some mid free count before after piece answer e fed same adv told is some within room =
@@ -184,7 +162,7 @@ module _ {H : Type 0} (P : Protocol H) (a b : Input) (k m : Output) (old new : C
         };
         unwritten = fed.unwritten ∙ ap (λ (s : CallState). s.unwritten) e;
         stands = λ written bytes cuts s.
-            let s' : Stands P written bytes cuts mid = subst (Stands P written bytes cuts) (sym e) (record { wrote = s.wrote; first = s.first; finds = s.finds; counted = s.counted }) in
+            let s' : CallStands P written bytes cuts mid = subst (CallStands P written bytes cuts) (sym e) (record { wrote = s.wrote; first = s.first; finds = s.finds; counted = s.counted }) in
             subst (λ (n : ℕ). TurnsAs P written (bytes ++ piece) (cuts ++ n ∷ []) new answer) (length-append bytes piece)
             (fed_turns P written (bytes ++ piece) (cuts ++ length (bytes ++ piece) ∷ []) new answer (fed.stands written bytes cuts s'));
         ended = λ t. fed_goes answer b.left fed.late;

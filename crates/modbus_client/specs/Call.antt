@@ -37,7 +37,7 @@ pub record CallState : Type 0 where
 
 -- What a call that waits stands for: these bytes were written, which are a front of the request, and then those were fed with these
 -- cuts. It reads only once the whole request is written.
-pub record Stands {H : Type 0} (P : Protocol H) (written bytes cuts : List ℕ) (call : CallState) : Type 0 where
+pub record CallStands {H : Type 0} (P : Protocol H) (written bytes cuts : List ℕ) (call : CallState) : Type 0 where
   pub wrote : call.request ≡ written ++ call.unwritten
   pub first : call.unwritten ≢ [] → bytes ≡ []
   pub finds : P.Finds bytes cuts (waiting call.held)
@@ -59,8 +59,8 @@ pub record IsSameCall (old new : CallState) : Type 0 where
 
 -- A call is opened where its PDU fits; it was given nothing yet. Where it isn't opened the PDU is too long, with its size, or memory
 -- is wanting for one that fits.
-pub record Opens {H : Type 0} (P : Protocol H) (header : H) (asked : Asked) (turns : ℕ) (result : Result CallState EncodeError) : Type 0 where
-  pub stands : IfOk result (λ call. Stands P [] [] [] call)
+pub record OpensCall {H : Type 0} (P : Protocol H) (header : H) (asked : Asked) (turns : ℕ) (result : Result CallState EncodeError) : Type 0 where
+  pub stands : IfOk result (λ call. CallStands P [] [] [] call)
   pub asks : IfOk result (λ call. IsCallFor P header asked turns call)
   pub empty : IfOk result (λ call. call.held ≡ [])
   pub fits : OnOk result (Fits (request_pdu asked))
@@ -111,16 +111,16 @@ IsOfBytesIfSome (Some answer) = IsOfBytes answer
 
 -- what a call that was fed is then: it waits on, or it has its answer
 abbrev pub FeedsAs : {H : Type 0} → Protocol H → List ℕ → List ℕ → List ℕ → CallState → Option Answer → Type 0
-FeedsAs P written bytes cuts call None = Stands P written bytes cuts call
+FeedsAs P written bytes cuts call None = CallStands P written bytes cuts call
 FeedsAs P written bytes cuts call (Some answer) = IsAnswered P call.asked call.function bytes cuts call.held answer
 
 -- What `feed` promises: for all that the call stood for, it goes on by the piece.
-pub record Fed {H : Type 0} (P : Protocol H) (old new : CallState) (piece : List ℕ) (answer : Option Answer) : Type 0 where
+pub record CallFed {H : Type 0} (P : Protocol H) (old new : CallState) (piece : List ℕ) (answer : Option Answer) : Type 0 where
   pub same : IsSameCall old new
   pub unwritten : new.unwritten ≡ old.unwritten
   pub reads : new.reads ≡ old.reads + 1
   pub late : IsOfBytesIfSome answer
-  pub stands : (written bytes cuts : List ℕ) → Stands P written bytes cuts old
+  pub stands : (written bytes cuts : List ℕ) → CallStands P written bytes cuts old
       → FeedsAs P written (bytes ++ piece) (cuts ++ length (bytes ++ piece) ∷ []) new answer
 
 -- how the end of the input is told, by what is held then

@@ -18,9 +18,9 @@ use Rattle.modbus_pdu.specs.ResponseOf.{response_result_of}
 use Rattle.modbus_client.specs.declared.call.TheConstants.{ROOM}
 use Rattle.modbus_client.specs.Protocol.{Protocol, waiting}
 use Rattle.modbus_client.specs.Matching.{Answer, IsOf, answer_of}
-use Rattle.modbus_client.specs.Call.{CallState, Stands, IsSameCall, IsAnswered, IsOfBytes}
-use Rattle.modbus_client.specs.Sending.{Writes, IsOfSending, stays_connected}
-use Rattle.modbus_client.specs.State.{State, Keeps}
+use Rattle.modbus_client.specs.Call.{CallState, CallStands, IsSameCall, IsAnswered, IsOfBytes}
+use Rattle.modbus_client.specs.Sending.{WritesRequest, IsOfSending, stays_connected}
+use Rattle.modbus_client.specs.State.{ClientState, KeepsSettings}
 
 -- each read has room for so many bytes
 abbrev pub HasRoom : List ℕ → ℕ → Type 0
@@ -28,29 +28,29 @@ HasRoom bytes room = room ≡ ROOM
 
 -- How a connected call ended, by all bytes that it read and their cuts, and by what is then held. An answer of the bytes is that of the
 -- search in them; where the input ended, a read failed or the last turn was made, the search waits.
-abbrev pub EndsAs : {H : Type 0} → Protocol H → HeaderSeen → FunctionCode → List ℕ → List ℕ → List ℕ → Answer → Type 0
-EndsAs P asked function bytes cuts held (Err (Transport transport.NotConnected)) = ⊥
-EndsAs P asked function bytes cuts held (Err (Transport (transport.RequestTooLong size))) = (bytes ≡ []) × (held ≡ [])
-EndsAs P asked function bytes cuts held (Err (Transport transport.WriteFault)) = (bytes ≡ []) × (held ≡ [])
-EndsAs P asked function bytes cuts held (Err (Transport transport.ReadFault)) = P.Finds bytes cuts (waiting held)
-EndsAs P asked function bytes cuts held (Err (Transport transport.TurnLimit)) = P.Finds bytes cuts (waiting held)
-EndsAs P asked function bytes cuts held (Err (Transport transport.BrokenPipe)) = P.Finds bytes cuts (waiting held) × (held ≡ [])
-EndsAs P asked function bytes cuts held (Err (Transport transport.BytesRemaining)) = P.Finds bytes cuts (waiting held) × (held ≢ [])
-EndsAs P asked function bytes cuts held answer = IsAnswered P asked function bytes cuts held answer
+abbrev pub CallEndsAs : {H : Type 0} → Protocol H → HeaderSeen → FunctionCode → List ℕ → List ℕ → List ℕ → Answer → Type 0
+CallEndsAs P asked function bytes cuts held (Err (Transport transport.NotConnected)) = ⊥
+CallEndsAs P asked function bytes cuts held (Err (Transport (transport.RequestTooLong size))) = (bytes ≡ []) × (held ≡ [])
+CallEndsAs P asked function bytes cuts held (Err (Transport transport.WriteFault)) = (bytes ≡ []) × (held ≡ [])
+CallEndsAs P asked function bytes cuts held (Err (Transport transport.ReadFault)) = P.Finds bytes cuts (waiting held)
+CallEndsAs P asked function bytes cuts held (Err (Transport transport.TurnLimit)) = P.Finds bytes cuts (waiting held)
+CallEndsAs P asked function bytes cuts held (Err (Transport transport.BrokenPipe)) = P.Finds bytes cuts (waiting held) × (held ≡ [])
+CallEndsAs P asked function bytes cuts held (Err (Transport transport.BytesRemaining)) = P.Finds bytes cuts (waiting held) × (held ≢ [])
+CallEndsAs P asked function bytes cuts held answer = IsAnswered P asked function bytes cuts held answer
 
 -- a call ends with the input
-abbrev pub EndsRead : Answer → List ℕ → Type 0
-EndsRead (Err (Transport transport.BrokenPipe)) left = left ≡ []
-EndsRead (Err (Transport transport.BytesRemaining)) left = left ≡ []
-EndsRead _ left = Unit {0}
+abbrev pub CallEndsRead : Answer → List ℕ → Type 0
+CallEndsRead (Err (Transport transport.BrokenPipe)) left = left ≡ []
+CallEndsRead (Err (Transport transport.BytesRemaining)) left = left ≡ []
+CallEndsRead _ left = Unit {0}
 
 -- how many of the turns were spent
-abbrev pub spending_of : Answer → Spending
-spending_of (Err (Transport transport.BrokenPipe)) = fewer_turns
-spending_of (Err (Transport transport.BytesRemaining)) = fewer_turns
-spending_of (Err (Transport transport.ReadFault)) = fewer_turns
-spending_of (Err (Transport transport.TurnLimit)) = all_turns
-spending_of _ = some_turns
+abbrev pub call_spending : Answer → Spending
+call_spending (Err (Transport transport.BrokenPipe)) = fewer_turns
+call_spending (Err (Transport transport.BytesRemaining)) = fewer_turns
+call_spending (Err (Transport transport.ReadFault)) = fewer_turns
+call_spending (Err (Transport transport.TurnLimit)) = all_turns
+call_spending _ = some_turns
 
 -- Sending a request, over every link: so many bytes were sent, nothing was read, and nothing is held.
 pub record Sent {X : Type 0} {H : Type 0} (P : Protocol H) (from to : Input) (sunk sinks : Output) (header : H) (asked : Asked) (held : List ℕ) (answer : Result X Error) : Type 0 where
@@ -60,7 +60,7 @@ pub record Sent {X : Type 0} {H : Type 0} (P : Protocol H) (from to : Input) (su
   pub only : IfErr answer IsOfSending
   -- a request is too long exactly where its PDU is
   pub too_long : (size : ℕ) → (answer ≡ Err (Transport (transport.RequestTooLong size))) ↔ ((MAX_PDU < length (request_pdu asked)) × (size ≡ told_size (request_pdu asked)))
-  pub writes : Writes (P.adu header (request_pdu asked)) sent answer
+  pub writes : WritesRequest (P.adu header (request_pdu asked)) sent answer
   pub write_fault : answer ≡ Err (Transport transport.WriteFault) → Rose sunk.faults sinks.faults
   pub emptied : held ≡ []
 
@@ -70,8 +70,8 @@ IsOneRead fed made = ((fed ≡ []) × (made ≡ [])) ⊎ ((0 < length fed) × (m
 
 -- what a call is after a turn, by what it stood for
 abbrev pub TurnsAs : {H : Type 0} → Protocol H → List ℕ → List ℕ → List ℕ → CallState → Option Answer → Type 0
-TurnsAs P written bytes cuts call None = Stands P written bytes cuts call
-TurnsAs P written bytes cuts call (Some answer) = EndsAs P call.asked call.function bytes cuts call.held answer
+TurnsAs P written bytes cuts call None = CallStands P written bytes cuts call
+TurnsAs P written bytes cuts call (Some answer) = CallEndsAs P call.asked call.function bytes cuts call.held answer
 
 -- A turn on which the call waits on has read. One that tells the end of the input, or a fault of the source, has read nothing; else it
 -- ends with an answer of the bytes.
@@ -84,7 +84,7 @@ TurnSpends (Some answer) count = IsOfBytes answer
 
 abbrev pub TurnEnds : Option Answer → List ℕ → Type 0
 TurnEnds None left = Unit {0}
-TurnEnds (Some answer) left = EndsRead answer left
+TurnEnds (Some answer) left = CallEndsRead answer left
 
 pub record Turned {H : Type 0} (P : Protocol H) (from to : Input) (sunk sinks : Output) (old new : CallState) (answer : Option Answer) : Type 0 where
   pub fed : List ℕ
@@ -94,7 +94,7 @@ pub record Turned {H : Type 0} (P : Protocol H) (from to : Input) (sunk sinks : 
   pub spends : TurnSpends answer (length made)
   pub same : IsSameCall old new
   pub unwritten : new.unwritten ≡ old.unwritten
-  pub stands : (written bytes cuts : List ℕ) → Stands P written bytes cuts old
+  pub stands : (written bytes cuts : List ℕ) → CallStands P written bytes cuts old
       → TurnsAs P written (bytes ++ fed) (cuts ++ totals (shifted (length bytes) made)) new answer
   pub ended : IsTrue from.told → TurnEnds answer to.left
   pub read_fault : answer ≡ Some (Err (Transport transport.ReadFault)) → Rose from.faults to.faults
@@ -112,15 +112,15 @@ pub record Received {H : Type 0} (P : Protocol H) (from to : Input) (sunk sinks 
   pub made : List (ℕ × ℕ)
   pub passes : Passes from to sunk sinks fed made []
   pub late : IsOfReply answer
-  pub ends : EndsAs P asked function fed (totals made) held answer
-  pub ended : IsTrue from.told → EndsRead answer to.left
-  pub spends : Spends (spending_of answer) (length made) turns
+  pub ends : CallEndsAs P asked function fed (totals made) held answer
+  pub ended : IsTrue from.told → CallEndsRead answer to.left
+  pub spends : Spends (call_spending answer) (length made) turns
   pub rooms : HaveRooms HasRoom fed 0 made
   pub read_fault : answer ≡ Err (Transport transport.ReadFault) → Rose from.faults to.faults
 
 -- What a connected client does with a link to ask this under this header, by its answer and by what it then holds. It holds for every
 -- link: `fed` are the bytes that it read, `made` the cuts and rooms of the reads that gave them, and `sent` the bytes that it wrote.
-pub record Ran {H : Type 0} (P : Protocol H) (from to : Input) (sunk sinks : Output) (header : H) (asked : Asked) (turns : ℕ) (held : List ℕ) (answer : Answer) : Type 0 where
+pub record Exchanged {H : Type 0} (P : Protocol H) (from to : Input) (sunk sinks : Output) (header : H) (asked : Asked) (turns : ℕ) (held : List ℕ) (answer : Answer) : Type 0 where
   pub fed : List ℕ
   pub made : List (ℕ × ℕ)
   pub sent : List ℕ
@@ -128,34 +128,34 @@ pub record Ran {H : Type 0} (P : Protocol H) (from to : Input) (sunk sinks : Out
   pub passes : Passes from to sunk sinks fed made sent
   -- a request is too long exactly where its PDU is
   pub too_long : (size : ℕ) → (answer ≡ Err (Transport (transport.RequestTooLong size))) ↔ ((MAX_PDU < length (request_pdu asked)) × (size ≡ told_size (request_pdu asked)))
-  pub writes : Writes (P.adu header (request_pdu asked)) sent answer
-  pub ends : EndsAs P (P.seen header) (function_asked asked) fed (totals made) held answer
-  pub ended : IsTrue from.told → EndsRead answer to.left
-  pub spends : Spends (spending_of answer) (length made) turns
+  pub writes : WritesRequest (P.adu header (request_pdu asked)) sent answer
+  pub ends : CallEndsAs P (P.seen header) (function_asked asked) fed (totals made) held answer
+  pub ended : IsTrue from.told → CallEndsRead answer to.left
+  pub spends : Spends (call_spending answer) (length made) turns
   pub rooms : HaveRooms HasRoom fed 0 made
   pub write_fault : answer ≡ Err (Transport transport.WriteFault) → Rose sunk.faults sinks.faults
   pub read_fault : answer ≡ Err (Transport transport.ReadFault) → Rose from.faults to.faults
 
 -- What a call does to a client over a link of these ends, by the header under which it asks, the state before, the request, the answer
 -- and the state after.
-pub record Called {L H : Type 0} (P : Protocol H) (input : L → Input) (output : L → Output) (header : H) (old : State L) (asked : Asked) (answer : Answer) (new : State L) : Type 0 where
+pub record Called {L H : Type 0} (P : Protocol H) (input : L → Input) (output : L → Output) (header : H) (old : ClientState L) (asked : Asked) (answer : Answer) (new : ClientState L) : Type 0 where
   -- only its own calls set the slave, the turns and the timeout
-  pub keeps : Keeps old new
+  pub keeps : KeepsSettings old new
   -- a disconnected client does nothing
   pub disconnected : old.is_connected ≡ false → (answer ≡ Err (Transport transport.NotConnected)) × (new ≡ old)
   pub connected : IsTrue old.is_connected → new.is_connected ≡ stays_connected answer
-  pub ran : IsTrue old.is_connected → Ran P (input old.link) (input new.link) (output old.link) (output new.link) header asked old.turns new.held answer
+  pub ran : IsTrue old.is_connected → Exchanged P (input old.link) (input new.link) (output old.link) (output new.link) header asked old.turns new.held answer
 
 -- The same of sending a request, which waits for no reply.
-pub record SentAlone {L H : Type 0} (P : Protocol H) (input : L → Input) (output : L → Output) (header : H) (old : State L) (asked : Asked) (answer : Result (Unit {0}) Error) (new : State L) : Type 0 where
-  pub keeps : Keeps old new
+pub record SentAlone {L H : Type 0} (P : Protocol H) (input : L → Input) (output : L → Output) (header : H) (old : ClientState L) (asked : Asked) (answer : Result (Unit {0}) Error) (new : ClientState L) : Type 0 where
+  pub keeps : KeepsSettings old new
   pub disconnected : old.is_connected ≡ false → (answer ≡ Err (Transport transport.NotConnected)) × (new ≡ old)
   pub connected : IsTrue old.is_connected → new.is_connected ≡ stays_connected answer
   pub sent : IsTrue old.is_connected → Sent P (input old.link) (input new.link) (output old.link) (output new.link) header asked new.held answer
 
 -- Completeness: a link that fails nowhere and holds one message alone, whose first bytes tell where it ends and which belongs to the
 -- request, gives its result in whatever pieces it comes, or memory is wanting.
-abbrev pub IsComplete : {L H : Type 0} → Protocol H → (L → Input) → (L → Output) → H → State L → Asked → Answer → State L → Type 0
+abbrev pub IsComplete : {L H : Type 0} → Protocol H → (L → Input) → (L → Output) → H → ClientState L → Asked → Answer → ClientState L → Type 0
 IsComplete P input output header old asked answer new =
     IsTrue old.is_connected → Fits (request_pdu asked) → IsTrue (input old.link).told
     → (Rose (input old.link).faults (input new.link).faults → ⊥) → (Rose (output old.link).faults (output new.link).faults → ⊥)

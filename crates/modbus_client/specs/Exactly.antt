@@ -13,9 +13,9 @@ use Rattle.modbus_client.specs.Protocol.{Found, waiting, reply, broken}
 use Rattle.modbus_client.specs.Matching.{Answer, Judges}
 
 -- the answer to a message of this header, by what its PDU stands for
-abbrev pub AnswersAs : HeaderSeen → FunctionCode → HeaderSeen → Result (Result Response ExceptionResponse) Reason → Answer → Type 0
-AnswersAs asked function seen (Ok result) answer = Judges asked function seen result answer
-AnswersAs asked function seen (Err reason) answer = answer ≡ Err (Transport (transport.InvalidResponse reason))
+abbrev pub IsAnswerTo : HeaderSeen → FunctionCode → HeaderSeen → Result (Result Response ExceptionResponse) Reason → Answer → Type 0
+IsAnswerTo asked function seen (Ok result) answer = Judges asked function seen result answer
+IsAnswerTo asked function seen (Err reason) answer = answer ≡ Err (Transport (transport.InvalidResponse reason))
 
 -- how the end of the input is told
 abbrev pub end_of : List ℕ → TransportError
@@ -37,7 +37,7 @@ IsOfWaiting _ = ⊥
 -- search waits, the answer is none of the bytes.
 abbrev pub IsToldOf : HeaderSeen → FunctionCode → Found → Answer → Type 0
 IsToldOf asked function (waiting held) answer = IsOfWaiting answer
-IsToldOf asked function (reply held seen pdu) answer = AnswersAs asked function seen (response_result_of pdu) answer ⊎ (answer ≡ Err NoMemory)
+IsToldOf asked function (reply held seen pdu) answer = IsAnswerTo asked function seen (response_result_of pdu) answer ⊎ (answer ≡ Err NoMemory)
 IsToldOf asked function (broken held fault) answer = (answer ≡ Err (Transport fault)) ⊎ (answer ≡ Err NoMemory)
 
 -- What a call tells whose search waits with these bytes held, where the request fits and nothing failed: that the turns ran out where so

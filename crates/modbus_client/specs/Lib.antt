@@ -7,6 +7,7 @@ pub mod Calling
 pub mod Ending
 pub mod Search
 pub mod Rtu
+pub mod Exchange
 pub mod Tcp
 pub mod TcpClient
 pub mod Exactly

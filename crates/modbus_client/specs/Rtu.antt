@@ -9,7 +9,7 @@ use Rattle.modbus_rtu.specs.Frame.{frame}
 use Rattle.modbus_rtu.specs.ResponseHead.{HasResponseHead}
 use Rattle.modbus_client.specs.Protocol.{Protocol, Found}
 use Rattle.modbus_client.specs.Protocol as found
-use Rattle.modbus_client.specs.Search.{Finds, reply, crowd, waiting}
+use Rattle.modbus_client.specs.Search.{SearchFinds, reply, crowd, waiting}
 
 -- of a header the slave alone is compared
 abbrev pub slave_seen : ℕ → HeaderSeen
@@ -19,29 +19,29 @@ slave_seen slave = record { transaction_id = None; slave_id = slave }
 pub record Waits (bytes cuts held : List ℕ) : Type 0 where
   pub are_cuts : AreCuts bytes cuts
   pub place : ℕ
-  pub finds : Finds bytes cuts (waiting place)
+  pub finds : SearchFinds bytes cuts (waiting place)
   pub holds : held ≡ drop place bytes
 
 -- the search found the frame at an offset, and the bytes behind it are held
-pub record HasFrame (bytes cuts held : List ℕ) (header : HeaderSeen) (pdu : List ℕ) : Type 0 where
+pub record FoundFrame (bytes cuts held : List ℕ) (header : HeaderSeen) (pdu : List ℕ) : Type 0 where
   pub offset : ℕ
   pub pdu_len : ℕ
-  pub finds : Finds bytes cuts (reply offset pdu_len)
+  pub finds : SearchFinds bytes cuts (reply offset pdu_len)
   pub from : header ≡ slave_seen (slice_index bytes offset)
   pub is : pdu ≡ take pdu_len (drop (offset + 1) bytes)
   pub holds : held ≡ drop (offset + (pdu_len + 3)) bytes
 
 -- the search found a crowd, and the bytes behind it are held
-pub record HasCrowd (bytes cuts held : List ℕ) (fault : TransportError) : Type 0 where
+pub record FoundCrowd (bytes cuts held : List ℕ) (fault : TransportError) : Type 0 where
   pub offset : ℕ
-  pub finds : Finds bytes cuts (crowd offset)
+  pub finds : SearchFinds bytes cuts (crowd offset)
   pub is : fault ≡ TooManyRetries
   pub holds : held ≡ drop (offset + 1) bytes
 
 abbrev pub FindsFrame : List ℕ → List ℕ → Found → Type 0
 FindsFrame bytes cuts (found.waiting held) = Waits bytes cuts held
-FindsFrame bytes cuts (found.reply held header pdu) = HasFrame bytes cuts held header pdu
-FindsFrame bytes cuts (found.broken held fault) = HasCrowd bytes cuts held fault
+FindsFrame bytes cuts (found.reply held header pdu) = FoundFrame bytes cuts held header pdu
+FindsFrame bytes cuts (found.broken held fault) = FoundCrowd bytes cuts held fault
 
 abbrev pub rtu_protocol : Protocol Header
 rtu_protocol = record {

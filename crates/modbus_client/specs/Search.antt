@@ -39,16 +39,16 @@ pub record ArePassed (bytes cuts looks : List ℕ) : Type 0 where
   pub calm : (k cut : ℕ) → k + TRIES ≤ length looks → Share looks k TRIES cut → ⊥
 
 -- How the search stands.
-pub data Found : Type 0 where
+pub data SearchState : Type 0 where
   -- a frame at this offset, with the length of its PDU
-  reply : ℕ → ℕ → Found
+  reply : ℕ → ℕ → SearchState
   -- no frame at this offset and the nineteen before it, which share a cut
-  crowd : ℕ → Found
+  crowd : ℕ → SearchState
   -- no frame yet: this offset waits for bytes
-  waiting : ℕ → Found
+  waiting : ℕ → SearchState
 
 -- From the cuts of the passed offsets, how the next offset stands.
-abbrev pub IsFoundAfter : List ℕ → List ℕ → List ℕ → Found → Type 0
+abbrev pub IsFoundAfter : List ℕ → List ℕ → List ℕ → SearchState → Type 0
 IsFoundAfter bytes cuts looks (reply offset pdu_len) =
     (offset ≡ length looks) × (cut : ℕ) × IsLookedAt bytes cuts (counts_from looks offset) offset cut × (seen bytes offset cut ≡ Good pdu_len)
 IsFoundAfter bytes cuts looks (crowd offset) =
@@ -58,5 +58,5 @@ IsFoundAfter bytes cuts looks (waiting offset) =
     (offset ≡ length looks) × ((cut : ℕ) → Contains cuts cut → counts_from looks offset ≤ cut → seen bytes offset cut ≡ Open)
 
 -- the search in these bytes, read with these cuts
-abbrev pub Finds : List ℕ → List ℕ → Found → Type 0
-Finds bytes cuts found = (looks : List ℕ) × ArePassed bytes cuts looks × IsFoundAfter bytes cuts looks found
+abbrev pub SearchFinds : List ℕ → List ℕ → SearchState → Type 0
+SearchFinds bytes cuts found = (looks : List ℕ) × ArePassed bytes cuts looks × IsFoundAfter bytes cuts looks found

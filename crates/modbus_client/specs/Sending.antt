@@ -7,12 +7,12 @@ use Rattle.modbus_frame.specs.declared.fault.TransportError.TheVariants as trans
 
 -- By the answer of a call, how much of its request was written: nothing where it was refused; a front of it where a write failed or
 -- memory was refused; else the whole.
-abbrev pub Writes : {X : Type 0} → List ℕ → List ℕ → Result X Error → Type 0
-Writes request written (Err (Transport transport.NotConnected)) = written ≡ []
-Writes request written (Err (Transport (transport.RequestTooLong size))) = written ≡ []
-Writes request written (Err (Transport transport.WriteFault)) = IsFront written request
-Writes request written (Err NoMemory) = IsFront written request
-Writes request written _ = written ≡ request
+abbrev pub WritesRequest : {X : Type 0} → List ℕ → List ℕ → Result X Error → Type 0
+WritesRequest request written (Err (Transport transport.NotConnected)) = written ≡ []
+WritesRequest request written (Err (Transport (transport.RequestTooLong size))) = written ≡ []
+WritesRequest request written (Err (Transport transport.WriteFault)) = IsFront written request
+WritesRequest request written (Err NoMemory) = IsFront written request
+WritesRequest request written _ = written ≡ request
 
 -- a client is disconnected by a write fault, and by no other answer of a call
 abbrev pub stays_connected : {X : Type 0} → Result X Error → Bool

@@ -2,7 +2,7 @@
 //! an answer then.
 ghost use Rattle.std.specs.Prelude.{◌≡◌, ◌↔◌, ℕ, ◌<◌, ◌≤◌, [], length, drop, IsTrue, OnOk};
 ghost use Rattle.modbus_frame.specs.Meaning.{meaning};
-ghost use Rattle.modbus_client.specs.Call.{Opens, Fed, TellsEnd};
+ghost use Rattle.modbus_client.specs.Call.{OpensCall, CallFed, TellsEnd};
 
 use crate::matching::judge;
 use crate::protocol::{LookError, Protocol};
@@ -64,7 +64,7 @@ impl<P: Protocol> Call<P> {
         turns: u64,
         space: BytesMut,
     ) -> std::result::Result<Call<P>, EncodeError>
-        ensures { Opens P.protocol header (meaning request.now) turns result }
+        ensures { OpensCall P.protocol header (meaning request.now) turns result }
     {
         P::laws();
         let mut held = space;
@@ -123,7 +123,7 @@ impl<P: Protocol> Call<P> {
         requires may_read { self.old.reads < self.old.turns }
         requires some { 0 < length piece.now }
         requires free { length piece.now ≤ self.old.free }
-        ensures { Fed P.protocol self.old self.new piece.now result }
+        ensures { CallFed P.protocol self.old self.new piece.now result }
     {
         P::laws();
         self.held.extend_reserved(piece);

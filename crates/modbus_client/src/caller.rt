@@ -33,9 +33,9 @@ pub(crate) struct Caller<P, L> {
 
 /// A contract sees the link, whether it is connected, the slave, the turns, the timeout and the bytes that are held.
 impl<P, L> Model for Caller<P, L> {
-    ghost use Rattle.modbus_client.specs.State.{State};
+    ghost use Rattle.modbus_client.specs.State.{ClientState};
 
-    ghost Value = { State L };
+    ghost Value = { ClientState L };
 
     ghost view = { λ caller. record {
       link = caller.link;

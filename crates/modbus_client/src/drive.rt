@@ -3,8 +3,8 @@ ghost use Rattle.std.specs.Prelude.{◌≡◌, ◌<◌, [], IfOk, OnOk, OnErr};
 ghost use Rattle.modbus_link.specs.Outside.{Rose};
 ghost use Rattle.modbus_link.specs.Passing.{Sends};
 ghost use Rattle.modbus_frame.specs.Meaning.{meaning};
-ghost use Rattle.modbus_client.specs.Call.{Stands, IsCallFor};
-ghost use Rattle.modbus_client.specs.Calling.{Sent, Turned, Received, Ran};
+ghost use Rattle.modbus_client.specs.Call.{CallStands, IsCallFor};
+ghost use Rattle.modbus_client.specs.Calling.{Sent, Turned, Received, Exchanged};
 
 use crate::call::{Call, ROOM};
 use crate::protocol::Protocol;
@@ -63,7 +63,7 @@ fn receive<P: Protocol, L: Source>(
     link: &mut L,
 ) -> Result<Response>
     requires written { call.old.unwritten ≡ [] }
-    requires stands { Stands P.protocol call.old.request [] [] call.old }
+    requires stands { CallStands P.protocol call.old.request [] [] call.old }
     ensures { Received P.protocol (L.input link.old) (L.input link.new) (L.output link.old) (L.output link.new) call.old.asked call.old.function call.old.turns call.new.held result }
 {
     'turns: while call.may_read() {
@@ -86,7 +86,7 @@ fn ask<P: Protocol, L: Sink>(
     ensures sent { Sent P.protocol (L.input link.old) (L.input link.new) (L.output link.old) (L.output link.new) header (meaning request.now) held.new.items result }
     ensures asks { IfOk result (λ call. IsCallFor P.protocol header (meaning request.now) turns call) }
     ensures written { IfOk result (λ call. call.unwritten ≡ []) }
-    ensures stands { IfOk result (λ call. Stands P.protocol call.request [] [] call) }
+    ensures stands { IfOk result (λ call. CallStands P.protocol call.request [] [] call) }
     ensures empty { IfOk result (λ call. call.held ≡ []) }
 {
     let space = replace(held, BytesMut::new(alloc));
@@ -131,7 +131,7 @@ pub(crate) fn exchange<P: Protocol, L: Source + Sink>(
     turns: u64,
     held: &mut BytesMut,
 ) -> Result<Response>
-    ensures { Ran P.protocol (L.input link.old) (L.input link.new) (L.output link.old) (L.output link.new) header (meaning request.now) turns held.new.items result }
+    ensures { Exchanged P.protocol (L.input link.old) (L.input link.new) (L.output link.old) (L.output link.new) header (meaning request.now) turns held.new.items result }
 {
     match ask::<P, L>(alloc, link, header, request, turns, held) {
         Err(error) => Err(error),

@@ -8,25 +8,25 @@ ghost use Rattle.modbus_pdu.specs.RequestPdu.{request_pdu};
 ghost use Rattle.modbus_client.specs.Protocol.{Found, waiting};
 ghost use Rattle.modbus_client.specs.Matching.{Answer};
 ghost use Rattle.modbus_client.specs.Search as search;
-ghost use Rattle.modbus_client.specs.Call.{CallState, Stands};
-ghost use Rattle.modbus_client.specs.Calling.{Ran};
+ghost use Rattle.modbus_client.specs.Call.{CallState, CallStands};
+ghost use Rattle.modbus_client.specs.Calling.{Exchanged};
 ghost use Rattle.modbus_client.specs.Exactly.{IsToldOf, TellsWaiting};
 
 use crate::protocol::Protocol;
 
 /// In given bytes with given cuts the search of a client of a serial line stands in one way.
 pub fn one_search()
-    ensures { (bytes cuts : List ℕ) (found other : search.Found) → search.Finds bytes cuts found → search.Finds bytes cuts other → found ≡ other }
+    ensures { (bytes cuts : List ℕ) (found other : search.SearchState) → search.SearchFinds bytes cuts found → search.SearchFinds bytes cuts other → found ≡ other }
 {}
 
 /// What the search finds in the bytes that a connected call read is what the call tells. Where it waits, the call tells that the turns
 /// ran out or how the input ended.
 pub fn searches_are_told<P: Protocol>()
     ensures found { (from to : Input) (sunk sinks : Output) (header : P.Header) (asked : Asked) (turns : ℕ) (held : List ℕ) (answer : Answer)
-        (r : Ran P.protocol from to sunk sinks header asked turns held answer) (found : Found) → P.protocol.Finds r.fed (totals r.made) found
+        (r : Exchanged P.protocol from to sunk sinks header asked turns held answer) (found : Found) → P.protocol.Finds r.fed (totals r.made) found
         → IsToldOf (P.protocol.seen header) (function_asked asked) found answer }
     ensures waiting { (from to : Input) (sunk sinks : Output) (header : P.Header) (asked : Asked) (turns : ℕ) (held kept : List ℕ) (answer : Answer)
-        (r : Ran P.protocol from to sunk sinks header asked turns held answer) → P.protocol.Finds r.fed (totals r.made) (waiting kept)
+        (r : Exchanged P.protocol from to sunk sinks header asked turns held answer) → P.protocol.Finds r.fed (totals r.made) (waiting kept)
         → Fits (request_pdu asked) → (Rose from.faults to.faults → ⊥) → (Rose sunk.faults sinks.faults → ⊥)
         → TellsWaiting kept (length r.made) turns to.left answer }
 {
@@ -35,8 +35,8 @@ pub fn searches_are_told<P: Protocol>()
 
 /// What a call stands for goes on with each write, and stays where its room is made.
 pub fn calls_go_on<P: Protocol>()
-    ensures write { (written bytes cuts : List ℕ) (n : ℕ) (call : CallState) → Stands P.protocol written bytes cuts call → n ≤ length call.unwritten
-        → Stands P.protocol (written ++ take n call.unwritten) bytes cuts (record call { unwritten = drop n call.unwritten }) }
-    ensures room { (written bytes cuts : List ℕ) (n : ℕ) (call : CallState) → Stands P.protocol written bytes cuts call
-        → Stands P.protocol written bytes cuts (record call { free = n }) }
+    ensures write { (written bytes cuts : List ℕ) (n : ℕ) (call : CallState) → CallStands P.protocol written bytes cuts call → n ≤ length call.unwritten
+        → CallStands P.protocol (written ++ take n call.unwritten) bytes cuts (record call { unwritten = drop n call.unwritten }) }
+    ensures room { (written bytes cuts : List ℕ) (n : ℕ) (call : CallState) → CallStands P.protocol written bytes cuts call
+        → CallStands P.protocol written bytes cuts (record call { free = n }) }
 {}

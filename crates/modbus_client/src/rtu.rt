@@ -87,9 +87,9 @@ pub struct Client<L> {
 
 /// A contract sees the link, whether it is connected, the slave, the turns, the timeout and the bytes that are held.
 impl<L> Model for Client<L> {
-    ghost use Rattle.modbus_client.specs.State.{State};
+    ghost use Rattle.modbus_client.specs.State.{ClientState};
 
-    ghost Value = { State L };
+    ghost Value = { ClientState L };
 
     ghost view = { λ client. client.caller };
 }

@@ -4,7 +4,7 @@ ghost use Rattle.modbus_frame.specs.Meaning.{meaning};
 ghost use Rattle.modbus_client.specs.Tcp.{tcp_protocol};
 ghost use Rattle.modbus_client.specs.State.{attached};
 ghost use Rattle.modbus_client.specs.Calling.{IsComplete};
-ghost use Rattle.modbus_client.specs.TcpClient.{CalledUnit, DisconnectedUnit, LimitedUnit, next_header};
+ghost use Rattle.modbus_client.specs.TcpClient.{TcpCalled, TcpDisconnected, TcpLimited, next_header};
 ghost use Rattle.modbus_client.specs.Connecting.{Connects};
 
 use crate::caller::Caller;
@@ -24,17 +24,17 @@ use std::time::Duration;
 
 /// The ADUs of a TCP stream.
 #[derive(Drop)]
-pub struct Units {
+pub struct Adus {
     codec: ClientCodec,
 }
 
-impl Protocol for Units {
+impl Protocol for Adus {
     type Header = Header;
 
     ghost protocol = { tcp_protocol };
 
-    fn new() -> Units {
-        Units {
+    fn new() -> Adus {
+        Adus {
             codec: ClientCodec::new(),
         }
     }
@@ -77,35 +77,35 @@ impl Protocol for Units {
 
     fn laws() {
         modbus_tcp::laws::one_front();
-        modbus_tcp::laws::unit_stays();
-        modbus_tcp::laws::units_go_on();
+        modbus_tcp::laws::adu_stays();
+        modbus_tcp::laws::adus_go_on();
     }
 }
 
-/// A client of the units behind one TCP link.
+/// A client of the devices behind one TCP link.
 #[derive(Drop)]
 pub struct Client<L> {
-    caller: Caller<Units, L>,
+    caller: Caller<Adus, L>,
     ids: TransactionIds,
 }
 
 /// A contract sees what a client of a serial line keeps, and the transaction that comes next.
 impl<L> Model for Client<L> {
-    ghost use Rattle.modbus_client.specs.State.{UnitState};
+    ghost use Rattle.modbus_client.specs.State.{TcpClientState};
 
-    ghost Value = { UnitState L };
+    ghost Value = { TcpClientState L };
 
     ghost view = { λ client. record { client = client.caller; next = client.ids } };
 }
 
-/// A client of unit 255 over a link. It keeps the allocator, and takes no memory yet.
+/// A client of unit identifier 255 over a link. It keeps the allocator, and takes no memory yet.
 pub fn attach<L: Link>(alloc: Global, link: L) -> Client<L>
     ensures { result ≡ record { client = attached link 255; next = 0 } }
 {
     attach_slave(alloc, link, Slave::tcp_device())
 }
 
-/// A client of a unit over a link. It keeps the allocator, and takes no memory yet.
+/// A client of a unit identifier over a link. It keeps the allocator, and takes no memory yet.
 pub fn attach_slave<L: Link>(alloc: Global, link: L, slave: Slave) -> Client<L>
     ensures { result ≡ record { client = attached link slave.0; next = 0 } }
 {
@@ -227,16 +227,16 @@ impl<L> SlaveContext for Client<L> {
 }
 
 impl<L: Link + Send + Drop> crate::Client for Client<L> {
-    ghost answers = { λ old asked answer new. CalledUnit L.input L.output old asked answer new };
+    ghost answers = { λ old asked answer new. TcpCalled L.input L.output old asked answer new };
 
-    ghost disconnects = { λ old result new. DisconnectedUnit L.line L.input L.output old result new };
+    ghost disconnects = { λ old result new. TcpDisconnected L.line L.input L.output old result new };
 
     ghost time_limit = { λ client. client.client.timeout };
 
-    ghost limits = { λ old duration new. LimitedUnit L.line L.input L.output old duration new };
+    ghost limits = { λ old duration new. TcpLimited L.line L.input L.output old duration new };
 
     fn call(&mut self, request: Request<'_>) -> Result<Response>
-        ensures called { CalledUnit L.input L.output self.old (meaning request.entry) result self.new }
+        ensures called { TcpCalled L.input L.output self.old (meaning request.entry) result self.new }
         ensures complete { IsComplete tcp_protocol L.input L.output (next_header self.old) self.old.client (meaning request.entry) result self.new.client }
     {
         let header = Header {

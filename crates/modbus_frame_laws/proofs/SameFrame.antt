@@ -1,4 +1,4 @@
--- PDUs, frames, units and errors are equal where they are one, or mean one request.
+-- PDUs, frames, ADUs and errors are equal where they are one, or mean one request.
 use Rattle.std.proofs.Common.{◌≡◌, Result, Ok, Err, Option, Some, None, refl, ap, rules}
 use Rattle.std.specs.Bool.{Decides}
 use Rattle.modbus_frame_laws.proofs.Same.{one, both}

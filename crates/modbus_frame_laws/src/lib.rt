@@ -177,7 +177,7 @@ pub fn same_rtu_header(a: &rtu::Header, b: &rtu::Header) -> bool
     a == b
 }
 
-/// TCP headers are equal exactly where their transactions and units are.
+/// TCP headers are equal exactly where their transactions and unit identifiers are.
 pub fn same_tcp_header(a: &tcp::Header, b: &tcp::Header) -> bool
     ensures { IsTrue result ↔ (a.now ≡ b.now) }
 {

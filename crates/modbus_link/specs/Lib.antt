@@ -7,3 +7,6 @@ pub mod Together
 pub mod Cuts
 pub mod Memory
 pub mod Line
+pub mod Stops
+pub mod Connects
+pub mod Tcp

@@ -1,5 +1,5 @@
 -- What a link means beside its two ends.
-use Rattle.std.specs.Prelude.{ℕ, Bool, true, false, None, Option}
+use Rattle.std.specs.Prelude.{ℕ, Bool, true, false, None, Option, Result, Ok, Err}
 use Rattle.std.specs.declared.time.Duration.{Duration}
 use Rattle.modbus_link.specs.Memory.{SourceState, SinkState, counted}
 
@@ -22,7 +22,7 @@ pub record LinkState : Type 0 where
   pub shutdown_fails : Bool
   pub line : Line
 
--- what a shutdown makes of a link in memory: it fails where that was asked for, and counts the fault
-abbrev pub shut : Bool → Line → Line
-shut true line = record line { faults = counted line.faults }
-shut false line = record line { is_down = true }
+-- the line after a shutdown with this result
+abbrev pub shut : {T E : Type 0} → Result T E → Line → Line
+shut (Ok _) line = record line { is_down = true }
+shut (Err _) line = record line { faults = counted line.faults }

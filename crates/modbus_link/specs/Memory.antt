@@ -1,5 +1,5 @@
 -- What the objects in memory keep, and what they mean as a source and a sink.
-use Rattle.std.specs.Prelude.{◌-◌, ◌^◌, ◌<◌, ◌≤◌, ◌+◌, ◌≡◌, ◌⊎◌, min, All, Contains, ℕ, true, List, [], length, replicate, ◌==◌, if◌then◌else◌, Result, Ok, Err}
+use Rattle.std.specs.Prelude.{◌-◌, ◌^◌, ◌<◌, ◌≤◌, ◌+◌, ◌≡◌, ◌↔◌, ◌⊎◌, min, All, Contains, ℕ, true, List, [], length, replicate, ◌==◌, if◌then◌else◌, Result, Ok, Err, IsErr, IfOk}
 use Rattle.modbus_link.specs.Outside.{Input, Output}
 use Rattle.modbus_link.specs.Cuts.{memory_input}
 
@@ -39,10 +39,10 @@ source_input source = memory_input source.bytes source.rooms source.given source
 abbrev pub counted : ℕ → ℕ
 counted calls = min (calls + 1) (2 ^ 64 - 1)
 
--- a call that succeeds leaves the count of faults as it was, and one that fails raises it by one
-abbrev pub CountsFault : {E : Type 0} → Result ℕ E → ℕ → ℕ → Type 0
-CountsFault (Ok n) old new = new ≡ old
-CountsFault (Err e) old new = new ≡ counted old
+-- the count of faults after a call with this result: one that fails raises it by one
+abbrev pub faults_after : {T E : Type 0} → Result T E → ℕ → ℕ
+faults_after (Ok _) faults = faults
+faults_after (Err _) faults = counted faults
 
 -- the next call is one that fails
 abbrev pub FailsNow : List ℕ → ℕ → Type 0
@@ -59,6 +59,13 @@ pub record KeepsSource (old new : SourceState) : Type 0 where
   pub stops : new.stops ≡ old.stops
   pub fails : new.fails ≡ old.fails
   pub calls : new.calls ≡ counted old.calls
+
+-- what one read of a source in memory does, beside what a read of any source does
+pub record MemoryReads {E : Type 0} (old new : SourceState) (room : ℕ) (result : Result ℕ E) : Type 0 where
+  pub fails : IsErr result ↔ FailsNow old.fails old.calls
+  pub most : IfOk result (GivesMost old room)
+  pub keeps : KeepsSource old new
+  pub counts : new.faults ≡ faults_after result old.faults
 
 -- a sink in memory
 pub record SinkState : Type 0 where
@@ -108,3 +115,10 @@ pub record KeepsSink (old new : SinkState) : Type 0 where
   pub most : new.most ≡ old.most
   pub fails : new.fails ≡ old.fails
   pub calls : new.calls ≡ counted old.calls
+
+-- what one write of a sink in memory does, beside what a write of any sink does
+pub record MemoryWrites {E : Type 0} (old new : SinkState) (size : ℕ) (result : Result ℕ E) : Type 0 where
+  pub fails : IsErr result ↔ FailsToTake old size
+  pub takes : IfOk result (λ count. count ≡ taken_of old size)
+  pub keeps : KeepsSink old new
+  pub counts : new.faults ≡ faults_after result old.faults

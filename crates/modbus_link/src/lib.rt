@@ -2,7 +2,8 @@
 //!
 //! A `Source` gives bytes and a `Sink` takes them; both are described by what they mean, so that a contract above can say which
 //! bytes a call read and wrote, in which pieces, and what failed. There are sources and sinks in memory, which tell all that, and
-//! adapters over the readers and writers of std, which tell only how often they failed. A `Link` has both ends and can be shut down.
+//! adapters over the readers and writers of std, which tell only how often they failed. A `Link` has both ends and can be shut down,
+//! a `Connector` makes links to addresses, and a `Stop` is a signal to stop; each is there in memory, and over TCP or a shared flag.
 #![tactic(auto)]
 
 mod both;
@@ -13,14 +14,16 @@ mod memory_link;
 mod outside;
 mod real;
 mod stop;
+mod tcp;
 mod write;
 
 pub use both::Both;
-pub use connector::Connector;
+pub use connector::{Connector, MemoryConnector};
 pub use link::Link;
 pub use memory::{MemorySink, MemorySource};
 pub use memory_link::MemoryLink;
 pub use outside::{Ends, Failed, Sink, Source};
 pub use real::{ReadSource, WriteSink};
-pub use stop::Stop;
+pub use stop::{FlagStop, MemoryStop, Stop};
+pub use tcp::{TcpConnector, TcpLink};
 pub use write::write_all;

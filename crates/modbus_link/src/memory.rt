@@ -1,8 +1,8 @@
 //! A source and a sink in memory, for tests and for programs over bytes that they hold.
 ghost use Rattle.std.specs.Prelude.{[], ◌≡◌, ◌↔◌, ℕ, ◌+◌, ◌<◌, ◌≤◌, length, All, Contains, IsTrue, IfOk, OnErr, IsErr, vec_len, vec_capacity, slice_index};
 ghost use Rattle.std.specs.Io.{ReadsAtMost, WritesAtMost};
-ghost use Rattle.modbus_link.specs.Outside.{Rose, Advances, Extends, bytes_appended, ReadIsTold, front_of, untold_input, untold_output};
-ghost use Rattle.modbus_link.specs.Memory.{SourceState, SinkState, source_input, sink_output, source_at_start, sink_at_start, FailsNow, GivesMost, KeepsSource, CountsFault, FailsToTake, taken_of, KeepsSink};
+ghost use Rattle.modbus_link.specs.Outside.{Advances, Extends, bytes_appended, ReadIsTold, front_of};
+ghost use Rattle.modbus_link.specs.Memory.{SourceState, SinkState, source_input, sink_output, source_at_start, sink_at_start, MemoryReads, MemoryWrites};
 
 use crate::outside::{Ends, Failed, Sink, Source};
 use std::alloc::{AllocError, Global};
@@ -99,13 +99,8 @@ impl Source for MemorySource {
         ensures bound { ReadsAtMost result room.new }
         ensures source { Advances (source_input self.old) (source_input self.new) }
         ensures told { IsTrue (source_input self.old).told → ReadIsTold (source_input self.old) (source_input self.new) room.old room.new result }
-        ensures cause { OnErr result (Rose (source_input self.old).faults (source_input self.new).faults) }
-        ensures sink { untold_output 0 ≡ untold_output 0 }
 
-        ensures fails { IsErr result ↔ FailsNow self.old.fails self.old.calls }
-        ensures most { IfOk result (GivesMost self.old (length room.old)) }
-        ensures keeps { KeepsSource self.old self.new }
-        ensures counts { CountsFault result self.old.faults self.new.faults }
+        ensures reads { MemoryReads self.old self.new (length room.old) result }
     {
         let call = self.calls;
         self.calls = call.saturating_add(1);
@@ -200,13 +195,8 @@ impl Sink for MemorySink {
         ensures some { IfOk result (λ count. 0 < length piece.now → 0 < count) }
         ensures sink { Extends (sink_output self.old) (sink_output self.new) }
         ensures told { IsTrue (sink_output self.old).told → bytes_appended (sink_output self.old) (sink_output self.new) ≡ front_of result piece.now }
-        ensures cause { OnErr result (Rose (sink_output self.old).faults (sink_output self.new).faults) }
-        ensures source { untold_input 0 ≡ untold_input 0 }
 
-        ensures fails { IsErr result ↔ FailsToTake self.old (length piece.now) }
-        ensures takes { IfOk result (λ count. count ≡ taken_of self.old (length piece.now)) }
-        ensures keeps { KeepsSink self.old self.new }
-        ensures counts { CountsFault result self.old.faults self.new.faults }
+        ensures writes { MemoryWrites self.old self.new (length piece.now) result }
     {
         let call = self.calls;
         self.calls = call.saturating_add(1);

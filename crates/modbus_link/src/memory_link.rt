@@ -1,8 +1,8 @@
 //! A link in memory, for tests and for programs over bytes that they hold.
-ghost use Rattle.std.specs.Prelude.{◌≡◌, ◌↔◌, ◌<◌, length, IsTrue, IfOk, IsErr, OnOk, OnErr};
+ghost use Rattle.std.specs.Prelude.{◌≡◌, ◌↔◌, ◌<◌, length, IsTrue, IfOk, IsErr};
 ghost use Rattle.std.specs.Io.{ReadsAtMost, WritesAtMost};
-ghost use Rattle.modbus_link.specs.Outside.{Rose, Advances, Extends, bytes_appended, ReadIsTold, front_of};
-ghost use Rattle.modbus_link.specs.Memory.{source_input, sink_output, FailsNow, GivesMost, KeepsSource, CountsFault, FailsToTake, taken_of, KeepsSink};
+ghost use Rattle.modbus_link.specs.Outside.{Advances, Extends, bytes_appended, ReadIsTold, front_of};
+ghost use Rattle.modbus_link.specs.Memory.{source_input, sink_output, MemoryReads, MemoryWrites};
 ghost use Rattle.modbus_link.specs.Line.{line_at_start, shut};
 
 use crate::link::Link;
@@ -84,13 +84,8 @@ impl Source for MemoryLink {
         ensures bound { ReadsAtMost result room.new }
         ensures source { Advances (source_input self.old.source) (source_input self.new.source) }
         ensures told { IsTrue (source_input self.old.source).told → ReadIsTold (source_input self.old.source) (source_input self.new.source) room.old room.new result }
-        ensures cause { OnErr result (Rose (source_input self.old.source).faults (source_input self.new.source).faults) }
-        ensures sink { sink_output self.new.sink ≡ sink_output self.old.sink }
 
-        ensures fails { IsErr result ↔ FailsNow self.old.source.fails self.old.source.calls }
-        ensures most { IfOk result (GivesMost self.old.source (length room.old)) }
-        ensures keeps { KeepsSource self.old.source self.new.source }
-        ensures counts { CountsFault result self.old.source.faults self.new.source.faults }
+        ensures reads { MemoryReads self.old.source self.new.source (length room.old) result }
         ensures others { self.new ≡ record self.old { source = self.new.source } }
     {
         self.source.read(room)
@@ -103,13 +98,8 @@ impl Sink for MemoryLink {
         ensures some { IfOk result (λ count. 0 < length piece.now → 0 < count) }
         ensures sink { Extends (sink_output self.old.sink) (sink_output self.new.sink) }
         ensures told { IsTrue (sink_output self.old.sink).told → bytes_appended (sink_output self.old.sink) (sink_output self.new.sink) ≡ front_of result piece.now }
-        ensures cause { OnErr result (Rose (sink_output self.old.sink).faults (sink_output self.new.sink).faults) }
-        ensures source { source_input self.new.source ≡ source_input self.old.source }
 
-        ensures fails { IsErr result ↔ FailsToTake self.old.sink (length piece.now) }
-        ensures takes { IfOk result (λ count. count ≡ taken_of self.old.sink (length piece.now)) }
-        ensures keeps { KeepsSink self.old.sink self.new.sink }
-        ensures counts { CountsFault result self.old.sink.faults self.new.sink.faults }
+        ensures writes { MemoryWrites self.old.sink self.new.sink (length piece.now) result }
         ensures others { self.new ≡ record self.old { sink = self.new.sink } }
     {
         self.sink.write(piece)
@@ -120,14 +110,8 @@ impl Link for MemoryLink {
     ghost line = { λ link. link.line };
 
     fn shutdown(&mut self) -> Result<(), Failed>
-        ensures down { OnOk result (IsTrue self.new.line.is_down) }
-        ensures cause { OnErr result (Rose self.old.line.faults self.new.line.faults) }
-        ensures timeout { self.new.line.timeout ≡ self.old.line.timeout }
-        ensures source { source_input self.new.source ≡ source_input self.old.source }
-        ensures sink { sink_output self.new.sink ≡ sink_output self.old.sink }
-
         ensures fails { IsErr result ↔ IsTrue self.old.shutdown_fails }
-        ensures shut { self.new ≡ record self.old { line = shut self.old.shutdown_fails self.old.line } }
+        ensures shut { self.new ≡ record self.old { line = shut result self.old.line } }
     {
         if self.shutdown_fails {
             self.faults = self.faults.saturating_add(1);
@@ -138,41 +122,8 @@ impl Link for MemoryLink {
     }
 
     fn set_timeout(&mut self, duration: Option<Duration>)
-        ensures timeout { self.new.line.timeout ≡ duration }
-        ensures faults { self.new.line.faults ≡ self.old.line.faults }
-        ensures down { self.new.line.is_down ≡ self.old.line.is_down }
-        ensures source { source_input self.new.source ≡ source_input self.old.source }
-        ensures sink { sink_output self.new.sink ≡ sink_output self.old.sink }
-
         ensures set { self.new ≡ record self.old { line = record self.old.line { timeout = duration } } }
     {
         self.timeout = duration;
-    }
-}
-
-#[cfg(test)]
-mod tests {
-    use super::*;
-    use std::test::Fail;
-
-    #[test]
-    fn a_link_has_both_ends_and_a_shutdown(rt: HostRuntime) -> Result<(), Fail> {
-        let source = MemorySource::new(rt.alloc(), b"abc", &[2], &[])?;
-        let sink = MemorySink::new(rt.alloc(), 4, 3, &[])?;
-        let mut link = MemoryLink::new(source, sink, false);
-        let mut room = [0u8; 3];
-        assert_eq!(rt; link.read(&mut room), Ok(2));
-        assert_eq!(rt; link.write(b"xyzw"), Ok(3));
-        link.set_timeout(Some(Duration::from_secs(2)));
-        assert!(rt; link.timeout() == Some(Duration::from_secs(2)));
-        assert_eq!(rt; link.shutdown(), Ok(()));
-        assert_eq!(rt; link.source().given(), 2);
-        assert_eq!(rt; link.sink().bytes(), b"xyz".as_slice());
-
-        let source = MemorySource::new(rt.alloc(), b"", &[], &[])?;
-        let sink = MemorySink::new(rt.alloc(), 4, 3, &[])?;
-        let mut broken = MemoryLink::new(source, sink, true);
-        assert_eq!(rt; broken.shutdown(), Err(Failed));
-        Ok(())
     }
 }

@@ -10,7 +10,7 @@ use std::io::{Error, ErrorKind, Read, Result as IoResult, Write};
 use std::marker::Model;
 
 // One read, tried again where a signal interrupts it.
-fn read_once<R: Read>(reader: &mut R, room: &mut [u8]) -> IoResult<usize>
+pub(crate) fn read_once<R: Read>(reader: &mut R, room: &mut [u8]) -> IoResult<usize>
     ensures { ReadsAtMost result room.new }
 {
     for _ in 0..u64::MAX {
@@ -23,7 +23,7 @@ fn read_once<R: Read>(reader: &mut R, room: &mut [u8]) -> IoResult<usize>
 }
 
 // One write, tried again where a signal interrupts it.
-fn write_once<W: Write>(writer: &mut W, piece: &[u8]) -> IoResult<usize>
+pub(crate) fn write_once<W: Write>(writer: &mut W, piece: &[u8]) -> IoResult<usize>
     ensures { WritesAtMost result piece.now }
 {
     for _ in 0..u64::MAX {

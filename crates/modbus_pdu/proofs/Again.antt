@@ -47,7 +47,7 @@ is_false : (b : Bool) → (b ≡ true → ⊥) → b ≡ false
 is_false true h = absurd (h refl)
 is_false false h = refl
 
-other_code : (code k : ℕ) → (IsModelled code → ⊥) → IsModelled k → eqb code k ≡ false
+pub other_code : (code k : ℕ) → (IsModelled code → ⊥) → IsModelled k → eqb code k ≡ false
 other_code code k not_this this = is_false (eqb code k) (λ e. not_this (subst IsModelled (sym (eqb-true code k e)) this))
 
 custom_back : (code : ℕ) (bytes : List ℕ) → code < 0x80 → (IsModelled code → ⊥) → asked_by code (code ∷ bytes) ≡ Ok (Custom code bytes)

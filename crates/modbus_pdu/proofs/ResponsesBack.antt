@@ -1,7 +1,6 @@
 -- A response that is written is read again.
-use Rattle.std.proofs.Common.{◌≡◌, ℕ, ◌+◌, ◌-◌, ◌*◌, ◌/◌, ◌%◌, ◌<◌, ◌≤◌, Bool, true, false, List, [], ◌∷◌, length, get_or, ◌∙◌, Ok, refl, sym, subst, arith, eqb}
+use Rattle.std.proofs.Common.{◌≡◌, ℕ, ◌+◌, ◌-◌, ◌*◌, ◌/◌, ◌%◌, ◌<◌, ◌≤◌, Bool, true, false, List, [], ◌∷◌, length, get_or, ◌∙◌, Ok, refl, arith, eqb}
 use Rattle.std.proofs.lemmas.Bool.Decides.{nat_tests}
-use Rattle.std.proofs.lemmas.Bool.{eqb-true}
 use Rattle.std.specs.List.{AllByRecursion}
 use Rattle.modbus_frame.specs.declared.code.ReadCode.{ReadCode}
 use Rattle.modbus_frame.specs.declared.code.ReadCode.TheVariants as read
@@ -15,13 +14,13 @@ use Rattle.modbus_frame.specs.Answered.{function_answered}
 use Rattle.modbus_frame.specs.Codes.{function_number, read_code_number, level_number}
 use Rattle.modbus_pdu.specs.Fields.{words_of, coils_of, packed, packed_size}
 use Rattle.modbus_pdu.specs.Laws.{IsWord}
-use Rattle.modbus_pdu.specs.Reading.{◌>>=◌, read_code_or}
+use Rattle.modbus_pdu.specs.Decoding.{◌>>=◌, read_code_or}
 use Rattle.modbus_pdu.specs.RequestOf.{two_words_of, single_coil_of, three_words_of, IsModelled}
 use Rattle.modbus_pdu.specs.Writing.{words}
 use Rattle.modbus_pdu.specs.ResponseOf.{objects_at, level_or, coils_read_of, words_read_of, server_id_of, device_identification_of, answered_by, response_of, exception_response_of, response_result_of}
 use Rattle.modbus_pdu.specs.ResponsePdu.{flag, objects, device_identification_pdu, response_pdu}
 use Rattle.modbus_pdu.specs.ResponseLaws.{filled, ResponseReadsBack, ResultReadsBack, ExceptionReadsBack}
-use Rattle.modbus_pdu.proofs.Again.{word_back, words_back}
+use Rattle.modbus_pdu.proofs.Again.{word_back, words_back, other_code}
 use Rattle.modbus_pdu.proofs.FilledCoils.{filled_back}
 use Rattle.modbus_pdu.proofs.ObjectsBack.{objects_back}
 use Rattle.modbus_pdu.proofs.Sizes.{words_length, packed_length}
@@ -77,13 +76,6 @@ device_identification_back r fits =
     let front = 0x2B ∷ 0x0E ∷ c ∷ l ∷ m ∷ r.next_object_id ∷ n ∷ [] in
     identified c l m r.next_object_id n (objects r.device_id_objects) r (read_code_back r.read_code) (level_back r.conformity_level) (flag_back r.more_follows) refl
     (objects_back front r.device_id_objects) (omega (arith, fits))
-
-is_false : (b : Bool) → (b ≡ true → ⊥) → b ≡ false
-is_false true h = absurd (h refl)
-is_false false h = refl
-
-other_code : (code k : ℕ) → (IsModelled code → ⊥) → IsModelled k → eqb code k ≡ false
-other_code code k not_this this = is_false (eqb code k) (λ e. not_this (subst IsModelled (sym (eqb-true code k e)) this))
 
 custom_back : (code : ℕ) (bytes : List ℕ) → (IsModelled code → ⊥) → answered_by code (code ∷ bytes) ≡ Ok (response.Custom code bytes)
 unfolding answered_by

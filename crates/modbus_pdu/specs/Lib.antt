@@ -1,7 +1,7 @@
 pub mod Coding
 pub mod Fields
 pub mod Laws
-pub mod Reading
+pub mod Decoding
 pub mod RequestOf
 pub mod RequestPdu
 pub mod Writing

@@ -8,7 +8,7 @@ use Rattle.modbus_frame.specs.declared.code.ReadCode.{ReadCode}
 use Rattle.modbus_frame.specs.Meaning.{Asked, ReadCoils, ReadDiscreteInputs, WriteSingleCoil, WriteMultipleCoils, ReadInputRegisters, ReadHoldingRegisters, WriteSingleRegister, WriteMultipleRegisters, ReportServerId, MaskWriteRegister, ReadWriteMultipleRegisters, ReadDeviceIdentification, Custom}
 use Rattle.modbus_pdu.specs.declared.limits.TheConstants.{MAX_PDU}
 use Rattle.modbus_pdu.specs.Fields.{word_at, words_of, coils_of, coil_of}
-use Rattle.modbus_pdu.specs.Reading.{◌>>=◌, read_code_or}
+use Rattle.modbus_pdu.specs.Decoding.{◌>>=◌, read_code_or}
 
 -- Read Coils, Read Discrete Inputs, Read Holding Registers, Read Input Registers, Write Single
 -- Register (6.1 to 6.4, 6.6): an address at place 1, a quantity or a value at place 3.

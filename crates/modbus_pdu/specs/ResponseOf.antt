@@ -14,7 +14,7 @@ use Rattle.modbus_frame.specs.declared.response.ExceptionResponse.{ExceptionResp
 use Rattle.modbus_frame.specs.Codes.{function_of, exception_of, level_of}
 use Rattle.modbus_pdu.specs.declared.limits.TheConstants.{MAX_PDU}
 use Rattle.modbus_pdu.specs.Fields.{words_of, coils_of}
-use Rattle.modbus_pdu.specs.Reading.{◌>>=◌, read_code_or}
+use Rattle.modbus_pdu.specs.Decoding.{◌>>=◌, read_code_or}
 use Rattle.modbus_pdu.specs.RequestOf.{two_words_of, single_coil_of, three_words_of}
 
 -- 01, 02: at most 253 bytes; the byte count at place 1, and exactly so many bytes of packed coils,

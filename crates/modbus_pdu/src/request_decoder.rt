@@ -5,7 +5,7 @@
 ghost use Rattle.std.specs.Prelude.{◌≡◌, ◌≢◌, ◌<◌, IfOk, IsOk, IsOkAnd};
 ghost use Rattle.modbus_frame.specs.Codes.{function_number};
 ghost use Rattle.modbus_frame.specs.Meaning.{meaning, function_asked};
-ghost use Rattle.modbus_pdu.specs.Reading.{Gives};
+ghost use Rattle.modbus_pdu.specs.Decoding.{Decodes};
 ghost use Rattle.modbus_pdu.specs.RequestOf.{CarriesList, asked_by, coils_written_of, identification_of, read_write_of, registers_at, request_of, single_coil_of, three_words_of, two_words_of, words_written_of};
 
 use crate::coils::{coil_to_bool, decode_packed_coils};
@@ -36,7 +36,7 @@ use std::borrow::CowSlice;
 /// Want of memory comes only where the PDU is a request that carries a list. The function code of a request is below 0x80.
 #[tactic(auto, using(crate::proofs::First::no_byte, crate::proofs::First::by_first))]
 pub fn decode_request(alloc: Global, pdu: &[u8]) -> Result<Request<'static>, PduError>
-    ensures value { Gives meaning result (request_of pdu.now) }
+    ensures value { Decodes meaning result (request_of pdu.now) }
     ensures memory { result ≡ Err PduError.NoMemory
         → IsOkAnd (request_of pdu.now) CarriesList }
     ensures code { IfOk result (λ request. function_number (function_asked (meaning request)) < 0x80) }
@@ -54,7 +54,7 @@ fn request_by_code(
     cursor: Cursor<'_>,
 ) -> Result<Request<'static>, PduError>
     requires { cursor.at ≡ 1 }
-    ensures value { Gives meaning result (asked_by code cursor.entry.bytes.now) }
+    ensures value { Decodes meaning result (asked_by code cursor.entry.bytes.now) }
     ensures memory { result ≡ Err PduError.NoMemory
         → IsOkAnd (asked_by code cursor.entry.bytes.now) CarriesList }
     ensures code { IfOk result (λ request. function_number (function_asked (meaning request)) < 0x80) }
@@ -95,7 +95,7 @@ fn request_of_other_fields(
 ) -> Result<Request<'static>, PduError>
     requires start { cursor.at ≡ 1 }
     requires other { (code ≢ 0x01) × (code ≢ 0x02) × (code ≢ 0x03) × (code ≢ 0x04) × (code ≢ 0x06) }
-    ensures value { Gives meaning result (asked_by code cursor.entry.bytes.now) }
+    ensures value { Decodes meaning result (asked_by code cursor.entry.bytes.now) }
     ensures memory { result ≡ Err PduError.NoMemory
         → IsOkAnd (asked_by code cursor.entry.bytes.now) CarriesList }
     ensures code { IfOk result (λ request. function_number (function_asked (meaning request)) < 0x80) }
@@ -183,7 +183,7 @@ pub(crate) fn single_coil(mut cursor: Cursor<'_>) -> Result<(Address, Coil), Rea
 #[tactic(auto, unfolding(crate::specs::RequestOf::coils_written_of))]
 fn coils_written(alloc: Global, mut cursor: Cursor<'_>) -> Result<(Address, Coils), PduError>
     requires { cursor.at ≡ 1 }
-    ensures value { Gives (λ x. (x.0, x.1)) result (coils_written_of cursor.entry.bytes.now) }
+    ensures value { Decodes (λ x. (x.0, x.1)) result (coils_written_of cursor.entry.bytes.now) }
     ensures memory { result ≡ Err PduError.NoMemory → IsOk (coils_written_of cursor.entry.bytes.now) }
 {
     cursor.check_size()?;
@@ -207,7 +207,7 @@ fn coils_written(alloc: Global, mut cursor: Cursor<'_>) -> Result<(Address, Coil
 #[tactic(auto, using(crate::proofs::Registers::registers_missing), unfolding(crate::specs::RequestOf::words_written_of))]
 fn words_written(alloc: Global, mut cursor: Cursor<'_>) -> Result<(Address, Vec<Word>), PduError>
     requires { cursor.at ≡ 1 }
-    ensures value { Gives (λ x. (x.0, x.1.items)) result (words_written_of cursor.entry.bytes.now) }
+    ensures value { Decodes (λ x. (x.0, x.1.items)) result (words_written_of cursor.entry.bytes.now) }
     ensures memory { result ≡ Err PduError.NoMemory → IsOk (words_written_of cursor.entry.bytes.now) }
 {
     cursor.check_size()?;
@@ -222,7 +222,7 @@ fn read_write(
     mut cursor: Cursor<'_>,
 ) -> Result<(Address, Quantity, Address, Vec<Word>), PduError>
     requires { cursor.at ≡ 1 }
-    ensures value { Gives (λ x. (x.0, x.1, x.2, x.3.items)) result
+    ensures value { Decodes (λ x. (x.0, x.1, x.2, x.3.items)) result
         (read_write_of cursor.entry.bytes.now) }
     ensures memory { result ≡ Err PduError.NoMemory → IsOk (read_write_of cursor.entry.bytes.now) }
 {
@@ -241,7 +241,7 @@ fn read_write(
 /// Registers from the cursor to the end of the PDU: their number, the byte count, their values.
 #[tactic(auto, unfolding(crate::specs::RequestOf::registers_at))]
 fn registers(alloc: Global, mut cursor: Cursor<'_>) -> Result<Vec<Word>, PduError>
-    ensures value { Gives (λ words. words.items) result
+    ensures value { Decodes (λ words. words.items) result
         (registers_at cursor.entry.at cursor.entry.bytes.now) }
     ensures memory { result ≡ Err PduError.NoMemory
         → IsOk (registers_at cursor.entry.at cursor.entry.bytes.now) }

@@ -3,7 +3,7 @@
 //! A PDU is read from the left by a cursor. What it stands for, and which of several reasons is told,
 //! is defined by places of the whole PDU (MODBUS Application Protocol V1.1b3, section 6).
 ghost use Rattle.std.specs.Prelude.{◌≡◌, ◌≤◌, length, Err, IfOk, IsOk, IsOkAnd};
-ghost use Rattle.modbus_pdu.specs.Reading.{Gives};
+ghost use Rattle.modbus_pdu.specs.Decoding.{Decodes};
 ghost use Rattle.modbus_pdu.specs.ResponseOf.{AnswerCarriesMemory, CarriesMemory, coils_read_of, words_read_of, run_status_of, server_id_of, object_at, objects_at, place_after, device_identification_of, answered_by, response_of, response_result_of};
 
 use crate::coils::decode_packed_coils;
@@ -29,7 +29,7 @@ const OFF: u8 = 0x00;
 #[tactic(auto, unfolding(crate::specs::ResponseOf::coils_read_of))]
 fn coils_read(alloc: Global, mut cursor: Cursor<'_>) -> Result<Coils, PduError>
     requires { cursor.at ≡ 1 }
-    ensures value { Gives (λ coils. coils) result (coils_read_of cursor.entry.bytes.now) }
+    ensures value { Decodes (λ coils. coils) result (coils_read_of cursor.entry.bytes.now) }
     ensures memory { result ≡ Err PduError.NoMemory → IsOk (coils_read_of cursor.entry.bytes.now) }
 {
     cursor.check_size()?;
@@ -48,7 +48,7 @@ fn coils_read(alloc: Global, mut cursor: Cursor<'_>) -> Result<Coils, PduError>
 #[tactic(auto, unfolding(crate::specs::ResponseOf::words_read_of))]
 fn words_read(alloc: Global, mut cursor: Cursor<'_>) -> Result<Words, PduError>
     requires { cursor.at ≡ 1 }
-    ensures value { Gives (λ words. words) result (words_read_of cursor.entry.bytes.now) }
+    ensures value { Decodes (λ words. words) result (words_read_of cursor.entry.bytes.now) }
     ensures memory { result ≡ Err PduError.NoMemory → IsOk (words_read_of cursor.entry.bytes.now) }
 {
     cursor.check_size()?;
@@ -81,7 +81,7 @@ fn run_status(status: u8) -> Result<bool, Reason>
 #[tactic(auto, unfolding(crate::specs::ResponseOf::server_id_of))]
 fn server_id(alloc: Global, mut cursor: Cursor<'_>) -> Result<(u8, bool, Data), PduError>
     requires { cursor.at ≡ 1 }
-    ensures value { Gives (λ x. (x.0, x.1, x.2)) result (server_id_of cursor.entry.bytes.now) }
+    ensures value { Decodes (λ x. (x.0, x.1, x.2)) result (server_id_of cursor.entry.bytes.now) }
     ensures memory { result ≡ Err PduError.NoMemory → IsOk (server_id_of cursor.entry.bytes.now) }
 {
     cursor.check_size()?;
@@ -134,7 +134,7 @@ fn objects_end(pdu: &[u8], place: usize, count: u8) -> Result<usize, Reason>
 #[tactic(auto, unfolding(crate::specs::ResponseOf::object_at))]
 fn next_object(pdu: &Bytes, cursor: &mut Cursor<'_>) -> Result<DeviceIdObject, PduError>
     requires { cursor.old.bytes.now ≡ pdu.now }
-    ensures value { Gives (λ object. (object, cursor.new.at)) result (object_at cursor.old.at pdu.now) }
+    ensures value { Decodes (λ object. (object, cursor.new.at)) result (object_at cursor.old.at pdu.now) }
     ensures bytes { cursor.new.bytes.now ≡ cursor.old.bytes.now }
 {
     let id = cursor.byte()?;
@@ -156,7 +156,7 @@ fn read_objects(
     count: u8,
 ) -> Result<Vec<DeviceIdObject>, PduError>
     requires { cursor.old.bytes.now ≡ pdu.now }
-    ensures value { Gives (λ v. (v.items, cursor.new.at)) result (objects_at count cursor.old.at pdu.now) }
+    ensures value { Decodes (λ v. (v.items, cursor.new.at)) result (objects_at count cursor.old.at pdu.now) }
     ensures bytes { cursor.new.bytes.now ≡ cursor.old.bytes.now }
 {
     let mut found = Vec::new(alloc);
@@ -173,7 +173,7 @@ fn device_identification(
     alloc: Global,
     pdu: &Bytes,
 ) -> Result<ReadDeviceIdentificationResponse, PduError>
-    ensures value { Gives (λ found. found) result (device_identification_of pdu.now) }
+    ensures value { Decodes (λ found. found) result (device_identification_of pdu.now) }
     ensures memory { result ≡ Err PduError.NoMemory → IsOk (device_identification_of pdu.now) }
 {
     let mut cursor = Cursor::new(pdu.as_slice());
@@ -215,7 +215,7 @@ fn device_identification(
 fn answered(alloc: Global, code: u8, pdu: &Bytes, cursor: Cursor<'_>) -> Result<Response, PduError>
     requires bytes { cursor.bytes.now ≡ pdu.now }
     requires at { cursor.at ≡ 1 }
-    ensures value { Gives (λ response. response) result (answered_by code pdu.now) }
+    ensures value { Decodes (λ response. response) result (answered_by code pdu.now) }
     ensures memory { result ≡ Err PduError.NoMemory → IsOkAnd (answered_by code pdu.now) CarriesMemory }
 {
     match code {
@@ -281,7 +281,7 @@ fn answered(alloc: Global, code: u8, pdu: &Bytes, cursor: Cursor<'_>) -> Result<
 /// or bytes of its own.
 #[tactic(auto, unfolding(crate::specs::ResponseOf::response_of))]
 pub fn decode_response(alloc: Global, pdu: Bytes) -> Result<Response, PduError>
-    ensures response { Gives (λ response. response) result (response_of pdu) }
+    ensures response { Decodes (λ response. response) result (response_of pdu) }
     ensures memory { result ≡ Err PduError.NoMemory → IsOkAnd (response_of pdu) CarriesMemory }
 {
     let mut cursor = Cursor::new(pdu.as_slice());
@@ -296,7 +296,7 @@ pub fn decode_response(alloc: Global, pdu: Bytes) -> Result<Response, PduError>
 /// is a response that carries a list or bytes of its own.
 #[tactic(auto, unfolding(crate::specs::ResponseOf::response_result_of))]
 pub fn decode_response_pdu(alloc: Global, pdu: Bytes) -> Result<ResponsePdu, PduError>
-    ensures result { Gives (λ answer. answer.0) result (response_result_of pdu) }
+    ensures result { Decodes (λ answer. answer.0) result (response_result_of pdu) }
     ensures memory { result ≡ Err PduError.NoMemory
         → IsOkAnd (response_result_of pdu) AnswerCarriesMemory }
 {

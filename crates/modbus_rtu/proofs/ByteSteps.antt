@@ -3,7 +3,7 @@ use Rattle.std.proofs.Common.{◌≡◌, ℕ, zero, suc, ◌+◌, ◌*◌, ◌/�
 use Rattle.std.specs.Int.Bits.{xor_assoc, xor_zero_r}
 use Rattle.std.proofs.Math.Nat.{pow-succ'}
 use Rattle.std.proofs.lemmas.Nat.{xor_shr, xor_mod, xor_block}
-use Rattle.modbus_rtu.specs.Checksum.{shifted, shifts, with_byte}
+use Rattle.modbus_rtu.specs.Checksum.{shifted_out, shifts, with_byte}
 
 -- a number above the lowest bit comes out of one bit step as it is
 over_by : (test : Bool) (h half : ℕ) → cond test (bit_xor (bit_xor h half) 0xA001) (bit_xor h half) ≡ bit_xor h (cond test (bit_xor half 0xA001) half)
@@ -16,8 +16,8 @@ half_over h low = xor_shr (h * 2) low 1 ∙ ap (λ k. bit_xor k (low / 2)) (omeg
 bit_over : (h low : ℕ) → bit_xor (h * 2) low % 2 ≡ low % 2
 bit_over h low = let none : h * 2 % 2 ≡ 0 = omega arith in xor_mod (h * 2) low 1 ∙ ap (λ k. bit_xor k (low % 2)) none
 
-one_over : (h low : ℕ) → shifted (bit_xor (h * 2) low) ≡ bit_xor h (shifted low)
-unfolding shifted
+one_over : (h low : ℕ) → shifted_out (bit_xor (h * 2) low) ≡ bit_xor h (shifted_out low)
+unfolding shifted_out
 one_over h low = rw (half_over h low, bit_over h low) (over_by (eqb (low % 2) 1) h (low / 2))
 
 shifts_over : (n h low : ℕ) → shifts n (bit_xor (h * 2 ^ n) low) ≡ bit_xor h (shifts n low)
@@ -25,7 +25,7 @@ unfolding shifts
 shifts_over zero h low = ap (λ k. bit_xor k low) (omega arith)
 shifts_over (suc n) h low =
     let e : h * 2 ^ suc n ≡ h * 2 * 2 ^ n = ap (λ p. h * p) (pow-succ' 2 n) ∙ sym (mul_assoc h 2 (2 ^ n)) in
-    ap (λ k. shifted (shifts n (bit_xor k low))) e ∙ ap shifted (shifts_over n (h * 2) low) ∙ one_over h (shifts n low)
+    ap (λ k. shifted_out (shifts n (bit_xor k low))) e ∙ ap shifted_out (shifts_over n (h * 2) low) ∙ one_over h (shifts n low)
 
 -- a number is its high part, and its low byte
 apart : (x : ℕ) → x ≡ bit_xor (x / 256 * 2 ^ 8) (x % 256)

@@ -10,7 +10,7 @@ use Rattle.modbus_rtu.specs.declared.inbox.RtuError.TheVariants as errors
 use Rattle.modbus_rtu.specs.Frame.{verdict}
 use Rattle.modbus_rtu.specs.Next.{IsNext}
 use Rattle.modbus_rtu.specs.Stands.{StandsFor, IsTakenNext, IsUsedUp}
-use Rattle.modbus_rtu.specs.Inbox.{Gives, StandsAfter, parts}
+use Rattle.modbus_rtu.specs.Inbox.{TakesFrame, StandsAfter, parts}
 use Rattle.modbus_rtu.proofs.Standing.{stands_frame, next_taken, stands_waiting, stands_read, used_up, first_crowd}
 
 -- an open offset at the front is where the search waits
@@ -28,7 +28,7 @@ length_zero (x ∷ xs) e = absurd (omega (arith, e))
 pub open_at_front : (held : List ℕ) (dropped : ℕ) → IsNext held (Waiting dropped) → verdict (drop dropped held) 0 ≡ Open
 open_at_front held dropped next = next.2
 
-pub stands_after : (old : List ℕ) (result : Result (Option RtuFrame) RtuError) (new : List ℕ) → Gives old result new → (bytes cuts : List ℕ) (taken : List (ℕ × List ℕ)) → StandsFor bytes cuts old taken → StandsAfter bytes cuts taken result new
+pub stands_after : (old : List ℕ) (result : Result (Option RtuFrame) RtuError) (new : List ℕ) → TakesFrame old result new → (bytes cuts : List ℕ) (taken : List (ℕ × List ℕ)) → StandsFor bytes cuts old taken → StandsAfter bytes cuts taken result new
 stands_after old (Ok (Some frame)) new (start, n, next, same, rest) bytes cuts taken s =
     rw (same, rest) (stands_frame bytes cuts old taken s start n next)
 stands_after old (Ok None) new (dropped, next, rest) bytes cuts taken s =
@@ -43,28 +43,28 @@ stands_after_read bytes cuts held more taken s open' some =
     stands_read bytes cuts held taken s 0 (waits_at_front held open') more some
 
 -- a frame that is taken off leaves fewer bytes
-pub gives_less : (old : List ℕ) (frame : RtuFrame) (new : List ℕ) → Gives old (Ok (Some frame)) new → length new < length old
+pub gives_less : (old : List ℕ) (frame : RtuFrame) (new : List ℕ) → TakesFrame old (Ok (Some frame)) new → length new < length old
 gives_less old frame new (start, n, next, same, rest) =
     let fits : start + (n + 3) ≤ length old = good_within old start n next.2 in
     omega (arith, ap length rest, length-drop (start + (n + 3)) old)
 
-pub gives_no_more : (old : List ℕ) (result : Result (Option RtuFrame) RtuError) (new : List ℕ) → Gives old result new → IfOk result (λ found. IfSome found (λ frame. length new < length old))
+pub gives_no_more : (old : List ℕ) (result : Result (Option RtuFrame) RtuError) (new : List ℕ) → TakesFrame old result new → IfOk result (λ found. IfSome found (λ frame. length new < length old))
 gives_no_more old (Ok (Some frame)) new gives = gives_less old frame new gives
 gives_no_more old (Ok None) new gives = tt
 gives_no_more old (Err e) new gives = tt
 
-pub gives_open : (old : List ℕ) (result : Result (Option RtuFrame) RtuError) (new : List ℕ) → Gives old result new → result ≡ Ok None → verdict new 0 ≡ Open
+pub gives_open : (old : List ℕ) (result : Result (Option RtuFrame) RtuError) (new : List ℕ) → TakesFrame old result new → result ≡ Ok None → verdict new 0 ≡ Open
 gives_open old (Ok (Some frame)) new gives e = cc
 gives_open old (Ok None) new (dropped, next, rest) e = rw rest (open_at_front old dropped next)
 gives_open old (Err x) new gives e = cc
 
-pub gives_next : (old : List ℕ) (result : Result (Option RtuFrame) RtuError) (new : List ℕ) → Gives old result new →
+pub gives_next : (old : List ℕ) (result : Result (Option RtuFrame) RtuError) (new : List ℕ) → TakesFrame old result new →
     IfOk result (λ found. IfSome found (λ frame. (bytes cuts : List ℕ) (taken : List (ℕ × List ℕ)) → StandsFor bytes cuts old taken → IsTakenNext bytes cuts taken (parts frame)))
 gives_next old (Ok (Some frame)) new (start, n, next, same, rest) = λ bytes cuts taken s. rw same (next_taken bytes cuts old taken s start n next)
 gives_next old (Ok None) new gives = tt
 gives_next old (Err e) new gives = tt
 
-pub gives_cause : (old : List ℕ) (result : Result (Option RtuFrame) RtuError) (new : List ℕ) → Gives old result new → IfErr result (λ error. error ≡ errors.TooManyRetries)
+pub gives_cause : (old : List ℕ) (result : Result (Option RtuFrame) RtuError) (new : List ℕ) → TakesFrame old result new → IfErr result (λ error. error ≡ errors.TooManyRetries)
 gives_cause old (Ok found) new gives = tt
 gives_cause old (Err errors.TooManyRetries) new gives = refl
 gives_cause old (Err (errors.Invalid reason)) new gives = absurd gives

@@ -13,11 +13,11 @@ use Rattle.modbus_rtu.proofs.Reading.{Reads, reads-shift}
 use Rattle.modbus_rtu.proofs.Reading.Reads.{stops, takes}
 use Rattle.modbus_rtu.proofs.LeftmostReads.{leftmost_from_reads}
 
-frame_append : (slave : ℕ) (pdu rest : List ℕ) → frame slave pdu ++ rest ≡ (slave ∷ pdu) ++ (crc (slave ∷ pdu) % 256 ∷ crc (slave ∷ pdu) / 256 ∷ rest)
+pub frame_append : (slave : ℕ) (pdu rest : List ℕ) → frame slave pdu ++ rest ≡ (slave ∷ pdu) ++ (crc (slave ∷ pdu) % 256 ∷ crc (slave ∷ pdu) / 256 ∷ rest)
 unfolding frame
 frame_append slave pdu rest = append_assoc (slave ∷ pdu) (crc (slave ∷ pdu) % 256 ∷ crc (slave ∷ pdu) / 256 ∷ []) rest
 
-length-frame : (slave : ℕ) (pdu : List ℕ) → length (frame slave pdu) ≡ length pdu + 3
+pub length-frame : (slave : ℕ) (pdu : List ℕ) → length (frame slave pdu) ≡ length pdu + 3
 unfolding frame
 length-frame slave pdu = omega (arith, length-append (slave ∷ pdu) (crc (slave ∷ pdu) % 256 ∷ crc (slave ∷ pdu) / 256 ∷ []))
 

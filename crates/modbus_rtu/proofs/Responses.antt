@@ -1,5 +1,5 @@
 -- The frame of a response whose first bytes tell its length: it is good whatever follows it, and each front of it waits.
-use Rattle.std.proofs.Common.{◌≡◌, ◌≢◌, ℕ, zero, suc, ◌+◌, ◌-◌, ◌*◌, ◌/◌, ◌%◌, ◌<◌, ◌≤◌, Bool, true, false, eqb, ltb, leb, List, [], ◌∷◌, ◌++◌, length, take, drop, get_or, Option, Some, None, Ok, Err, refl, sym, ap, ◌∙◌, arith, length-append, append_assoc}
+use Rattle.std.proofs.Common.{◌≡◌, ◌≢◌, ℕ, zero, suc, ◌+◌, ◌-◌, ◌*◌, ◌/◌, ◌%◌, ◌<◌, ◌≤◌, Bool, true, false, eqb, ltb, leb, List, [], ◌∷◌, ◌++◌, length, take, drop, get_or, Option, Some, None, Ok, Err, refl, sym, ap, ◌∙◌, arith, length-append}
 use Rattle.std.specs.Prelude.{slice_get}
 use Rattle.std.specs.Option.{option_map}
 use Rattle.std.proofs.lemmas.List.{take_at, take-append-drop, get_or-append_right, length-take-le}
@@ -7,22 +7,11 @@ use Rattle.std.proofs.lemmas.Bool.{le-leb, leb-true, ltb-false, eqb-true}
 use Rattle.modbus_rtu.specs.declared.verdict.Verdict.TheVariants.{Open, Good}
 use Rattle.modbus_rtu.specs.Checksum.{crc}
 use Rattle.modbus_rtu.specs.Frame.{Head, frame}
-use Rattle.modbus_rtu.specs.ResponseHead.{Rule, rule, after_object, after_objects, within, identified, identified_len, held_len, word_len, head_at, head_by, response_head, response_verdict, HasResponseHead}
-use Rattle.modbus_rtu.specs.ResponseHead.Rule.{fixed, counted, counted_word, identification, unknown}
-use Rattle.modbus_rtu.proofs.Verdicts.{by_frame}
+use Rattle.modbus_rtu.specs.ResponseHead.{ResponseRule, response_rule, after_object, after_objects, within, response_identified, identified_len, held_len, word_len, response_head_at, response_head_by, response_head, response_verdict, HasResponseHead}
+use Rattle.modbus_rtu.specs.ResponseHead.ResponseRule.{fixed, counted, counted_word, identification, unknown}
+use Rattle.modbus_rtu.proofs.Verdicts.{got_again, IsKept, Stays, by_frame}
 use Rattle.modbus_rtu.proofs.Judging.{judged_good, judged_missing, judged_short}
-
-got_again : (xs more : List ℕ) (k x : ℕ) → slice_get xs k ≡ Some x → slice_get (xs ++ more) k ≡ Some x
-got_again [] more k x e = cc
-got_again (y ∷ xs) more zero x e = e
-got_again (y ∷ xs) more (suc k) x e = got_again xs more k x e
-
--- what is told by bytes that are there stays
-abbrev IsKept : Option ℕ → Option ℕ → Type 0
-IsKept o o' = (x : ℕ) → o ≡ Some x → o' ≡ Some x
-
-abbrev Stays : Head → Head → Type 0
-Stays h h' = h ≢ Ok None → h' ≡ h
+use Rattle.modbus_rtu.proofs.Framed.{frame_append, length-frame}
 
 within_again : (adu more : List ℕ) (place : ℕ) → IsKept (within adu place) (within (adu ++ more) place)
 within_again adu more place next e = go (leb place (length adu)) refl
@@ -76,7 +65,7 @@ counted_again None o' kept x e = cc
 counted_again (Some byte) o' kept x e = rw (kept byte refl) e
 
 -- the function tells the length
-abbrev IsTold : List ℕ → Rule → Type 0
+abbrev IsTold : List ℕ → ResponseRule → Type 0
 IsTold whole (fixed n) = Unit {0}
 IsTold whole counted = Unit {0}
 IsTold whole counted_word = Unit {0}
@@ -84,34 +73,34 @@ IsTold whole identification = slice_get whole 2 ≡ Some 14
 IsTold whole unknown = ⊥
 
 abbrev IsToldHead : List ℕ → Type 0
-IsToldHead whole = (code : ℕ) × (slice_get whole 1 ≡ Some code) × IsTold whole (rule code)
+IsToldHead whole = (code : ℕ) × (slice_get whole 1 ≡ Some code) × IsTold whole (response_rule code)
 
-identified_stays : (code : ℕ) (adu more : List ℕ) → slice_get (adu ++ more) 2 ≡ Some 14 → (o : Option ℕ) → slice_get adu 2 ≡ o → Stays (identified code adu o) (identified code (adu ++ more) (slice_get (adu ++ more) 2))
+identified_stays : (code : ℕ) (adu more : List ℕ) → slice_get (adu ++ more) 2 ≡ Some 14 → (o : Option ℕ) → slice_get adu 2 ≡ o → Stays (response_identified code adu o) (response_identified code (adu ++ more) (slice_get (adu ++ more) 2))
 identified_stays code adu more told None n ne = absurd (ne refl)
 identified_stays code adu more told (Some mei) s ne =
     let again = got_again adu more 2 mei s in
     let same : mei ≡ 14 = cc (again, told) in
     rw (told, same) (ok_stays (identified_len adu) (identified_len (adu ++ more)) (identified_again adu more) (rw same at ne))
 
-head_by-append : (code : ℕ) (adu more : List ℕ) (r : Rule) → IsTold (adu ++ more) r → Stays (head_by code adu r) (head_by code (adu ++ more) r)
-head_by-append code adu more (fixed n) told ne = refl
-head_by-append code adu more counted told ne = ok_stays _ _ (counted_again (slice_get adu 2) (slice_get (adu ++ more) 2) (got_again adu more 2)) ne
-head_by-append code adu more counted_word told ne =
+response_head_by-append : (code : ℕ) (adu more : List ℕ) (r : ResponseRule) → IsTold (adu ++ more) r → Stays (response_head_by code adu r) (response_head_by code (adu ++ more) r)
+response_head_by-append code adu more (fixed n) told ne = refl
+response_head_by-append code adu more counted told ne = ok_stays _ _ (counted_again (slice_get adu 2) (slice_get (adu ++ more) 2) (got_again adu more 2)) ne
+response_head_by-append code adu more counted_word told ne =
     ok_stays _ _ (word_again (slice_get adu 2) (slice_get (adu ++ more) 2) (slice_get adu 3) (slice_get (adu ++ more) 3) (got_again adu more 2) (got_again adu more 3)) ne
-head_by-append code adu more identification told ne = identified_stays code adu more told (slice_get adu 2) refl ne
-head_by-append code adu more unknown told ne = absurd told
+response_head_by-append code adu more identification told ne = identified_stays code adu more told (slice_get adu 2) refl ne
+response_head_by-append code adu more unknown told ne = absurd told
 
 head_stays : (adu more : List ℕ) → IsToldHead (adu ++ more) → Stays (response_head adu) (response_head (adu ++ more))
 unfolding response_head
 head_stays adu more (code, at, told) = go (slice_get adu 1) refl
   where
-    go : (o : Option ℕ) → slice_get adu 1 ≡ o → Stays (head_at adu o) (head_at (adu ++ more) (slice_get (adu ++ more) 1))
+    go : (o : Option ℕ) → slice_get adu 1 ≡ o → Stays (response_head_at adu o) (response_head_at (adu ++ more) (slice_get (adu ++ more) 1))
     go None n ne = absurd (ne refl)
     go (Some c) s ne =
         let again = got_again adu more 1 c s in
         let same : c ≡ code = cc (again, at) in
-        let told' : IsTold (adu ++ more) (rule c) = rw same told in
-        rw again (head_by-append c adu more (rule c) told' ne)
+        let told' : IsTold (adu ++ more) (response_rule c) = rw same told in
+        rw again (response_head_by-append c adu more (response_rule c) told' ne)
 
 not_held : (code slave : ℕ) (pdu : List ℕ) → held_len code (slave ∷ pdu) ≡ Ok (Some (length pdu)) → ⊥
 not_held code slave pdu e = go (ltb (length (slave ∷ pdu)) 3) refl
@@ -123,7 +112,7 @@ not_held code slave pdu e = go (ltb (length (slave ∷ pdu)) 3) refl
         let same : length (slave ∷ pdu) - 3 ≡ length pdu = cc (rw f at e) in
         absurd (omega (arith, least, same))
 
-by_mei : (code slave : ℕ) (pdu : List ℕ) (o : Option ℕ) → slice_get (slave ∷ pdu) 2 ≡ o → identified code (slave ∷ pdu) o ≡ Ok (Some (length pdu)) → slice_get (slave ∷ pdu) 2 ≡ Some 14
+by_mei : (code slave : ℕ) (pdu : List ℕ) (o : Option ℕ) → slice_get (slave ∷ pdu) 2 ≡ o → response_identified code (slave ∷ pdu) o ≡ Ok (Some (length pdu)) → slice_get (slave ∷ pdu) 2 ≡ Some 14
 by_mei code slave pdu None n e = cc
 by_mei code slave pdu (Some mei) s e = go (eqb mei 14) refl
   where
@@ -131,7 +120,7 @@ by_mei code slave pdu (Some mei) s e = go (eqb mei 14) refl
     go true t = s ∙ ap Some (eqb-true mei 14 t)
     go false f = absurd (not_held code slave pdu (rw f at e))
 
-by_rule : (code slave : ℕ) (pdu : List ℕ) (r : Rule) → head_by code (slave ∷ pdu) r ≡ Ok (Some (length pdu)) → IsTold (slave ∷ pdu) r
+by_rule : (code slave : ℕ) (pdu : List ℕ) (r : ResponseRule) → response_head_by code (slave ∷ pdu) r ≡ Ok (Some (length pdu)) → IsTold (slave ∷ pdu) r
 by_rule code slave pdu (fixed n) e = tt
 by_rule code slave pdu counted e = tt
 by_rule code slave pdu counted_word e = tt
@@ -142,9 +131,9 @@ by_rule code slave pdu unknown e = not_held code slave pdu e
 told_of : (slave : ℕ) (pdu : List ℕ) → HasResponseHead (slave, pdu) → IsToldHead (slave ∷ pdu)
 unfolding response_head
 told_of slave [] has = cc
-told_of slave (code ∷ rest) has = (code, refl, by_rule code slave (code ∷ rest) (rule code) has)
+told_of slave (code ∷ rest) has = (code, refl, by_rule code slave (code ∷ rest) (response_rule code) has)
 
-told_again : (whole more : List ℕ) (r : Rule) → IsTold whole r → IsTold (whole ++ more) r
+told_again : (whole more : List ℕ) (r : ResponseRule) → IsTold whole r → IsTold (whole ++ more) r
 told_again whole more (fixed n) told = tt
 told_again whole more counted told = tt
 told_again whole more counted_word told = tt
@@ -152,15 +141,7 @@ told_again whole more identification told = got_again whole more 2 14 told
 told_again whole more unknown told = told
 
 told_head_again : (whole more : List ℕ) → IsToldHead whole → IsToldHead (whole ++ more)
-told_head_again whole more (code, at, told) = (code, got_again whole more 1 code at, told_again whole more (rule code) told)
-
-frame_append : (slave : ℕ) (pdu rest : List ℕ) → frame slave pdu ++ rest ≡ (slave ∷ pdu) ++ (crc (slave ∷ pdu) % 256 ∷ crc (slave ∷ pdu) / 256 ∷ rest)
-unfolding frame
-frame_append slave pdu rest = append_assoc (slave ∷ pdu) (crc (slave ∷ pdu) % 256 ∷ crc (slave ∷ pdu) / 256 ∷ []) rest
-
-length-frame : (slave : ℕ) (pdu : List ℕ) → length (frame slave pdu) ≡ length pdu + 3
-unfolding frame
-length-frame slave pdu = omega (arith, length-append (slave ∷ pdu) (crc (slave ∷ pdu) % 256 ∷ crc (slave ∷ pdu) / 256 ∷ []))
+told_head_again whole more (code, at, told) = (code, got_again whole more 1 code at, told_again whole more (response_rule code) told)
 
 head_of_body : (slave : ℕ) (pdu more : List ℕ) → HasResponseHead (slave, pdu) → response_head ((slave ∷ pdu) ++ more) ≡ Ok (Some (length pdu))
 head_of_body slave pdu more has = head_stays (slave ∷ pdu) more (told_head_again (slave ∷ pdu) more (told_of slave pdu has)) (λ o. cc (o, has)) ∙ has

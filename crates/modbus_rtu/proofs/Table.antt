@@ -3,10 +3,10 @@ use Rattle.std.proofs.Common.{◌≡◌, ℕ, ◌<◌, get_or, map, refl, ap, �
 use Rattle.std.specs.List.{range_with_len}
 use Rattle.std.proofs.lemmas.List.FromFn.{get_or-map-range_with_len}
 use Rattle.modbus_rtu.specs.declared.crc_table.TheConstants.{EIGHT_BITS}
-use Rattle.modbus_rtu.specs.Checksum.{shifted, shifts}
+use Rattle.modbus_rtu.specs.Checksum.{shifted_out, shifts}
 
 table_is : EIGHT_BITS ≡ map (shifts 8) (range_with_len 0 256)
-unfolding shifted shifts
+unfolding shifted_out shifts
 table_is = refl
 
 pub entry : (low at : ℕ) → low < 256 → at ≡ low → get_or EIGHT_BITS at 0 ≡ shifts 8 low

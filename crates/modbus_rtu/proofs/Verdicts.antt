@@ -9,17 +9,17 @@ use Rattle.modbus_rtu.specs.declared.verdict.Verdict.TheVariants.{Open, Bad, Goo
 use Rattle.modbus_rtu.specs.Frame.{Rule, Head, head, head_at, head_by, identified, rule, verdict, verdict_of, verdict_by}
 use Rattle.modbus_rtu.specs.Frame.Rule.{fixed, counted, identification, unknown}
 
-got_again : (xs more : List ℕ) (k x : ℕ) → slice_get xs k ≡ Some x → slice_get (xs ++ more) k ≡ Some x
+pub got_again : (xs more : List ℕ) (k x : ℕ) → slice_get xs k ≡ Some x → slice_get (xs ++ more) k ≡ Some x
 got_again [] more k x e = cc
 got_again (y ∷ xs) more zero x e = e
 got_again (y ∷ xs) more (suc k) x e = got_again xs more k x e
 
 -- a byte that is there stays
-abbrev IsKept : Option ℕ → Option ℕ → Type 0
+abbrev pub IsKept : Option ℕ → Option ℕ → Type 0
 IsKept o o' = (x : ℕ) → o ≡ Some x → o' ≡ Some x
 
 -- what is made of a byte that stays: either it is missing, or nothing changes
-abbrev Stays : Head → Head → Type 0
+abbrev pub Stays : Head → Head → Type 0
 Stays h h' = h ≢ Ok None → h' ≡ h
 
 counted_stays : (n : ℕ) (o o' : Option ℕ) → IsKept o o' → Stays (Ok (option_map (λ byte. n + byte) o)) (Ok (option_map (λ byte. n + byte) o'))

@@ -2,13 +2,13 @@
 use Rattle.std.specs.Prelude.{ℕ, zero, suc, ◌/◌, ◌%◌, if◌then◌else◌, ◌==◌, List, bit_xor, fold}
 
 -- the register after one bit is shifted out
-unfoldable pub shifted : ℕ → ℕ
-shifted register = if register % 2 == 1 then bit_xor (register / 2) 0xA001 else register / 2
+unfoldable pub shifted_out : ℕ → ℕ
+shifted_out register = if register % 2 == 1 then bit_xor (register / 2) 0xA001 else register / 2
 
 -- after so many bits
 unfoldable pub shifts : ℕ → ℕ → ℕ
 shifts zero register = register
-shifts (suc n) register = shifted (shifts n register)
+shifts (suc n) register = shifted_out (shifts n register)
 
 -- after a byte, which is taken into the low half
 unfoldable pub with_byte : ℕ → ℕ → ℕ

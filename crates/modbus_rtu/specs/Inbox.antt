@@ -16,13 +16,13 @@ parts frame = (frame.slave, frame.pdu.items)
 
 -- From the bytes held before, what is answered, and the bytes held after: a frame is taken off with all bytes before it; where the
 -- search waits, the bad offsets before the open one are dropped; twenty bad offsets are dropped too.
-abbrev pub Gives : List ℕ → Result (Option RtuFrame) RtuError → List ℕ → Type 0
-Gives old (Ok (Some frame)) new =
+abbrev pub TakesFrame : List ℕ → Result (Option RtuFrame) RtuError → List ℕ → Type 0
+TakesFrame old (Ok (Some frame)) new =
     (start : ℕ) × (n : ℕ) × IsNext old (Frame start n) × (parts frame ≡ (slice_index old start, take n (drop (start + 1) old))) × (new ≡ drop (start + (n + 3)) old)
-Gives old (Ok None) new = (dropped : ℕ) × IsNext old (Waiting dropped) × (new ≡ drop dropped old)
-Gives old (Err errors.TooManyRetries) new = IsNext old TooManyRetries × (new ≡ drop TRIES old)
-Gives old (Err (errors.Invalid reason)) new = ⊥
-Gives old (Err errors.NoMemory) new = ⊥
+TakesFrame old (Ok None) new = (dropped : ℕ) × IsNext old (Waiting dropped) × (new ≡ drop dropped old)
+TakesFrame old (Err errors.TooManyRetries) new = IsNext old TooManyRetries × (new ≡ drop TRIES old)
+TakesFrame old (Err (errors.Invalid reason)) new = ⊥
+TakesFrame old (Err errors.NoMemory) new = ⊥
 
 -- what the answer says of the bytes that were given so far, and what the inbox then stands for
 abbrev pub StandsAfter : List ℕ → List ℕ → List (ℕ × List ℕ) → Result (Option RtuFrame) RtuError → List ℕ → Type 0

@@ -5,20 +5,20 @@ use Rattle.std.specs.Option.{option_map}
 use Rattle.modbus_rtu.specs.declared.verdict.Verdict.{Verdict}
 use Rattle.modbus_rtu.specs.Frame.{Head, judged_by}
 
-pub data Rule : Type 0 where
-  fixed : ℕ → Rule
+pub data ResponseRule : Type 0 where
+  fixed : ℕ → ResponseRule
   -- 2, and as many as the byte at place 2 says
-  counted : Rule
+  counted : ResponseRule
   -- 3, and as many as the number at places 2 and 3 says, the high byte first
-  counted_word : Rule
+  counted_word : ResponseRule
   -- with MEI type 0E at place 2: up to the end of the last object. Another type is read as an unknown function
-  identification : Rule
+  identification : ResponseRule
   -- all bytes that are held, but for the slave address and the checksum
-  unknown : Rule
+  unknown : ResponseRule
 
 -- The rule of a function code. 81 to AB are the codes of exceptions.
-unfoldable pub rule : ℕ → Rule
-rule code =
+unfoldable pub response_rule : ℕ → ResponseRule
+response_rule code =
     if (nat_le 0x01 code && nat_le code 0x04) || code == 0x0C || code == 0x11 || code == 0x17 then counted else
     if code == 0x05 || code == 0x06 || code == 0x0B || code == 0x0F || code == 0x10 then fixed 5 else
     if code == 0x07 then fixed 2 else
@@ -50,9 +50,9 @@ abbrev pub held_len : ℕ → List ℕ → Head
 held_len code adu = if nat_lt (length adu) 3 then Err (record { 0 = code }) else Ok (Some (length adu - 3))
 
 -- by the MEI type
-abbrev pub identified : ℕ → List ℕ → Option ℕ → Head
-identified code adu None = Ok None
-identified code adu (Some mei) = if mei == 0x0E then Ok (identified_len adu) else held_len code adu
+abbrev pub response_identified : ℕ → List ℕ → Option ℕ → Head
+response_identified code adu None = Ok None
+response_identified code adu (Some mei) = if mei == 0x0E then Ok (identified_len adu) else held_len code adu
 
 -- three bytes, and as many as two bytes say, the high one first
 abbrev pub word_len : Option ℕ → Option ℕ → Option ℕ
@@ -60,20 +60,20 @@ word_len (Some high) (Some low) = Some (3 + (256 * high + low))
 word_len (Some high) None = None
 word_len None low = None
 
-abbrev pub head_by : ℕ → List ℕ → Rule → Head
-head_by code adu (fixed n) = Ok (Some n)
-head_by code adu counted = Ok (option_map (λ byte. 2 + byte) (slice_get adu 2))
-head_by code adu counted_word = Ok (word_len (slice_get adu 2) (slice_get adu 3))
-head_by code adu identification = identified code adu (slice_get adu 2)
-head_by code adu unknown = held_len code adu
+abbrev pub response_head_by : ℕ → List ℕ → ResponseRule → Head
+response_head_by code adu (fixed n) = Ok (Some n)
+response_head_by code adu counted = Ok (option_map (λ byte. 2 + byte) (slice_get adu 2))
+response_head_by code adu counted_word = Ok (word_len (slice_get adu 2) (slice_get adu 3))
+response_head_by code adu identification = response_identified code adu (slice_get adu 2)
+response_head_by code adu unknown = held_len code adu
 
-abbrev pub head_at : List ℕ → Option ℕ → Head
-head_at adu None = Ok None
-head_at adu (Some code) = head_by code adu (rule code)
+abbrev pub response_head_at : List ℕ → Option ℕ → Head
+response_head_at adu None = Ok None
+response_head_at adu (Some code) = response_head_by code adu (response_rule code)
 
 -- the head of a response in a list that begins with the slave address
 unfoldable pub response_head : List ℕ → Head
-response_head adu = head_at adu (slice_get adu 1)
+response_head adu = response_head_at adu (slice_get adu 1)
 
 -- a slave address and the PDU of a response whose first bytes tell its length
 abbrev pub HasResponseHead : ℕ × List ℕ → Type 0

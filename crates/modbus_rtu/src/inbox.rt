@@ -8,7 +8,7 @@ ghost use Rattle.modbus_rtu.specs.Decoding.{error_of};
 ghost use Rattle.modbus_rtu.specs.Frame.{verdict};
 ghost use Rattle.modbus_rtu.specs.Stands.{StandsFor, IsTakenNext};
 ghost use Rattle.modbus_rtu.specs.Front.{Finds, FindsIn};
-ghost use Rattle.modbus_rtu.specs.Inbox.{parts, Gives, StandsAfter};
+ghost use Rattle.modbus_rtu.specs.Inbox.{parts, TakesFrame, StandsAfter};
 
 use crate::front::{Crowd, Front, find};
 use crate::length::{CAPACITY, MOST_PDU};
@@ -200,7 +200,7 @@ impl Inbox {
 
     /// The search, and what it takes off.
     fn take_next(&mut self) -> Result<Option<RtuFrame>, RtuError>
-        ensures gives { Gives self.old result self.new }
+        ensures gives { TakesFrame self.old result self.new }
         ensures room { IfOk result (λ found. IfNone found (length self.new < CAPACITY)) }
     {
         match self.front() {
@@ -226,7 +226,7 @@ impl Inbox {
     /// # Errors
     /// `TooManyRetries` exactly where the first twenty offsets are bad, and these are dropped. `Invalid` and `NoMemory` never.
     pub fn next(&mut self) -> Result<Option<RtuFrame>, RtuError>
-        ensures gives { Gives self.old result self.new }
+        ensures gives { TakesFrame self.old result self.new }
         ensures causes { IfErr result (λ error. error ≡ RtuError.TooManyRetries) }
         ensures shrinks { IfOk result (λ found. IfSome found (λ frame. length self.new < length self.old)) }
 

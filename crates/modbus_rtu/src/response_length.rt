@@ -79,7 +79,7 @@ fn whole_len(code: u8, adu: &[u8]) -> Result<Option<usize>, NoLength>
 ///
 /// # Errors
 /// `NoLength` with the function code, exactly where the function isn't known and fewer than three bytes are held.
-#[tactic(auto, unfolding(crate::specs::ResponseHead::response_head, crate::specs::ResponseHead::rule))]
+#[tactic(auto, unfolding(crate::specs::ResponseHead::response_head, crate::specs::ResponseHead::response_rule))]
 pub fn response_pdu_len(adu: &[u8]) -> Result<Option<usize>, NoLength>
     ensures exact { result ≡ response_head adu.now }
 

@@ -19,7 +19,7 @@ use Rattle.modbus_server.specs.declared.error.Answer.TheVariants.{Framed, Quiet}
 use Rattle.modbus_service.specs.Outcome.{Outcome, silence, reply, exception, reply_pdu, code_of}
 use Rattle.modbus_server.specs.Framing.{Framing, Message}
 use Rattle.modbus_service.specs.Answering.{Answering}
-use Rattle.modbus_server.specs.Exchanges.{Exchange, Question, Fits, framed}
+use Rattle.modbus_server.specs.Exchanges.{Exchange, Question, ReplyFits, framed}
 use Rattle.modbus_server.specs.Answer.{Answered, AsksAs, AnswersAs}
 
 pub reply_is : (code : ℕ) (response : Response) → reply_pdu code (reply response) ≡ response_pdu response
@@ -44,7 +44,7 @@ module _ (F : Framing) where
   exchange header request outcome = record { header = header; request = request; outcome = outcome }
 
   -- silence fits
-  quiet_fits : (x : Exchange F) → x.outcome ≡ silence → Fits F x
+  quiet_fits : (x : Exchange F) → x.outcome ≡ silence → ReplyFits F x
   unfolding reply_pdu
   quiet_fits x e = rw e (omega arith)
 

@@ -1,5 +1,5 @@
 -- A clean line is served to its end, whatever frames its messages.
-use Rattle.std.proofs.Common.{◌≡◌, ◌⊎◌, inl, inr, ℕ, ◌<◌, ◌≤◌, ◌+◌, List, [], ◌∷◌, ◌++◌, map, length, length-append, refl, sym, ap, ◌∙◌, subst, arith, Result, Ok, Err}
+use Rattle.std.proofs.Common.{◌≡◌, ◌⊎◌, inl, inr, ℕ, Bool, ◌<◌, ◌≤◌, ◌+◌, List, [], ◌∷◌, ◌++◌, map, length, length-append, refl, sym, ap, ◌∙◌, subst, arith, Result, Ok, Err}
 use Rattle.std.specs.Prelude.{Contains}
 use Rattle.std.proofs.lemmas.List.{map-append}
 use Rattle.std.proofs.lemmas.List.Elements.{All-contains, Contains-append_left, Contains-push}
@@ -7,13 +7,16 @@ use Rattle.modbus_link.specs.Outside.{Input, Output}
 use Rattle.modbus_link.specs.Reads.{totals, Spends}
 use Rattle.modbus_link.specs.Runs.{RisesTo-count}
 use Rattle.modbus_frame.specs.declared.fault.Reason.{Reason}
+use Rattle.modbus_frame.specs.declared.server.Terminated.{Terminated}
+use Rattle.modbus_frame.specs.declared.server.Terminated.TheVariants.{Finished, Aborted}
 use Rattle.modbus_server.specs.declared.error.ProcessError.{ProcessError}
 use Rattle.modbus_server.specs.declared.error.ProcessError.TheVariants.{ReadFault, WriteFault, BytesRemaining, InvalidRequest, ResponseTooLong, TurnLimit, NoMemory}
 use Rattle.modbus_service.specs.Answering.{Answering}
 use Rattle.modbus_server.specs.Framing.{Framing, Message}
-use Rattle.modbus_server.specs.Exchanges.{Fits, asked_of, asks}
+use Rattle.modbus_server.specs.Exchanges.{ReplyFits, asked_of, asks}
 use Rattle.modbus_server.specs.Serving.{Served, Halts, remaining, broken, refused, too_long, EndsAs}
 use Rattle.modbus_server.specs.Stepping.{EndsRead, spending_of, Ran}
+use Rattle.modbus_server.specs.Stopping.{RanUntil, to_the_end}
 use Rattle.modbus_server.specs.Complete.{IsRequest, IsCleanLine, RepliesFit, Completes}
 use Rattle.modbus_server.proofs.Standing.{run_more}
 
@@ -52,7 +55,7 @@ module _ (F : Framing) {S : Type 0} (A : Answering S) (read rest cuts : List ℕ
           map-append (asked_of F) s.before (message ∷ []) ∙ ap (λ front. front ++ asked_of F message ∷ []) s.asked
           ∙ ap (λ last. map (asks F) s.exchanges ++ last ∷ []) asked ∙ sym (map-append (asks F) s.exchanges (x ∷ [])) in
           let fits = fit (s.exchanges ++ x ∷ []) now (s.before ++ message ∷ []) later.0 (run_more F A opening s.exchanges s.ends x now s.run step) later.1 all_asked in
-          let one : Fits F x = All-contains (Fits F) (s.exchanges ++ x ∷ []) x fits (Contains-push s.exchanges x) in
+          let one : ReplyFits F x = All-contains (ReplyFits F) (s.exchanges ++ x ∷ []) x fits (Contains-push s.exchanges x) in
           omega arith
 
   none_left : rest ≡ [] → (left : List ℕ) → (left ≡ [] → ⊥) → Served F A read cuts opening now written (remaining left) → ⊥
@@ -86,3 +89,11 @@ completes F A opening now from to sunk sinks turns result on ran told clean fit 
     (λ line fits. complete F A ran.fed to.left (totals ran.made) opening now ran.sent line fits (on ran.fed to.left line (totals ran.made))
     turns (length ran.made) result (omega (arith, short, count)) ran.served (ran.ended told) ran.spends
     (λ bad. no_read (ran.read_fault bad)) (λ bad. no_write (ran.write_fault bad))) clean fit
+
+-- the same of a call that may be stopped
+pub completes_until : (F : Framing) {S X : Type 0} (A : Answering S) (stops : X → ℕ) (looks : X → Bool → X → Type 0) (opening now : S) (from to : Input) (sunk sinks : Output) (turns : ℕ) (start end : X) (result : Result Terminated ProcessError)
+    → ((read rest : List ℕ) (clean : IsCleanLine F (read ++ rest)) (cuts : List ℕ) → GoesOn F read rest cuts clean.messages)
+    → RanUntil F A stops looks opening now from to sunk sinks turns start end result → Completes F A opening from to sunk sinks turns (to_the_end result)
+completes_until F A stops looks opening now from to sunk sinks turns start end (Ok Aborted) on stopped = λ told clean fit few no_read no_write. inl refl
+completes_until F A stops looks opening now from to sunk sinks turns start end (Ok Finished) on until = completes F A opening now from to sunk sinks turns (Ok tt) on until.ran
+completes_until F A stops looks opening now from to sunk sinks turns start end (Err error) on until = completes F A opening now from to sunk sinks turns (Err error) on until.ran

@@ -2,6 +2,7 @@ pub mod Answering
 pub mod Standing
 pub mod Moved
 pub mod Stepping
+pub mod OnePiece
 pub mod Running
 pub mod Through
 pub mod Asked

@@ -9,7 +9,7 @@ use Rattle.modbus_server.proofs.Contained.{none, here, there, front_or_later}
 use Rattle.modbus_frame.specs.declared.fault.Reason.{Reason}
 use Rattle.modbus_service.specs.Answering.{Answering}
 use Rattle.modbus_pdu.specs.RequestOf.{request_of}
-use Rattle.modbus_server.specs.Exchanges.{Exchange, Run, Fits, asked_of, asks}
+use Rattle.modbus_server.specs.Exchanges.{Exchange, Run, ReplyFits, asked_of, asks}
 use Rattle.modbus_server.specs.declared.error.ProcessError.TheVariants.{TooManyRetries}
 use Rattle.modbus_server.specs.Rtu.{rtu}
 use Rattle.modbus_server.specs.Serving.{Served, Halt, Halts, remaining, broken, refused, too_long, asked_last, all_asked}
@@ -89,7 +89,7 @@ module _ (one : (bytes frames others : List ℕ) (stop last : ℕ) → IsLeftmos
   FirstFault halt all = Run rtu A opening all now × ((frames : List ℕ) (stop : ℕ) → IsLeftmost bytes frames stop → IsFirstFault bytes cuts frames all halt)
 
   module _ (before : List (ℕ × List ℕ)) (exchanges : List (Exchange rtu)) (asked : map (asked_of rtu) before ≡ map (asks rtu) exchanges)
-      (fit : All (Fits rtu) exchanges) (ends : S) (run : Run rtu A opening exchanges ends) where
+      (fit : All (ReplyFits rtu) exchanges) (ends : S) (run : Run rtu A opening exchanges ends) where
     ran : now ≡ ends → Run rtu A opening exchanges now
     ran same = subst (λ x. Run rtu A opening exchanges x) (sym same) run
 

@@ -6,7 +6,7 @@ use Rattle.modbus_rtu.specs.declared.verdict.Verdict.TheVariants.{Bad, Good}
 use Rattle.modbus_rtu.specs.Frame.{verdict}
 use Rattle.modbus_rtu.specs.Leftmost.{IsLeftmost, IsGood, IsUncovered}
 use Rattle.modbus_rtu.specs.Stands.{HasCrowd, frame_at}
-use Rattle.modbus_server.specs.Exchanges.{Exchange, told_size}
+use Rattle.modbus_server.specs.Exchanges.{Exchange, told_reply_size}
 use Rattle.modbus_server.specs.declared.error.ProcessError.TheVariants.{TooManyRetries}
 use Rattle.modbus_server.specs.Rtu.{rtu}
 use Rattle.modbus_server.specs.Serving.{Halt, remaining, broken, refused, too_long}
@@ -53,7 +53,7 @@ module _ (still : (bytes cuts more frames : List ℕ) (k stop : ℕ) → HasCrow
   same_at place (too_long n) (refused q) (within, earlier, x, later, splits, count, asked, is, long) (within', bad) = absurd (asked_well rtu (frame_at bytes place) x q bad asked)
   same_at place (too_long n) (too_long m) (within, earlier, x, later, splits, count, asked, is, long) (within', earlier', x', later', splits', count', asked', is', long') =
       let e : x ≡ x' = same_after earlier earlier' x x' later later' (sym splits ∙ splits') (count ∙ sym count') in
-      ap too_long (is ∙ ap (told_size rtu) e ∙ sym is')
+      ap too_long (is ∙ ap (told_reply_size rtu) e ∙ sym is')
 
   pub one_fault : (p q : ℕ) (f g : Halt) → HasFault bytes cuts frames all p f → HasFault bytes cuts frames all q g
       → IsFirstFault bytes cuts frames all f → IsFirstFault bytes cuts frames all g → f ≡ g

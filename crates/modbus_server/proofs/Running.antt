@@ -1,10 +1,10 @@
--- One step after others is one run of steps.
-use Rattle.std.proofs.Common.{◌≡◌, ℕ, ◌+◌, ◌<◌, ◌≤◌, List, [], ◌∷◌, ◌++◌, map, length, refl, sym, ap, ◌∙◌, subst, arith, Result, Ok, Err, Bool, true, false, length-append, IsTrue, inr}
-use Rattle.std.proofs.lemmas.List.{map-append, take-append-le}
-use Rattle.modbus_link.specs.Outside.{Input, Output, RisesTo, shifted}
-use Rattle.modbus_link.specs.Runs.{RisesTo-count}
+-- One step after others is one run of steps, with a look at a signal before each.
+use Rattle.std.proofs.Common.{◌≡◌, ℕ, ◌+◌, ◌<◌, ◌≤◌, List, [], ◌∷◌, ◌++◌, length, refl, sym, ap, ◌∙◌, subst, arith, add-one, Result, Ok, Err, Bool, true, false, length-append, IsTrue, inr}
+use Rattle.modbus_frame.specs.declared.server.Terminated.TheVariants.{Finished, Aborted}
+use Rattle.modbus_link.specs.Outside.{Input, Output, Rose, shifted}
 use Rattle.modbus_link.specs.Passing.{Passes, passes_both, passes_none}
 use Rattle.modbus_link.specs.Reads.{HaveRooms, totals, Spends}
+use Rattle.modbus_link.specs.Together.{count_both, totals_both, rooms_more, rooms_then}
 use Rattle.modbus_server.specs.declared.error.ProcessError.{ProcessError}
 use Rattle.modbus_server.specs.declared.error.ProcessError.TheVariants.{ReadFault, WriteFault, TooManyRetries, BytesRemaining, InvalidRequest, ResponseTooLong, TurnLimit, InvalidLength, InvalidProtocol, NoMemory}
 use Rattle.modbus_server.specs.declared.error.Step.{Step}
@@ -16,32 +16,12 @@ use Rattle.modbus_server.specs.Serving.{Stands, Served, remaining}
 use Rattle.modbus_server.specs.State.{State}
 use Rattle.modbus_server.specs.Moving.{EndsInput}
 use Rattle.modbus_server.specs.Stepping.{StepsAs, EndsIfMay, Stepped, Ran, EndsRead, spending_of}
+use Rattle.modbus_server.specs.Stopping.{StaysUnset, LooksEach, RanUntil}
 use Rattle.modbus_server.proofs.Standing.{opened, halted, wanting}
 
--- over lists
-rooms_more : (F : Framing) (bytes more : List ℕ) (total end : ℕ) (cuts : List (ℕ × ℕ)) → RisesTo total cuts end → end ≤ length bytes → HaveRooms F.HasRoom bytes total cuts → HaveRooms F.HasRoom (bytes ++ more) total cuts
-rooms_more F bytes more total end [] p le rooms = tt
-rooms_more F bytes more total end (cut ∷ cuts) p le rooms =
-    let low : total ≤ length bytes = omega (arith, p.0, RisesTo-count cut.0 end cuts p.1) in
-    (subst (λ b. F.HasRoom b cut.1) (sym (take-append-le total bytes more low)) rooms.0, rooms_more F bytes more cut.0 end cuts p.1 le rooms.1)
-
-rooms_then : (F : Framing) (bytes : List ℕ) (total end : ℕ) (xs ys : List (ℕ × ℕ)) → RisesTo total xs end → HaveRooms F.HasRoom bytes total xs → HaveRooms F.HasRoom bytes end ys → HaveRooms F.HasRoom bytes total (xs ++ ys)
-rooms_then F bytes total end [] ys p q r = subst (λ t. HaveRooms F.HasRoom bytes t ys) (sym p) r
-rooms_then F bytes total end (x ∷ xs) ys p q r = (q.0, rooms_then F bytes x.0 end xs ys p.1 q.1 r)
-
-length_map : (f : ℕ × ℕ → ℕ × ℕ) (xs : List (ℕ × ℕ)) → length (map f xs) ≡ length xs
-length_map f [] = refl
-length_map f (x ∷ xs) = omega (arith, length_map f xs)
-
-count_both : (n : ℕ) (xs ys : List (ℕ × ℕ)) → length (xs ++ shifted n ys) ≡ length xs + length ys
-count_both n xs ys = length-append xs (shifted n ys) ∙ ap (λ m. length xs + m) (length_map (λ (cut : ℕ × ℕ). (n + cut.0, cut.1)) ys)
-
-totals_both : (n : ℕ) (xs ys : List (ℕ × ℕ)) → totals (xs ++ shifted n ys) ≡ totals xs ++ totals (shifted n ys)
-totals_both n xs ys = map-append (λ (cut : ℕ × ℕ). cut.0) xs (shifted n ys)
-
-module _ (F : Framing) {S : Type 0} (A : Answering S) where
+module _ (F : Framing) {S X : Type 0} (A : Answering S) (stops : X → ℕ) (looks : X → Bool → X → Type 0) where
   -- what a loop of steps keeps
-  pub record Going (start now : S) (from to : Input) (sunk sinks : Output) (turns left : ℕ) (state : State) : Type 0 where
+  pub record Going (start now : S) (from to : Input) (sunk sinks : Output) (turns left : ℕ) (state : State) (first last : X) : Type 0 where
     pub fed : List ℕ
     pub made : List (ℕ × ℕ)
     pub sent : List ℕ
@@ -52,9 +32,11 @@ module _ (F : Framing) {S : Type 0} (A : Answering S) where
     pub spends : length made + left ≡ turns
     pub waiting : state.waiting ≡ []
     pub ready : IsTrue state.is_open
+    pub later : stops first ≤ stops last
+    pub looked : StaysUnset looks first (length made + length exchanges) last
 
-  pub going : (start : S) (a : Input) (k : Output) (turns : ℕ) (state : State) → state.held ≡ [] → state.waiting ≡ [] → IsTrue state.is_open → F.StandsFor [] [] [] [] → Going start start a a k k turns turns state
-  going start a k turns state empty written ready stands = record {
+  pub going : (start : S) (a : Input) (k : Output) (turns : ℕ) (state : State) (signal : X) → state.held ≡ [] → state.waiting ≡ [] → IsTrue state.is_open → F.StandsFor [] [] [] [] → Going start start a a k k turns turns state signal signal
+  going start a k turns state signal empty written ready stands = record {
     fed = [];
     made = [];
     sent = [];
@@ -65,9 +47,35 @@ module _ (F : Framing) {S : Type 0} (A : Answering S) where
     spends = omega arith;
     waiting = written;
     ready = ready;
+    later = omega arith;
+    looked = refl;
   }
 
-  module _ (start now next : S) (a b c : Input) (k l m : Output) (turns left : ℕ) (old new : State) (may_read : Bool) (g : Going start now a b k l turns left old) where
+  -- it is stopped where the next look says so
+  pub ran_stopped : (start now : S) (a b : Input) (k l : Output) (turns left : ℕ) (state : State) (first last seen : X) → Going start now a b k l turns left state first last
+      → Rose (stops last) (stops seen) → looks last true seen → RanUntil F A stops looks start now a b k l turns first seen (Ok Aborted)
+  ran_stopped start now a b k l turns left state first last seen g rose set = record {
+    fed = g.fed;
+    made = g.made;
+    sent = g.sent;
+    passes = g.passes;
+    held = state.held;
+    exchanges = g.exchanges;
+    stands = g.stands;
+    rooms = g.rooms;
+    spends = omega (arith, g.spends);
+    rose = let before = g.later in omega (arith, rose, before);
+    looked = (last, g.looked, set);
+  }
+
+  module _ (start now next : S) (a b c : Input) (k l m : Output) (turns left : ℕ) (old new : State) (may_read : Bool) (first last seen : X)
+      (g : Going start now a b k l turns left old first last) (later : stops last ≤ stops seen) (unset : looks last false seen) where
+    all_later : stops first ≤ stops seen
+    all_later = let before = g.later in omega (arith, before, later)
+
+    all_looked : (count : ℕ) → count ≡ length g.made + length g.exchanges + 1 → StaysUnset looks first count seen
+    all_looked count e = subst (λ n. StaysUnset looks first n seen) (sym (e ∙ add-one (length g.made + length g.exchanges))) (last, g.looked, unset)
+
     module _ (result : Result Step ProcessError) (step : Stepped F A old new now next b c l m may_read result) where
       all_passes : Passes a c k m (g.fed ++ step.fed) (g.made ++ shifted (length g.fed) step.made) (g.sent ++ step.sent)
       all_passes = passes_both a b c k l m g.fed step.fed g.made step.made g.sent step.sent g.passes step.passes
@@ -77,14 +85,14 @@ module _ (F : Framing) {S : Type 0} (A : Answering S) where
           (step.stands g.fed (totals g.made) g.sent start g.exchanges g.stands)
 
       all_rooms : HaveRooms F.HasRoom (g.fed ++ step.fed) 0 (g.made ++ shifted (length g.fed) step.made)
-      all_rooms = rooms_then F (g.fed ++ step.fed) 0 (length g.fed) g.made (shifted (length g.fed) step.made) g.passes.rises
-          (rooms_more F g.fed step.fed 0 (length g.fed) g.made g.passes.rises (omega arith) g.rooms)
+      all_rooms = rooms_then F.HasRoom (g.fed ++ step.fed) 0 (length g.fed) g.made (shifted (length g.fed) step.made) g.passes.rises
+          (rooms_more F.HasRoom g.fed step.fed 0 (length g.fed) g.made g.passes.rises (omega arith) g.rooms)
           (step.rooms g.fed (totals g.made) g.sent start g.exchanges g.stands)
 
       all_made : length (g.made ++ shifted (length g.fed) step.made) ≡ length g.made + length step.made
       all_made = count_both (length g.fed) g.made step.made
 
-    pub read_on : (left' : ℕ) → left ≡ left' + 1 → Stepped F A old new now next b c l m may_read (Ok MoreRead) → Going start next a c k m turns left' new
+    pub read_on : (left' : ℕ) → left ≡ left' + 1 → Stepped F A old new now next b c l m may_read (Ok MoreRead) → Going start next a c k m turns left' new first seen
     read_on left' e step = record {
       fed = g.fed ++ step.fed;
       made = g.made ++ shifted (length g.fed) step.made;
@@ -96,9 +104,11 @@ module _ (F : Framing) {S : Type 0} (A : Answering S) where
       spends = omega (arith, all_made (Ok MoreRead) step, step.leaves.0, g.spends, e);
       waiting = step.leaves.2;
       ready = step.leaves.3;
+      later = all_later;
+      looked = all_looked _ (omega (arith, all_made (Ok MoreRead) step, step.leaves.0));
     }
 
-    pub answered_on : Stepped F A old new now next b c l m may_read (Ok Answered) → Going start next a c k m turns left new
+    pub answered_on : Stepped F A old new now next b c l m may_read (Ok Answered) → Going start next a c k m turns left new first seen
     answered_on step = let h = all_steps (Ok Answered) step in record {
       fed = g.fed ++ step.fed;
       made = g.made ++ shifted (length g.fed) step.made;
@@ -110,9 +120,11 @@ module _ (F : Framing) {S : Type 0} (A : Answering S) where
       spends = omega (arith, all_made (Ok Answered) step, ap length step.leaves.0, g.spends);
       waiting = step.leaves.2;
       ready = step.leaves.3;
+      later = all_later;
+      looked = all_looked _ (omega (arith, all_made (Ok Answered) step, ap length step.leaves.0, length-append g.exchanges (h.0 ∷ [])));
     }
 
-    pub silent_on : Stepped F A old new now next b c l m may_read (Ok Silent) → Going start next a c k m turns left new
+    pub silent_on : Stepped F A old new now next b c l m may_read (Ok Silent) → Going start next a c k m turns left new first seen
     silent_on step = let h = all_steps (Ok Silent) step in record {
       fed = g.fed ++ step.fed;
       made = g.made ++ shifted (length g.fed) step.made;
@@ -124,15 +136,18 @@ module _ (F : Framing) {S : Type 0} (A : Answering S) where
       spends = omega (arith, all_made (Ok Silent) step, ap length step.leaves.0, g.spends);
       waiting = step.leaves.2;
       ready = step.leaves.3;
+      later = all_later;
+      looked = all_looked _ (omega (arith, all_made (Ok Silent) step, ap length step.leaves.0, length-append g.exchanges (h.0 ∷ [])));
     }
 
     module _ (may : may_read ≡ true → 0 < left) (must : may_read ≡ false → left ≡ 0) where
-      stopped : {bytes cuts held written waiting : List ℕ} {exchanges : List (Exchange F)} → (held' : List ℕ) → waiting ≡ [] → (s : Stands F A bytes cuts held start next written waiting exchanges) → F.IsAll bytes cuts held s.taken
-          → Served F A bytes cuts start next written (remaining held)
-      stopped {bytes} {cuts} {held} {written} {waiting} {exchanges} held' none s all =
+      used_up : {bytes cuts held written waiting : List ℕ} {exchanges : List (Exchange F)} → waiting ≡ [] → (s : Stands F A bytes cuts held start next written waiting exchanges) → F.IsAll bytes cuts held s.taken
+          → (served : Served F A bytes cuts start next written (remaining held)) × (served.exchanges ≡ exchanges)
+      unfolding halted
+      used_up {bytes} {cuts} {held} {written} {waiting} {exchanges} none s all =
           let both : (s : Stands F A bytes cuts held start next written [] exchanges) × F.IsAll bytes cuts held s.taken =
           subst (λ w. (s : Stands F A bytes cuts held start next written w exchanges) × F.IsAll bytes cuts held s.taken) none (s, all) in
-          halted F A bytes cuts held start next written exchanges both.0 (remaining held) next (both.1, refl)
+          (halted F A bytes cuts held start next written exchanges both.0 (remaining held) next (both.1, refl), refl)
 
       spent : (error : ProcessError) (made : ℕ) → EndsIfMay may_read error → made + left ≡ turns → Spends (spending_of (Err error)) made turns
       spent ReadFault made e s = let some = may e in omega arith
@@ -150,65 +165,93 @@ module _ (F : Framing) {S : Type 0} (A : Answering S) where
       ended_as BytesRemaining left e = e
       ended_as _ left e = tt
 
-      pub ran_error : (error : ProcessError) → Stepped F A old new now next b c l m may_read (Err error) → Ran F A start next a c k m turns (Err error)
+      looks_each : {a c : Input} {k m : Output} {now : S} (error : ProcessError) (ran : Ran F A start now a c k m turns (Err error)) (count : ℕ) → length ran.made < count
+          → LooksEach F A start now a c k m turns (Err error) ran count
+      looks_each NoMemory ran count less = omega (arith, less)
+      looks_each _ ran count less = less
+
+      pub ran_error : (error : ProcessError) → Stepped F A old new now next b c l m may_read (Err error) → RanUntil F A stops looks start next a c k m turns first seen (Err error)
       ran_error error step = record {
-        fed = g.fed ++ step.fed;
-        made = g.made ++ shifted (length g.fed) step.made;
-        sent = g.sent ++ step.sent;
-        passes = all_passes (Err error) step;
-        served = all_steps (Err error) step;
-        rooms = all_rooms (Err error) step;
-        spends = spent error (length (g.made ++ shifted (length g.fed) step.made)) step.leaves.2 (omega (arith, all_made (Err error) step, ap length step.leaves.0, g.spends));
-        ended = λ told. ended_as error c.left (step.ended (g.passes.source.told ∙ told));
-        read_fault = λ e.
-            let same : error ≡ ReadFault = cc in
-            let rose = step.read_fault (ap (λ (x : ProcessError). Err x) same) in
-            let before = g.passes.source.later in omega (arith, rose, before);
-        write_fault = λ e.
-            let same : error ≡ WriteFault = cc in
-            let rose = step.write_fault (ap (λ (x : ProcessError). Err x) same) in
-            let before = g.passes.sink.later in omega (arith, rose, before);
+        ran = record {
+          fed = g.fed ++ step.fed;
+          made = g.made ++ shifted (length g.fed) step.made;
+          sent = g.sent ++ step.sent;
+          passes = all_passes (Err error) step;
+          served = all_steps (Err error) step;
+          rooms = all_rooms (Err error) step;
+          spends = spent error (length (g.made ++ shifted (length g.fed) step.made)) step.leaves.2 (omega (arith, all_made (Err error) step, ap length step.leaves.0, g.spends));
+          ended = λ told. ended_as error c.left (step.ended (g.passes.source.told ∙ told));
+          read_fault = λ e.
+              let same : error ≡ ReadFault = cc in
+              let rose = step.read_fault (ap (λ (x : ProcessError). Err x) same) in
+              let before = g.passes.source.later in omega (arith, rose, before);
+          write_fault = λ e.
+              let same : error ≡ WriteFault = cc in
+              let rose = step.write_fault (ap (λ (x : ProcessError). Err x) same) in
+              let before = g.passes.sink.later in omega (arith, rose, before);
+        };
+        count = length g.made + length g.exchanges + 1;
+        each = looks_each error _ _ (omega (arith, all_made (Err error) step, ap length step.leaves.0));
+        looked = all_looked _ refl;
       }
 
-      pub ran_hungry : Stepped F A old new now next b c l m may_read (Ok Hungry) → Ran F A start next a c k m turns (Err TurnLimit)
+      pub ran_hungry : Stepped F A old new now next b c l m may_read (Ok Hungry) → RanUntil F A stops looks start next a c k m turns first seen (Err TurnLimit)
       ran_hungry step = let h = all_steps (Ok Hungry) step in record {
-        fed = g.fed ++ step.fed;
-        made = g.made ++ shifted (length g.fed) step.made;
-        sent = g.sent ++ step.sent;
-        passes = all_passes (Ok Hungry) step;
-        served = (new.held, stopped new.held step.leaves.2 h.0 h.1);
-        rooms = all_rooms (Ok Hungry) step;
-        spends = let none = must step.leaves.4 in omega (arith, all_made (Ok Hungry) step, ap length step.leaves.0, g.spends, none);
-        ended = λ told. tt;
-        read_fault = λ e. absurd cc;
-        write_fault = λ e. absurd cc;
+        ran = record {
+          fed = g.fed ++ step.fed;
+          made = g.made ++ shifted (length g.fed) step.made;
+          sent = g.sent ++ step.sent;
+          passes = all_passes (Ok Hungry) step;
+          served = (new.held, (used_up step.leaves.2 h.0 h.1).0);
+          rooms = all_rooms (Ok Hungry) step;
+          spends = let none = must step.leaves.4 in omega (arith, all_made (Ok Hungry) step, ap length step.leaves.0, g.spends, none);
+          ended = λ told. tt;
+          read_fault = λ e. absurd cc;
+          write_fault = λ e. absurd cc;
+        };
+        count = length g.made + length g.exchanges + 1;
+        each = omega (arith, all_made (Ok Hungry) step, ap length step.leaves.0);
+        looked = all_looked _ refl;
       }
 
-      pub ran_ended : Stepped F A old new now next b c l m may_read (Ok Ended) → Ran F A start next a c k m turns (Ok tt)
-      ran_ended step = let h = all_steps (Ok Ended) step in record {
-        fed = g.fed ++ step.fed;
-        made = g.made ++ shifted (length g.fed) step.made;
-        sent = g.sent ++ step.sent;
-        passes = all_passes (Ok Ended) step;
-        served = subst (λ held. Served F A (g.fed ++ step.fed) (totals (g.made ++ shifted (length g.fed) step.made)) start next (g.sent ++ step.sent) (remaining held)) h.2 (stopped new.held step.leaves.2 h.0 h.1);
-        rooms = all_rooms (Ok Ended) step;
-        spends = let some = may step.leaves.4 in omega (arith, all_made (Ok Ended) step, ap length step.leaves.0, g.spends, some);
-        ended = λ told. step.ended (g.passes.source.told ∙ told);
-        read_fault = λ e. absurd cc;
-        write_fault = λ e. absurd cc;
-      }
+      pub ran_ended : Stepped F A old new now next b c l m may_read (Ok Ended) → RanUntil F A stops looks start next a c k m turns first seen (Ok Finished)
+      ran_ended step =
+          let h = all_steps (Ok Ended) step in
+          let used : (served : Served F A (g.fed ++ step.fed) (totals (g.made ++ shifted (length g.fed) step.made)) start next (g.sent ++ step.sent) (remaining [])) × (served.exchanges ≡ g.exchanges) =
+          subst (λ held. (served : Served F A (g.fed ++ step.fed) (totals (g.made ++ shifted (length g.fed) step.made)) start next (g.sent ++ step.sent) (remaining held)) × (served.exchanges ≡ g.exchanges)) h.2 (used_up step.leaves.2 h.0 h.1) in record {
+            ran = record {
+              fed = g.fed ++ step.fed;
+              made = g.made ++ shifted (length g.fed) step.made;
+              sent = g.sent ++ step.sent;
+              passes = all_passes (Ok Ended) step;
+              served = used.0;
+              rooms = all_rooms (Ok Ended) step;
+              spends = let some = may step.leaves.4 in omega (arith, all_made (Ok Ended) step, ap length step.leaves.0, g.spends, some);
+              ended = λ told. step.ended (g.passes.source.told ∙ told);
+              read_fault = λ e. absurd cc;
+              write_fault = λ e. absurd cc;
+            };
+            count = length g.made + length g.exchanges + 1;
+            each = omega (arith, all_made (Ok Ended) step, ap length step.leaves.0, ap length used.1);
+            looked = all_looked _ refl;
+          }
 
   -- no connection was opened for want of memory
-  pub ran_none : (start : S) (a : Input) (k : Output) (turns : ℕ) → F.StandsFor [] [] [] [] → Ran F A start start a a k k turns (Err NoMemory)
-  ran_none start a k turns stands = record {
-    fed = [];
-    made = [];
-    sent = [];
-    passes = passes_none a k;
-    served = wanting F A [] [] [] start start [] [] (opened F A start stands) (inr (inr refl));
-    rooms = tt;
-    spends = omega arith;
-    ended = λ told. tt;
-    read_fault = λ e. absurd cc;
-    write_fault = λ e. absurd cc;
+  pub ran_none : (start : S) (a : Input) (k : Output) (turns : ℕ) (signal : X) → F.StandsFor [] [] [] [] → RanUntil F A stops looks start start a a k k turns signal signal (Err NoMemory)
+  ran_none start a k turns signal stands = record {
+    ran = record {
+      fed = [];
+      made = [];
+      sent = [];
+      passes = passes_none a k;
+      served = wanting F A [] [] [] start start [] [] (opened F A start stands) (inr (inr refl));
+      rooms = tt;
+      spends = omega arith;
+      ended = λ told. tt;
+      read_fault = λ e. absurd cc;
+      write_fault = λ e. absurd cc;
+    };
+    count = 0;
+    each = omega arith;
+    looked = refl;
   }

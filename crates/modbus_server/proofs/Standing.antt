@@ -1,5 +1,5 @@
 -- What a connection stands for, carried over a message, over what is written of a reply, and over what is fed.
-use Rattle.std.proofs.Common.{◌≡◌, inl, inr, ℕ, List, [], ◌∷◌, ◌++◌, map, length, refl, sym, ap, ◌∙◌, subst, Result, Ok, Err, append-nil, append_assoc, arith}
+use Rattle.std.proofs.Common.{◌≡◌, ◌⊎◌, inl, inr, ℕ, List, [], ◌∷◌, ◌++◌, map, length, refl, sym, ap, ◌∙◌, subst, Result, Ok, Err, append-nil, append_assoc, arith}
 use Rattle.std.proofs.lemmas.List.{map-append}
 use Rattle.std.proofs.lemmas.List.Elements.{All-append, All-cons, All-nil}
 use Rattle.std.proofs.lemmas.Grind.{flat_map-append}
@@ -15,8 +15,8 @@ use Rattle.modbus_server.specs.declared.error.Answer.TheVariants.{Framed, Quiet}
 use Rattle.modbus_service.specs.Outcome.{silence}
 use Rattle.modbus_server.specs.Framing.{Framing, Message}
 use Rattle.modbus_service.specs.Answering.{Answering}
-use Rattle.modbus_server.specs.Exchanges.{Exchange, Gives, Run, Fits, reply_of, output, last_reply, asked_of, asks}
-use Rattle.modbus_server.specs.Answer.{Answered, AnswersAs}
+use Rattle.modbus_server.specs.Exchanges.{Exchange, GivesOutcome, Run, ReplyFits, reply_of, output, last_reply, asked_of, asks}
+use Rattle.modbus_server.specs.Answer.{Answered, Wanted, AnswersAs}
 use Rattle.modbus_server.specs.Serving.{Stands, NextIsRequest, NothingFails, Served, Halt, Halts, refused, too_long, Wanting}
 use Rattle.modbus_server.specs.Taking.{TakesAs, next_of}
 
@@ -33,13 +33,13 @@ module _ (F : Framing) where
   silent_reply x e = rw e refl
 
   module _ {S : Type 0} (A : Answering S) where
-    pub run_more : (a : S) (xs : List (Exchange F)) (b : S) (x : Exchange F) (c : S) → Run F A a xs b → Gives F A b x c → Run F A a (xs ++ x ∷ []) c
-    run_more a [] b x c e step = (c, subst (λ s. Gives F A s x c) e step, refl)
+    pub run_more : (a : S) (xs : List (Exchange F)) (b : S) (x : Exchange F) (c : S) → Run F A a xs b → GivesOutcome F A b x c → Run F A a (xs ++ x ∷ []) c
+    run_more a [] b x c e step = (c, subst (λ s. GivesOutcome F A s x c) e step, refl)
     run_more a (y ∷ ys) b x c (m, first, rest) step = (m, first, run_more m ys b x c rest step)
 
     -- before the first byte
     pub opened : (start : S) → F.StandsFor [] [] [] [] → Stands F A [] [] [] start start [] [] []
-    opened start stands = record { taken = []; stands = stands; asked = refl; run = refl; fit = All-nil (Fits F); wrote = refl; late = ([], refl) }
+    opened start stands = record { taken = []; stands = stands; asked = refl; run = refl; fit = All-nil (ReplyFits F); wrote = refl; late = ([], refl) }
 
     -- some of what waits is written
     pub sent_on : (bytes cuts held : List ℕ) (opening now : S) (written waiting sent rest : List ℕ) (exchanges : List (Exchange F)) → waiting ≡ sent ++ rest
@@ -86,25 +86,25 @@ module _ (F : Framing) where
     -- where nothing waits
     module _ (bytes cuts held : List ℕ) (opening now : S) (written : List ℕ) (exchanges : List (Exchange F))
         (s : Stands F A bytes cuts held opening now written [] exchanges) where
-      all_written : written ≡ output F exchanges
+      pub all_written : written ≡ output F exchanges
       all_written = sym (append-nil written) ∙ s.wrote
 
       -- one more message is answered, and its reply waits
       pub answered_on : (message : Message F) (held' : List ℕ) (next : S) (x : Exchange F) → F.StandsFor bytes cuts held' (s.taken ++ message ∷ [])
-          → Answered F A message now next x → Fits F x → (made : List ℕ) → made ≡ reply_of F x → Stands F A bytes cuts held' opening next written made (exchanges ++ x ∷ [])
+          → Answered F A message now next x → ReplyFits F x → (made : List ℕ) → made ≡ reply_of F x → Stands F A bytes cuts held' opening next written made (exchanges ++ x ∷ [])
       answered_on message held' next x stands answered fits made e = record {
         taken = s.taken ++ message ∷ [];
         stands = stands;
         asked = map-append (asked_of F) s.taken (message ∷ []) ∙ ap (λ front. front ++ asked_of F message ∷ []) s.asked
             ∙ ap (λ last. map (asks F) exchanges ++ last ∷ []) answered.asked ∙ sym (map-append (asks F) exchanges (x ∷ []));
         run = run_more opening exchanges now x next s.run answered.step;
-        fit = All-append (Fits F) exchanges (x ∷ []) s.fit (All-cons (Fits F) x [] fits (All-nil (Fits F)));
+        fit = All-append (ReplyFits F) exchanges (x ∷ []) s.fit (All-cons (ReplyFits F) x [] fits (All-nil (ReplyFits F)));
         wrote = ap (λ w. w ++ made) all_written ∙ ap (λ w. output F exchanges ++ w) e ∙ sym (output_more exchanges x);
         late = ([], last_more exchanges x ∙ sym e);
       }
 
       -- all messages that were taken are those before the place where it stops
-      pub halted : (halt : Halt) (next : S) → Halts F A bytes cuts s.taken now next halt → Served F A bytes cuts opening next written halt
+      unfoldable pub halted : (halt : Halt) (next : S) → Halts F A bytes cuts s.taken now next halt → Served F A bytes cuts opening next written halt
       halted halt next halts = record {
         before = s.taken;
         exchanges = exchanges;
@@ -116,20 +116,25 @@ module _ (F : Framing) where
         halts = halts;
       }
 
-      pub wanting : NothingFails F bytes cuts exchanges → Wanting F A bytes cuts opening now written
-      wanting none = record {
+      -- memory is wanting after these exchanges, and the service stands where they or its own want of memory left it
+      wanting_at : (next : S) → (next ≡ now) ⊎ ((message : Message F) × F.IsNext bytes cuts s.taken message × Wanted F A message now next) → NothingFails F bytes cuts exchanges
+          → Wanting F A bytes cuts opening next written
+      wanting_at next left none = record {
         held = held;
         waiting = [];
         exchanges = exchanges;
         ends = now;
         stood = s;
-        left = inl refl;
+        left = left;
         before = exchanges;
         last = [];
         splits = sym (append-nil exchanges);
         once = omega arith;
         none_fails = none;
       }
+
+      pub wanting : NothingFails F bytes cuts exchanges → Wanting F A bytes cuts opening now written
+      wanting none = wanting_at now (inl refl) none
 
       module _ {E : Type 0} (told : E → ProcessError) (message : Message F) (held' : List ℕ) (next : S) (made : List ℕ)
           (stands : F.StandsFor bytes cuts held' (s.taken ++ message ∷ [])) (is_next : F.IsNext bytes cuts s.taken message) where
@@ -149,38 +154,8 @@ module _ (F : Framing) where
         next_is request asked = (s.taken, message, is_next, s.asked, request, asked)
 
         wants : AnswersAs F A message now (Err fault.NoMemory) next made → TakesAs F A told bytes cuts held' opening next written made exchanges (Err NoMemory)
-        wants (request, asked, inl same) = (
-          record {
-            held = held;
-            waiting = [];
-            exchanges = exchanges;
-            ends = now;
-            stood = s;
-            left = inl same;
-            before = exchanges;
-            last = [];
-            splits = sym (append-nil exchanges);
-            once = omega arith;
-            none_fails = inl (next_is request asked);
-          },
-          next_is request asked,
-        )
-        wants (request, asked, inr (inl wanted)) = (
-          record {
-            held = held;
-            waiting = [];
-            exchanges = exchanges;
-            ends = now;
-            stood = s;
-            left = inr (message, is_next, wanted);
-            before = exchanges;
-            last = [];
-            splits = sym (append-nil exchanges);
-            once = omega arith;
-            none_fails = inl (next_is request asked);
-          },
-          next_is request asked,
-        )
+        wants (request, asked, inl same) = (wanting_at next (inl same) (inl (next_is request asked)), next_is request asked)
+        wants (request, asked, inr (inl wanted)) = (wanting_at next (inr (message, is_next, wanted)) (inl (next_is request asked)), next_is request asked)
         wants (request, asked, inr (inr (x, answered, fits))) = (
           record {
             held = held';

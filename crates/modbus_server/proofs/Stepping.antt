@@ -19,7 +19,7 @@ use Rattle.modbus_server.specs.Serving.{Stands, AreAllAnswered, Served, remainin
 use Rattle.modbus_server.specs.State.{State}
 use Rattle.modbus_server.specs.Taking.{TakesAs, Took, told_next, IsToldWell}
 use Rattle.modbus_server.specs.Moving.{Writes, Reads, EndsInput}
-use Rattle.modbus_server.specs.Stepping.{StepsAs, ReadsLast, EndsIfMay, Stepped}
+use Rattle.modbus_server.specs.Stepping.{StepsAs, ReadsLast, EndsIfMay, LeavesAs, Stepped}
 use Rattle.modbus_server.proofs.Standing.{sent_on, fed_on, halted, wanting}
 
 -- of what holds for each fault that is left to a framing
@@ -43,7 +43,7 @@ pub idle : (P : List ℕ → List ℕ → List ℕ → Type 0) (bytes cuts writt
 idle P bytes cuts written p = along P (bytes ++ []) bytes (cuts ++ []) cuts (written ++ []) written (append-nil bytes) (append-nil cuts) (append-nil written) p
 
 module _ (F : Framing) {S : Type 0} (A : Answering S) where
-  ends_told : {E : Type 0} (told : E → ProcessError) (bytes cuts held : List ℕ) (opening now : S) (written waiting : List ℕ) (exchanges : List (Exchange F)) (error : NextError E)
+  pub ends_told : {E : Type 0} (told : E → ProcessError) (bytes cuts held : List ℕ) (opening now : S) (written waiting : List ℕ) (exchanges : List (Exchange F)) (error : NextError E)
       → IsToldWell told error → TakesAs F A told bytes cuts held opening now written waiting exchanges (Err error) → EndsAs F A bytes cuts opening now written (Err (told_next told error))
   ends_told told bytes cuts held opening now written waiting exchanges (next.Broken fault) own served =
       of_framing (λ e. Served F A bytes cuts opening now written (broken e) → EndsAs F A bytes cuts opening now written (Err e)) (λ s. s) (λ s. s) (λ p s. s) (told fault) own served
@@ -58,76 +58,74 @@ module _ (F : Framing) {S : Type 0} (A : Answering S) where
   last_told told bytes cuts held opening now written waiting exchanges (next.TooLong size) own served = tt
   last_told told bytes cuts held opening now written waiting exchanges next.NoMemory own (wanting, request) = inl request
 
-  other_than : {E : Type 0} (told : E → ProcessError) (P : ProcessError → Type 0) → P TooManyRetries → P InvalidLength → ((p : ℕ) → P (InvalidProtocol p)) → ((r : _) → P (InvalidRequest r)) → ((n : ℕ) → P (ResponseTooLong n)) → P NoMemory
+  pub other_than : {E : Type 0} (told : E → ProcessError) (P : ProcessError → Type 0) → P TooManyRetries → P InvalidLength → ((p : ℕ) → P (InvalidProtocol p)) → ((r : _) → P (InvalidRequest r)) → ((n : ℕ) → P (ResponseTooLong n)) → P NoMemory
       → (error : NextError E) → IsToldWell told error → P (told_next told error)
   other_than told P a b d e f h (next.Broken fault) own = of_framing P a b d (told fault) own
   other_than told P a b d e f h (next.Refused reason) own = e reason
   other_than told P a b d e f h (next.TooLong size) own = f size
   other_than told P a b d e f h next.NoMemory own = h
 
+  -- of all for which a connection that holds these bytes stands
+  abbrev ForAll : List ℕ → S → (List ℕ → List ℕ → List ℕ → S → List (Exchange F) → Type 0) → Type 0
+  ForAll held now P = (bytes cuts written : List ℕ) (opening : S) (exchanges : List (Exchange F)) → Stands F A bytes cuts held opening now written [] exchanges
+      → P bytes cuts written opening exchanges
+
   module _ (old new : State) (before after : S) (a : Input) (k : Output) (may_read : Bool) where
+    -- it neither reads nor writes
+    still : (result : Result Step ProcessError)
+        → ForAll old.held before (λ bytes cuts written opening exchanges. StepsAs F A bytes cuts new.held opening after written new.waiting exchanges result)
+        → ForAll old.held before (λ bytes cuts written opening exchanges. ReadsLast F bytes cuts exchanges result)
+        → LeavesAs F.Waits F.most [] [] may_read old new before after result → EndsInput result a.left → (result ≡ Err ReadFault → ⊥) → (result ≡ Err WriteFault → ⊥)
+        → Stepped F A old new before after a a k k may_read result
+    still result stands last leaves ended no_read_fault no_write_fault = record {
+      fed = [];
+      made = [];
+      sent = [];
+      passes = passes_none a k;
+      stands = λ bytes cuts written opening exchanges s.
+          idle (λ b c w. StepsAs F A b c new.held opening after w new.waiting exchanges result) bytes cuts written (stands bytes cuts written opening exchanges s);
+      last = last;
+      rooms = λ bytes cuts written opening exchanges s. tt;
+      leaves = leaves;
+      ended = λ t. ended;
+      idle = λ e. refl;
+      read_fault = λ e. absurd (no_read_fault e);
+      write_fault = λ e. absurd (no_write_fault e);
+    }
+
     pub stepped_error : {E : Type 0} (told : E → ProcessError) (error : NextError E) → IsToldWell told error → Took F A told old new before after (Err error)
         → Stepped F A old new before after a a k k may_read (Err (told_next told error))
-    stepped_error told error own took = record {
-      fed = [];
-      made = [];
-      sent = [];
-      passes = passes_none a k;
-      stands = λ bytes cuts written opening exchanges s.
-          idle (λ b c w. StepsAs F A b c new.held opening after w new.waiting exchanges (Err (told_next told error))) bytes cuts written
-          (ends_told told bytes cuts new.held opening after written new.waiting exchanges error own (took.stands bytes cuts written opening exchanges s));
-      last = λ bytes cuts written opening exchanges s.
-          last_told told bytes cuts new.held opening after written new.waiting exchanges error own (took.stands bytes cuts written opening exchanges s);
-      rooms = λ bytes cuts written opening exchanges s. tt;
-      leaves = (refl, took.goes_on, other_than told (EndsIfMay may_read) tt tt (λ p. tt) (λ r. tt) (λ n. tt) tt error own);
-      ended = λ t. other_than told (λ e. EndsInput (Err e) a.left) tt tt (λ p. tt) (λ r. tt) (λ n. tt) tt error own;
-      idle = λ e. refl;
-      read_fault = λ e.
-          let same : told_next told error ≡ ReadFault = cc in
-          absurd (other_than told (λ e. e ≢ ReadFault) (λ e. cc) (λ e. cc) (λ p e. cc) (λ r e. cc) (λ n e. cc) (λ e. cc) error own same);
-      write_fault = λ e.
-          let same : told_next told error ≡ WriteFault = cc in
-          absurd (other_than told (λ e. e ≢ WriteFault) (λ e. cc) (λ e. cc) (λ p e. cc) (λ r e. cc) (λ n e. cc) (λ e. cc) error own same);
-    }
+    stepped_error told error own took =
+        still (Err (told_next told error))
+        (λ bytes cuts written opening exchanges s.
+        ends_told told bytes cuts new.held opening after written new.waiting exchanges error own (took.stands bytes cuts written opening exchanges s))
+        (λ bytes cuts written opening exchanges s.
+        last_told told bytes cuts new.held opening after written new.waiting exchanges error own (took.stands bytes cuts written opening exchanges s))
+        (refl, took.goes_on, other_than told (EndsIfMay may_read) tt tt (λ p. tt) (λ r. tt) (λ n. tt) tt error own)
+        (other_than told (λ e. EndsInput (Err e) a.left) tt tt (λ p. tt) (λ r. tt) (λ n. tt) tt error own)
+        (λ e.
+        let same : told_next told error ≡ ReadFault = cc in
+        other_than told (λ e. e ≢ ReadFault) (λ e. cc) (λ e. cc) (λ p e. cc) (λ r e. cc) (λ n e. cc) (λ e. cc) error own same)
+        (λ e.
+        let same : told_next told error ≡ WriteFault = cc in
+        other_than told (λ e. e ≢ WriteFault) (λ e. cc) (λ e. cc) (λ p e. cc) (λ r e. cc) (λ n e. cc) (λ e. cc) error own same)
 
     pub stepped_silent : {E : Type 0} (told : E → ProcessError) → Took F A told old new before after (Ok take.Silent) → Stepped F A old new before after a a k k may_read (Ok Silent)
-    stepped_silent told took = record {
-      fed = [];
-      made = [];
-      sent = [];
-      passes = passes_none a k;
-      stands = λ bytes cuts written opening exchanges s.
-          let h = took.stands bytes cuts written opening exchanges s in
-          idle (λ b c w. StepsAs F A b c new.held opening after w new.waiting exchanges (Ok Silent)) bytes cuts written
-          (h.0, subst (λ w. Stands F A bytes cuts new.held opening after written w (exchanges ++ h.0 ∷ [])) (sym took.keeps.1) h.1, h.2);
-      last = λ bytes cuts written opening exchanges s. tt;
-      rooms = λ bytes cuts written opening exchanges s. tt;
-      leaves = (refl, took.keeps.0, took.keeps.1, took.goes_on);
-      ended = λ t. tt;
-      idle = λ e. refl;
-      read_fault = λ e. absurd cc;
-      write_fault = λ e. absurd cc;
-    }
+    stepped_silent told took =
+        still (Ok Silent)
+        (λ bytes cuts written opening exchanges s.
+        let h = took.stands bytes cuts written opening exchanges s in
+        (h.0, subst (λ w. Stands F A bytes cuts new.held opening after written w (exchanges ++ h.0 ∷ [])) (sym took.keeps.1) h.1, h.2))
+        (λ bytes cuts written opening exchanges s. tt) (refl, took.keeps.0, took.keeps.1, took.goes_on) tt (λ e. cc) (λ e. cc)
 
     pub stepped_hungry : {E : Type 0} (told : E → ProcessError) → Took F A told old new before after (Ok Waiting) → may_read ≡ false → Stepped F A old new before after a a k k may_read (Ok Hungry)
-    stepped_hungry told took may = record {
-      fed = [];
-      made = [];
-      sent = [];
-      passes = passes_none a k;
-      stands = λ bytes cuts written opening exchanges s.
-          let h = took.stands bytes cuts written opening exchanges s in
-          idle (λ b c w. StepsAs F A b c new.held opening after w new.waiting exchanges (Ok Hungry)) bytes cuts written
-          (subst (λ w. (s : Stands F A bytes cuts new.held opening after written w exchanges) × F.IsAll bytes cuts new.held s.taken) (sym took.keeps.1) h);
-      last = λ bytes cuts written opening exchanges s.
-          let h = took.stands bytes cuts written opening exchanges s in (h.0.taken, new.held, h.1, h.0.asked);
-      rooms = λ bytes cuts written opening exchanges s. tt;
-      leaves = (refl, took.keeps.0, took.keeps.1, took.goes_on, may, took.keeps.2);
-      ended = λ t. tt;
-      idle = λ e. refl;
-      read_fault = λ e. absurd cc;
-      write_fault = λ e. absurd cc;
-    }
+    stepped_hungry told took may =
+        still (Ok Hungry)
+        (λ bytes cuts written opening exchanges s.
+        let h = took.stands bytes cuts written opening exchanges s in
+        subst (λ w. (s : Stands F A bytes cuts new.held opening after written w exchanges) × F.IsAll bytes cuts new.held s.taken) (sym took.keeps.1) h)
+        (λ bytes cuts written opening exchanges s. let h = took.stands bytes cuts written opening exchanges s in (h.0.taken, new.held, h.1, h.0.asked))
+        (refl, took.keeps.0, took.keeps.1, took.goes_on, may, took.keeps.2) tt (λ e. cc) (λ e. cc)
 
     -- where nothing was fed
     unfed : (P : List ℕ → List ℕ → List ℕ → Type 0) (bytes cuts written fed : List ℕ) (made : List (ℕ × ℕ)) → fed ≡ [] → made ≡ [] → P bytes cuts written
@@ -148,43 +146,44 @@ module _ (F : Framing) {S : Type 0} (A : Answering S) where
             let h = took.stands bytes cuts written opening exchanges s in
             (h.0, sent_on F A bytes cuts mid.held opening after written mid.waiting sends.sent new.waiting (exchanges ++ h.0 ∷ []) sends.splits h.1)
 
+        -- some of the reply, or all of it
+        writes_as : (result : Result Step ProcessError)
+            → ForAll old.held before (λ bytes cuts written opening exchanges. StepsAs F A bytes cuts new.held opening after (written ++ sends.sent) new.waiting exchanges result)
+            → ForAll old.held before (λ bytes cuts written opening exchanges. ReadsLast F bytes cuts exchanges result)
+            → LeavesAs F.Waits F.most [] [] may_read old new before after result → EndsInput result b.left → (result ≡ Err ReadFault → ⊥) → (result ≡ Err WriteFault → Rose k.faults m.faults)
+            → Stepped F A old new before after a b k m may_read result
+        writes_as result stands last leaves ended no_read_fault cause = record {
+          fed = [];
+          made = [];
+          sent = sends.sent;
+          passes = passes_out a b k m sends.sent unread sends.sink sends.wrote;
+          stands = λ bytes cuts written opening exchanges s.
+              along (λ x y z. StepsAs F A x y new.held opening after z new.waiting exchanges result) (bytes ++ []) bytes (cuts ++ []) cuts (written ++ sends.sent) (written ++ sends.sent)
+              (append-nil bytes) (append-nil cuts) refl (stands bytes cuts written opening exchanges s);
+          last = last;
+          rooms = λ bytes cuts written opening exchanges s. tt;
+          leaves = leaves;
+          ended = λ t. ended;
+          idle = λ e. unread;
+          read_fault = λ e. absurd (no_read_fault e);
+          write_fault = cause;
+        }
+
         pub stepped_sent : (result : Result Step ProcessError) → Writes mid new result → (result ≡ Err WriteFault → Rose k.faults m.faults) → Stepped F A old new before after a b k m may_read result
         unfolding wrote_reply
-        stepped_sent (Ok Answered) writes cause = record {
-          fed = [];
-          made = [];
-          sent = sends.sent;
-          passes = passes_out a b k m sends.sent unread sends.sink sends.wrote;
-          stands = λ bytes cuts written opening exchanges s.
-              let h = took.stands bytes cuts written opening exchanges s in
-              let w = wrote_reply bytes cuts written opening exchanges s in
-              along (λ x y z. StepsAs F A x y new.held opening after z new.waiting exchanges (Ok Answered)) (bytes ++ []) bytes (cuts ++ []) cuts (written ++ sends.sent) (written ++ sends.sent) (append-nil bytes) (append-nil cuts) refl
-              (w.0, subst (λ held. Stands F A bytes cuts held opening after (written ++ sends.sent) new.waiting (exchanges ++ w.0 ∷ [])) (sym writes.0) w.1, h.2);
-          last = λ bytes cuts written opening exchanges s. tt;
-          rooms = λ bytes cuts written opening exchanges s. tt;
-          leaves = (refl, subst (λ h. length h < length old.held) (sym writes.0) took.keeps, writes.1, writes.2 ∙ took.goes_on);
-          ended = λ t. tt;
-          idle = λ e. unread;
-          read_fault = λ e. absurd cc;
-          write_fault = cause;
-        }
-        stepped_sent (Err WriteFault) writes cause = record {
-          fed = [];
-          made = [];
-          sent = sends.sent;
-          passes = passes_out a b k m sends.sent unread sends.sink sends.wrote;
-          stands = λ bytes cuts written opening exchanges s.
-              let w = wrote_reply bytes cuts written opening exchanges s in
-              along (λ x y z. StepsAs F A x y new.held opening after z new.waiting exchanges (Err WriteFault)) (bytes ++ []) bytes (cuts ++ []) cuts (written ++ sends.sent) (written ++ sends.sent) (append-nil bytes) (append-nil cuts) refl
-              (record { held = mid.held; waiting = new.waiting; exchanges = exchanges ++ w.0 ∷ []; stood = w.1 });
-          last = λ bytes cuts written opening exchanges s. tt;
-          rooms = λ bytes cuts written opening exchanges s. tt;
-          leaves = (refl, writes.1, tt);
-          ended = λ t. tt;
-          idle = λ e. unread;
-          read_fault = λ e. absurd cc;
-          write_fault = cause;
-        }
+        stepped_sent (Ok Answered) writes cause =
+            writes_as (Ok Answered)
+            (λ bytes cuts written opening exchanges s.
+            let h = took.stands bytes cuts written opening exchanges s in
+            let w = wrote_reply bytes cuts written opening exchanges s in
+            (w.0, subst (λ held. Stands F A bytes cuts held opening after (written ++ sends.sent) new.waiting (exchanges ++ w.0 ∷ [])) (sym writes.0) w.1, h.2))
+            (λ bytes cuts written opening exchanges s. tt) (refl, subst (λ h. length h < length old.held) (sym writes.0) took.keeps, writes.1, writes.2 ∙ took.goes_on) tt (λ e. cc) cause
+        stepped_sent (Err WriteFault) writes cause =
+            writes_as (Err WriteFault)
+            (λ bytes cuts written opening exchanges s.
+            let w = wrote_reply bytes cuts written opening exchanges s in
+            record { held = mid.held; waiting = new.waiting; exchanges = exchanges ++ w.0 ∷ []; stood = w.1 })
+            (λ bytes cuts written opening exchanges s. tt) (refl, writes.1, tt) tt (λ e. cc) cause
         stepped_sent (Ok _) writes cause = absurd writes
         stepped_sent (Err _) writes cause = absurd writes
 
@@ -207,6 +206,29 @@ module _ (F : Framing) {S : Type 0} (A : Answering S) where
 
         passes_read : (result : Result Step ProcessError) (reads : Reads F a b mid new result) → RisesTo 0 reads.made (length reads.fed) → Passes a b k m reads.fed reads.made []
         passes_read result reads rises = passes_in a b k m reads.fed reads.made unsent reads.source reads.read reads.cuts rises
+
+        -- it gave nothing
+        reads_none : (result : Result Step ProcessError) (reads : Reads F a b mid new result) → reads.fed ≡ [] → reads.made ≡ []
+            → ForAll old.held before (λ bytes cuts written opening exchanges. StepsAs F A bytes cuts new.held opening after written new.waiting exchanges result)
+            → ForAll old.held before (λ bytes cuts written opening exchanges. ReadsLast F bytes cuts exchanges result)
+            → LeavesAs F.Waits F.most reads.fed reads.made may_read old new before after result → (result ≡ Err WriteFault → ⊥)
+            → Stepped F A old new before after a b k m may_read result
+        reads_none result reads none_fed none_made stands last leaves no_write_fault = record {
+          fed = reads.fed;
+          made = reads.made;
+          sent = [];
+          passes = passes_read result reads (rises_none reads.fed reads.made none_fed none_made);
+          stands = λ bytes cuts written opening exchanges s.
+              unfed (λ x y z. StepsAs F A x y new.held opening after z new.waiting exchanges result) bytes cuts written reads.fed reads.made none_fed none_made
+              (stands bytes cuts written opening exchanges s);
+          last = last;
+          rooms = λ bytes cuts written opening exchanges s. no_rooms bytes reads.fed reads.made none_made;
+          leaves = leaves;
+          ended = reads.ended;
+          idle = idle_not;
+          read_fault = reads.cause;
+          write_fault = λ e. absurd (no_write_fault e);
+        }
 
         pub stepped_read : (result : Result Step ProcessError) → Reads F a b mid new result → Stepped F A old new before after a b k m may_read result
         stepped_read (Ok MoreRead) reads =
@@ -242,77 +264,23 @@ module _ (F : Framing) {S : Type 0} (A : Answering S) where
             let gives = reads.gives in
             let none : new.waiting ≡ [] = gives.4 ∙ took.keeps.1 in
             let empty : new.held ≡ [] = gives.3 ∙ gives.2 in
-            record {
-              fed = reads.fed;
-              made = reads.made;
-              sent = [];
-              passes = passes_read (Ok Ended) reads (rises_none reads.fed reads.made gives.0 gives.1);
-              stands = λ bytes cuts written opening exchanges s.
-                  let h = took.stands bytes cuts written opening exchanges s in
-                  unfed (λ x y z. StepsAs F A x y new.held opening after z new.waiting exchanges (Ok Ended)) bytes cuts written reads.fed reads.made gives.0 gives.1
-                  (subst (λ held. (s : Stands F A bytes cuts held opening after written new.waiting exchanges) × F.IsAll bytes cuts held s.taken × (held ≡ [])) (sym gives.3)
-                  (subst (λ w. (s : Stands F A bytes cuts mid.held opening after written w exchanges) × F.IsAll bytes cuts mid.held s.taken × (mid.held ≡ [])) (sym none) (h.0, h.1, gives.2)));
-              last = all_answered;
-              rooms = λ bytes cuts written opening exchanges s. no_rooms bytes reads.fed reads.made gives.1;
-              leaves = (gives.1, empty, none, gives.5, may, took.keeps.2);
-              ended = reads.ended;
-              idle = idle_not;
-              read_fault = reads.cause;
-              write_fault = λ e. absurd cc;
-            }
+            reads_none (Ok Ended) reads gives.0 gives.1
+            (λ bytes cuts written opening exchanges s.
+            let h = took.stands bytes cuts written opening exchanges s in
+            subst (λ held. (s : Stands F A bytes cuts held opening after written new.waiting exchanges) × F.IsAll bytes cuts held s.taken × (held ≡ [])) (sym gives.3)
+            (subst (λ w. (s : Stands F A bytes cuts mid.held opening after written w exchanges) × F.IsAll bytes cuts mid.held s.taken × (mid.held ≡ [])) (sym none) (h.0, h.1, gives.2)))
+            all_answered (gives.1, empty, none, gives.5, may, took.keeps.2) (λ e. cc)
         stepped_read (Err BytesRemaining) reads =
             let gives = reads.gives in
-            record {
-              fed = reads.fed;
-              made = reads.made;
-              sent = [];
-              passes = passes_read (Err BytesRemaining) reads (rises_none reads.fed reads.made gives.0 gives.1);
-              stands = λ bytes cuts written opening exchanges s.
-                  unfed (λ x y z. StepsAs F A x y new.held opening after z new.waiting exchanges (Err BytesRemaining)) bytes cuts written reads.fed reads.made gives.0 gives.1
-                  (mid.held, gives.2, served_all bytes cuts written opening exchanges s);
-              last = all_answered;
-              rooms = λ bytes cuts written opening exchanges s. no_rooms bytes reads.fed reads.made gives.1;
-              leaves = (gives.1, gives.3, may);
-              ended = reads.ended;
-              idle = idle_not;
-              read_fault = reads.cause;
-              write_fault = λ e. absurd cc;
-            }
+            reads_none (Err BytesRemaining) reads gives.0 gives.1
+            (λ bytes cuts written opening exchanges s. (mid.held, gives.2, served_all bytes cuts written opening exchanges s)) all_answered (gives.1, gives.3, may) (λ e. cc)
         stepped_read (Err ReadFault) reads =
             let gives = reads.gives in
-            record {
-              fed = reads.fed;
-              made = reads.made;
-              sent = [];
-              passes = passes_read (Err ReadFault) reads (rises_none reads.fed reads.made gives.0 gives.1);
-              stands = λ bytes cuts written opening exchanges s.
-                  unfed (λ x y z. StepsAs F A x y new.held opening after z new.waiting exchanges (Err ReadFault)) bytes cuts written reads.fed reads.made gives.0 gives.1
-                  (mid.held, served_all bytes cuts written opening exchanges s);
-              last = all_answered;
-              rooms = λ bytes cuts written opening exchanges s. no_rooms bytes reads.fed reads.made gives.1;
-              leaves = (gives.1, gives.2, may);
-              ended = reads.ended;
-              idle = idle_not;
-              read_fault = reads.cause;
-              write_fault = λ e. absurd cc;
-            }
+            reads_none (Err ReadFault) reads gives.0 gives.1
+            (λ bytes cuts written opening exchanges s. (mid.held, served_all bytes cuts written opening exchanges s)) all_answered (gives.1, gives.2, may) (λ e. cc)
         stepped_read (Err NoMemory) reads =
             let gives = reads.gives in
-            record {
-              fed = reads.fed;
-              made = reads.made;
-              sent = [];
-              passes = passes_read (Err NoMemory) reads (rises_none reads.fed reads.made gives.0 gives.1);
-              stands = λ bytes cuts written opening exchanges s.
-                  unfed (λ x y z. StepsAs F A x y new.held opening after z new.waiting exchanges (Err NoMemory)) bytes cuts written reads.fed reads.made gives.0 gives.1
-                  (wanting_all bytes cuts written opening exchanges s);
-              last = λ bytes cuts written opening exchanges s. inr (inl (all_answered bytes cuts written opening exchanges s));
-              rooms = λ bytes cuts written opening exchanges s. no_rooms bytes reads.fed reads.made gives.1;
-              leaves = (gives.1, gives.2, tt);
-              ended = reads.ended;
-              idle = idle_not;
-              read_fault = reads.cause;
-              write_fault = λ e. absurd cc;
-            }
+            reads_none (Err NoMemory) reads gives.0 gives.1 wanting_all
+            (λ bytes cuts written opening exchanges s. inr (inl (all_answered bytes cuts written opening exchanges s))) (gives.1, gives.2, tt) (λ e. cc)
         stepped_read (Ok _) reads = absurd reads.gives
         stepped_read (Err _) reads = absurd reads.gives

@@ -1,4 +1,4 @@
--- The failing place of a call over units is the first one.
+-- The failing place of a call over ADUs is the first one.
 use Rattle.std.proofs.Common.{◌≡◌, inl, inr, ℕ, ◌≤◌, List, [], ◌∷◌, ◌++◌, map, length, refl, sym, ap, ◌∙◌, subst, arith, Err, length-append, append_assoc, append-nil}
 use Rattle.std.specs.Prelude.{All}
 use Rattle.std.proofs.lemmas.Bool.{cases_lt}
@@ -6,153 +6,153 @@ use Rattle.modbus_frame.specs.declared.fault.Reason.{Reason}
 use Rattle.modbus_frame.specs.declared.tcp.Header.{Header}
 use Rattle.modbus_pdu.specs.RequestOf.{request_of}
 use Rattle.modbus_tcp.specs.Stream.{Rest, empty, unfinished, no_length, foreign, IsSplit}
-use Rattle.modbus_tcp.specs.Unit.{IsUnit, stream_of}
+use Rattle.modbus_tcp.specs.Adu.{IsAdu, stream_of}
 use Rattle.modbus_service.specs.Answering.{Answering}
 use Rattle.modbus_server.specs.declared.error.ProcessError.TheVariants.{InvalidLength, InvalidProtocol}
-use Rattle.modbus_server.specs.Exchanges.{Exchange, Run, Fits, told_size, asked_of, asks}
-use Rattle.modbus_server.specs.Tcp.{tcp, IsNextUnit}
+use Rattle.modbus_server.specs.Exchanges.{Exchange, Run, ReplyFits, told_reply_size, asked_of, asks}
+use Rattle.modbus_server.specs.Tcp.{tcp, IsNextAdu}
 use Rattle.modbus_server.specs.Serving.{Served, Halt, Halts, remaining, broken, refused, too_long, asked_last, all_asked}
-use Rattle.modbus_server.specs.FirstUnit.{HasUnitFault, IsFirstUnitFault}
+use Rattle.modbus_server.specs.FirstAdu.{HasAduFault, IsFirstAduFault}
 use Rattle.modbus_server.proofs.Asked.{all_fit, last_or_within, same_after, no_refusal, as_many, within_front, asked_well, one_first}
 use Rattle.modbus_server.proofs.Standing.{run_more}
 
-module _ (units before : List (Header × List ℕ)) (exchanges : List (Exchange tcp)) (asked : map (asked_of tcp) before ≡ map (asks tcp) exchanges) where
-  -- no unit that was answered is refused
+module _ (adus before : List (Header × List ℕ)) (exchanges : List (Exchange tcp)) (asked : map (asked_of tcp) before ≡ map (asks tcp) exchanges) where
+  -- no ADU that was answered is refused
   refused_later : (tail earlier : List (Header × List ℕ)) (message : Header × List ℕ) (later : List (Header × List ℕ)) (reason : Reason)
-      → units ≡ before ++ tail → units ≡ earlier ++ message ∷ later → request_of message.1 ≡ Err reason → length before ≤ length earlier
+      → adus ≡ before ++ tail → adus ≡ earlier ++ message ∷ later → request_of message.1 ≡ Err reason → length before ≤ length earlier
   refused_later tail earlier message later reason e splits bad = elim (cases_lt (length earlier) (length before)) [
     | inl less ↦ (let inner = within_front before tail earlier message later (sym e ∙ splits) less in
         absurd (no_refusal tcp earlier message inner.0 exchanges reason (ap (map (asked_of tcp)) (sym inner.1) ∙ asked) bad))
     | inr ge ↦ ge
   ]
 
--- where each list of bytes is units and a rest in one way, and units that were taken off come first
-module _ (one : (bytes rest left : List ℕ) (units others : List (Header × List ℕ)) (kind other : Rest) → IsSplit bytes units rest kind → IsSplit bytes others left other
-    → (units ≡ others) × (rest ≡ left) × (kind ≡ other))
-    (first : (bytes held rest : List ℕ) (units all : List (Header × List ℕ)) (kind : Rest) → bytes ≡ stream_of units ++ held → All IsUnit units → IsSplit bytes all rest kind
-    → (later : List (Header × List ℕ)) × (all ≡ units ++ later) × IsSplit held later rest kind)
+-- where each list of bytes is ADUs and a rest in one way, and ADUs that were taken off come first
+module _ (one : (bytes rest left : List ℕ) (adus others : List (Header × List ℕ)) (kind other : Rest) → IsSplit bytes adus rest kind → IsSplit bytes others left other
+    → (adus ≡ others) × (rest ≡ left) × (kind ≡ other))
+    (first : (bytes held rest : List ℕ) (adus all : List (Header × List ℕ)) (kind : Rest) → bytes ≡ stream_of adus ++ held → All IsAdu adus → IsSplit bytes all rest kind
+    → (later : List (Header × List ℕ)) × (all ≡ adus ++ later) × IsSplit held later rest kind)
     {S : Type 0} (A : Answering S) (bytes cuts : List ℕ) (opening now : S) (written : List ℕ) where
   -- all exchanges of the run, whose place that fails first is this one
-  abbrev pub FirstUnitFault : Halt → List (Exchange tcp) → Type 0
-  FirstUnitFault halt all = Run tcp A opening all now
-      × ((units : List (Header × List ℕ)) (rest : List ℕ) (kind : Rest) → IsSplit bytes units rest kind → IsFirstUnitFault units kind all halt)
+  abbrev pub FirstAduFault : Halt → List (Exchange tcp) → Type 0
+  FirstAduFault halt all = Run tcp A opening all now
+      × ((adus : List (Header × List ℕ)) (rest : List ℕ) (kind : Rest) → IsSplit bytes adus rest kind → IsFirstAduFault adus kind all halt)
 
-  -- a unit that comes next is the one after those that were taken
-  next_of_all : (rest : List ℕ) (units before : List (Header × List ℕ)) (kind : Rest) (message : Header × List ℕ) → IsSplit bytes units rest kind → IsNextUnit bytes cuts before message
-      → (later : List (Header × List ℕ)) × (units ≡ before ++ message ∷ later)
-  next_of_all rest units before kind message split (others, joined, whole) =
-      let more = first bytes others rest (before ++ message ∷ []) units kind joined whole split in
+  -- an ADU that comes next is the one after those that were taken
+  next_of_all : (rest : List ℕ) (adus before : List (Header × List ℕ)) (kind : Rest) (message : Header × List ℕ) → IsSplit bytes adus rest kind → IsNextAdu bytes cuts before message
+      → (later : List (Header × List ℕ)) × (adus ≡ before ++ message ∷ later)
+  next_of_all rest adus before kind message split (others, joined, whole) =
+      let more = first bytes others rest (before ++ message ∷ []) adus kind joined whole split in
       (more.0, more.1 ∙ append_assoc before (message ∷ []) more.0)
 
   module _ (before : List (Header × List ℕ)) (exchanges : List (Exchange tcp)) (asked : map (asked_of tcp) before ≡ map (asks tcp) exchanges)
-      (fit : All (Fits tcp) exchanges) (ends : S) (run : Run tcp A opening exchanges ends) where
+      (fit : All (ReplyFits tcp) exchanges) (ends : S) (run : Run tcp A opening exchanges ends) where
     ran : now ≡ ends → Run tcp A opening exchanges now
     ran same = subst (λ x. Run tcp A opening exchanges x) (sym same) run
 
-    -- all units were answered, so only the rest can fail
-    only_rest : (units : List (Header × List ℕ)) (kind : Rest) → units ≡ before → (place : ℕ) (halt : Halt) → HasUnitFault units kind exchanges place halt
-        → length units ≤ place
-    only_rest units kind e place (remaining left) h = absurd h
-    only_rest units kind e place (broken InvalidLength) h = omega (arith, h.0)
-    only_rest units kind e place (broken (InvalidProtocol protocol)) h = omega (arith, h.0)
-    only_rest units kind e place (broken _) h = absurd h
-    only_rest units kind e place (refused reason) (earlier, message, later, splits, count, bad) =
+    -- all ADUs were answered, so only the rest can fail
+    only_rest : (adus : List (Header × List ℕ)) (kind : Rest) → adus ≡ before → (place : ℕ) (halt : Halt) → HasAduFault adus kind exchanges place halt
+        → length adus ≤ place
+    only_rest adus kind e place (remaining left) h = absurd h
+    only_rest adus kind e place (broken InvalidLength) h = omega (arith, h.0)
+    only_rest adus kind e place (broken (InvalidProtocol protocol)) h = omega (arith, h.0)
+    only_rest adus kind e place (broken _) h = absurd h
+    only_rest adus kind e place (refused reason) (earlier, message, later, splits, count, bad) =
         absurd (no_refusal tcp earlier message later exchanges reason (ap (map (asked_of tcp)) (sym splits ∙ e) ∙ asked) bad)
-    only_rest units kind e place (too_long size) (earlier, message, later, splits, count, before', x, after, all, count', asks', is, long) =
+    only_rest adus kind e place (too_long size) (earlier, message, later, splits, count, before', x, after, all, count', asks', is, long) =
         absurd (all_fit tcp exchanges before' after x size fit all is long)
 
-    none_fails : (units : List (Header × List ℕ)) (kind : Rest) → units ≡ before → (kind ≡ no_length → ⊥) → ((protocol : ℕ) → kind ≡ foreign protocol → ⊥)
-        → (place : ℕ) (halt : Halt) → HasUnitFault units kind exchanges place halt → ⊥
-    none_fails units kind e no_zero no_foreign place (remaining left) h = h
-    none_fails units kind e no_zero no_foreign place (broken InvalidLength) h = no_zero h.1
-    none_fails units kind e no_zero no_foreign place (broken (InvalidProtocol protocol)) h = no_foreign protocol h.1
-    none_fails units kind e no_zero no_foreign place (broken _) h = h
-    none_fails units kind e no_zero no_foreign place (refused reason) (earlier, message, later, splits, count, bad) =
+    none_fails : (adus : List (Header × List ℕ)) (kind : Rest) → adus ≡ before → (kind ≡ no_length → ⊥) → ((protocol : ℕ) → kind ≡ foreign protocol → ⊥)
+        → (place : ℕ) (halt : Halt) → HasAduFault adus kind exchanges place halt → ⊥
+    none_fails adus kind e no_zero no_foreign place (remaining left) h = h
+    none_fails adus kind e no_zero no_foreign place (broken InvalidLength) h = no_zero h.1
+    none_fails adus kind e no_zero no_foreign place (broken (InvalidProtocol protocol)) h = no_foreign protocol h.1
+    none_fails adus kind e no_zero no_foreign place (broken _) h = h
+    none_fails adus kind e no_zero no_foreign place (refused reason) (earlier, message, later, splits, count, bad) =
         no_refusal tcp earlier message later exchanges reason (ap (map (asked_of tcp)) (sym splits ∙ e) ∙ asked) bad
-    none_fails units kind e no_zero no_foreign place (too_long size) (earlier, message, later, splits, count, before', x, after, all, count', asks', is, long) =
+    none_fails adus kind e no_zero no_foreign place (too_long size) (earlier, message, later, splits, count, before', x, after, all, count', asks', is, long) =
         all_fit tcp exchanges before' after x size fit all is long
 
-    -- the unit after those that were answered is the first that can fail
-    not_before : (units tail : List (Header × List ℕ)) (kind : Rest) → units ≡ before ++ tail → (place : ℕ) (halt : Halt) → HasUnitFault units kind exchanges place halt
+    -- the ADU after those that were answered is the first that can fail
+    not_before : (adus tail : List (Header × List ℕ)) (kind : Rest) → adus ≡ before ++ tail → (place : ℕ) (halt : Halt) → HasAduFault adus kind exchanges place halt
         → length before ≤ place
-    not_before units tail kind e place (remaining left) h = absurd h
-    not_before units tail kind e place (broken InvalidLength) h = omega (arith, h.0, ap length e, length-append before tail)
-    not_before units tail kind e place (broken (InvalidProtocol protocol)) h = omega (arith, h.0, ap length e, length-append before tail)
-    not_before units tail kind e place (broken _) h = absurd h
-    not_before units tail kind e place (refused reason) (earlier, message, later, splits, count, bad) =
-        omega (arith, count, refused_later units before exchanges asked tail earlier message later reason e splits bad)
-    not_before units tail kind e place (too_long size) (earlier, message, later, splits, count, before', x, after, all, count', asks', is, long) =
+    not_before adus tail kind e place (remaining left) h = absurd h
+    not_before adus tail kind e place (broken InvalidLength) h = omega (arith, h.0, ap length e, length-append before tail)
+    not_before adus tail kind e place (broken (InvalidProtocol protocol)) h = omega (arith, h.0, ap length e, length-append before tail)
+    not_before adus tail kind e place (broken _) h = absurd h
+    not_before adus tail kind e place (refused reason) (earlier, message, later, splits, count, bad) =
+        omega (arith, count, refused_later adus before exchanges asked tail earlier message later reason e splits bad)
+    not_before adus tail kind e place (too_long size) (earlier, message, later, splits, count, before', x, after, all, count', asks', is, long) =
         absurd (all_fit tcp exchanges before' after x size fit all is long)
 
-    alone : (halt : Halt) → FirstUnitFault halt exchanges → FirstUnitFault halt (exchanges ++ [])
-    alone halt h = subst (λ all. FirstUnitFault halt all) (sym (append-nil exchanges)) h
+    alone : (halt : Halt) → FirstAduFault halt exchanges → FirstAduFault halt (exchanges ++ [])
+    alone halt h = subst (λ all. FirstAduFault halt all) (sym (append-nil exchanges)) h
 
-    by_halts : (halt : Halt) (h : Halts tcp A bytes cuts before ends now halt) → FirstUnitFault halt (exchanges ++ asked_last tcp A bytes cuts before ends now halt h)
+    by_halts : (halt : Halt) (h : Halts tcp A bytes cuts before ends now halt) → FirstAduFault halt (exchanges ++ asked_last tcp A bytes cuts before ends now halt h)
     by_halts (remaining left) (inl split, same) = alone (remaining left) (
       ran same,
-      λ units rest kind whole.
-          let is = one bytes rest left units before kind empty whole split in
-          none_fails units kind is.0 (λ bad. cc) (λ protocol bad. cc),
+      λ adus rest kind whole.
+          let is = one bytes rest left adus before kind empty whole split in
+          none_fails adus kind is.0 (λ bad. cc) (λ protocol bad. cc),
     )
     by_halts (remaining left) (inr split, same) = alone (remaining left) (
       ran same,
-      λ units rest kind whole.
-          let is = one bytes rest left units before kind unfinished whole split in
-          none_fails units kind is.0 (λ bad. cc) (λ protocol bad. cc),
+      λ adus rest kind whole.
+          let is = one bytes rest left adus before kind unfinished whole split in
+          none_fails adus kind is.0 (λ bad. cc) (λ protocol bad. cc),
     )
     by_halts (broken InvalidLength) ((left, split), same) = alone (broken InvalidLength) (
       ran same,
-      λ units rest kind whole.
-          let is = one bytes rest left units before kind no_length whole split in
-          (length units, (refl, is.2), only_rest units kind is.0),
+      λ adus rest kind whole.
+          let is = one bytes rest left adus before kind no_length whole split in
+          (length adus, (refl, is.2), only_rest adus kind is.0),
     )
     by_halts (broken (InvalidProtocol protocol)) ((left, split), same) = alone (broken (InvalidProtocol protocol)) (
       ran same,
-      λ units rest kind whole.
-          let is = one bytes rest left units before kind (foreign protocol) whole split in
-          (length units, (refl, is.2), only_rest units kind is.0),
+      λ adus rest kind whole.
+          let is = one bytes rest left adus before kind (foreign protocol) whole split in
+          (length adus, (refl, is.2), only_rest adus kind is.0),
     )
     by_halts (broken _) (b, same) = absurd b
     by_halts (refused reason) (message, t, bad, same) = alone (refused reason) (
       ran same,
-      λ units rest kind whole.
-          let after = next_of_all rest units before kind message whole t in
-          (length before, (before, message, after.0, after.1, refl, bad), not_before units (message ∷ after.0) kind after.1),
+      λ adus rest kind whole.
+          let after = next_of_all rest adus before kind message whole t in
+          (length before, (before, message, after.0, after.1, refl, bad), not_before adus (message ∷ after.0) kind after.1),
     )
     by_halts (too_long size) (message, t, y, asked', step, is, long) = (
       run_more tcp A opening exchanges ends y now run step,
-      λ units rest kind whole.
-          let after = next_of_all rest units before kind message whole t in (
+      λ adus rest kind whole.
+          let after = next_of_all rest adus before kind message whole t in (
             length before,
             (before, message, after.0, after.1, refl, exchanges, y, [], refl, sym (as_many tcp before exchanges asked), asked', is, long),
-            later units (message ∷ after.0) kind after.1,
+            later adus (message ∷ after.0) kind after.1,
           ),
     )
       where
-        later : (units tail : List (Header × List ℕ)) (kind : Rest) → units ≡ before ++ tail → (place : ℕ) (halt : Halt) → HasUnitFault units kind (exchanges ++ y ∷ []) place halt
+        later : (adus tail : List (Header × List ℕ)) (kind : Rest) → adus ≡ before ++ tail → (place : ℕ) (halt : Halt) → HasAduFault adus kind (exchanges ++ y ∷ []) place halt
             → length before ≤ place
-        later units tail kind e place (remaining left) h = absurd h
-        later units tail kind e place (broken InvalidLength) h = omega (arith, h.0, ap length e, length-append before tail)
-        later units tail kind e place (broken (InvalidProtocol protocol)) h = omega (arith, h.0, ap length e, length-append before tail)
-        later units tail kind e place (broken _) h = absurd h
-        later units tail kind e place (refused reason) (earlier, message', later', splits, count, bad) =
-            omega (arith, count, refused_later units before exchanges asked tail earlier message' later' reason e splits bad)
-        later units tail kind e place (too_long size') (earlier, message', later', splits, count, before', x, after, all, count', asks', is', long') =
+        later adus tail kind e place (remaining left) h = absurd h
+        later adus tail kind e place (broken InvalidLength) h = omega (arith, h.0, ap length e, length-append before tail)
+        later adus tail kind e place (broken (InvalidProtocol protocol)) h = omega (arith, h.0, ap length e, length-append before tail)
+        later adus tail kind e place (broken _) h = absurd h
+        later adus tail kind e place (refused reason) (earlier, message', later', splits, count, bad) =
+            omega (arith, count, refused_later adus before exchanges asked tail earlier message' later' reason e splits bad)
+        later adus tail kind e place (too_long size') (earlier, message', later', splits, count, before', x, after, all, count', asks', is', long') =
             elim (last_or_within tcp exchanges before' after y x all) [
               | inl (inner, same) ↦ absurd (all_fit tcp exchanges before' inner x size' fit same is' long')
               | inr same ↦ omega (arith, same, count', as_many tcp before exchanges asked)
             ]
 
-  pub first_unit_fault : (halt : Halt) (s : Served tcp A bytes cuts opening now written halt) → FirstUnitFault halt (all_asked tcp A bytes cuts opening now written halt s)
-  first_unit_fault halt s = by_halts s.before s.exchanges s.asked s.fit s.ends s.run halt s.halts
+  pub first_adu_fault : (halt : Halt) (s : Served tcp A bytes cuts opening now written halt) → FirstAduFault halt (all_asked tcp A bytes cuts opening now written halt s)
+  first_adu_fault halt s = by_halts s.before s.exchanges s.asked s.fit s.ends s.run halt s.halts
 
 -- two kinds of fault are not both the first
-module _ (units : List (Header × List ℕ)) (kind : Rest) (all : List (Exchange tcp)) where
+module _ (adus : List (Header × List ℕ)) (kind : Rest) (all : List (Exchange tcp)) where
   past_all : (earlier : List (Header × List ℕ)) (message : Header × List ℕ) (later : List (Header × List ℕ)) (place : ℕ)
-      → units ≡ earlier ++ message ∷ later → length earlier ≡ place → place ≡ length units → ⊥
+      → adus ≡ earlier ++ message ∷ later → length earlier ≡ place → place ≡ length adus → ⊥
   past_all earlier message later place splits count end = omega (arith, count, end, ap length splits, length-append earlier (message ∷ later))
 
-  same_at : (place : ℕ) (f g : Halt) → HasUnitFault units kind all place f → HasUnitFault units kind all place g → f ≡ g
+  same_at : (place : ℕ) (f g : Halt) → HasAduFault adus kind all place f → HasAduFault adus kind all place g → f ≡ g
   same_at place (remaining left) g h k = absurd h
   same_at place (broken InvalidLength) (remaining left) h k = absurd k
   same_at place (broken InvalidLength) (broken InvalidLength) h k = refl
@@ -188,8 +188,8 @@ module _ (units : List (Header × List ℕ)) (kind : Rest) (all : List (Exchange
   same_at place (too_long size) (too_long other) (earlier, message, later, splits, count, before, x, after, is_all, many, asked, is, long)
       (earlier', message', later', splits', count', before', x', after', is_all', many', asked', is', long') =
       let same : x ≡ x' = same_after before before' x x' after after' (sym is_all ∙ is_all') (many ∙ sym many') in
-      ap too_long (is ∙ ap (told_size tcp) same ∙ sym is')
+      ap too_long (is ∙ ap (told_reply_size tcp) same ∙ sym is')
 
-  pub one_unit_fault : (p q : ℕ) (f g : Halt) → HasUnitFault units kind all p f → HasUnitFault units kind all q g
-      → IsFirstUnitFault units kind all f → IsFirstUnitFault units kind all g → f ≡ g
-  one_unit_fault = one_first (HasUnitFault units kind all) (λ place left h. h) same_at
+  pub one_adu_fault : (p q : ℕ) (f g : Halt) → HasAduFault adus kind all p f → HasAduFault adus kind all q g
+      → IsFirstAduFault adus kind all f → IsFirstAduFault adus kind all g → f ≡ g
+  one_adu_fault = one_first (HasAduFault adus kind all) (λ place left h. h) same_at

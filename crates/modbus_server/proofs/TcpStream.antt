@@ -1,21 +1,21 @@
--- Units with nothing left go on as they were read.
+-- ADUs with nothing left go on as they were read.
 use Rattle.std.proofs.Common.{◌≡◌, inl, inr, ℕ, List, [], ◌∷◌, ◌++◌, sym, ap, ◌∙◌, subst, append-nil, append_assoc}
 use Rattle.std.specs.Prelude.{All}
 use Rattle.modbus_frame.specs.declared.tcp.Header.{Header}
-use Rattle.modbus_tcp.specs.Unit.{IsUnit, stream_of}
+use Rattle.modbus_tcp.specs.Adu.{IsAdu, stream_of}
 use Rattle.modbus_tcp.specs.Stream.{Rest, empty, unfinished, no_length, foreign, IsRest, IsSplit}
 use Rattle.modbus_server.specs.declared.error.ProcessError.{ProcessError}
 use Rattle.modbus_server.specs.declared.error.ProcessError.TheVariants.{InvalidLength, InvalidProtocol}
-use Rattle.modbus_server.specs.Tcp.{tcp, IsNextUnit, AreAllUnits, IsFaultAfter, AreOnlyUnits}
+use Rattle.modbus_server.specs.Tcp.{tcp, IsNextAdu, AreAllAdus, IsFaultAfter, AreOnlyAdus}
 use Rattle.modbus_server.proofs.Completing.{GoesOn}
 
-module _ (one : (bytes rest left : List ℕ) (units others : List (Header × List ℕ)) (kind other : Rest) → IsSplit bytes units rest kind → IsSplit bytes others left other
-    → (units ≡ others) × (rest ≡ left) × (kind ≡ other))
-    (first : (bytes held rest : List ℕ) (units all : List (Header × List ℕ)) (kind : Rest) → bytes ≡ stream_of units ++ held → All IsUnit units → IsSplit bytes all rest kind
-    → (later : List (Header × List ℕ)) × (all ≡ units ++ later) × IsSplit held later rest kind)
+module _ (one : (bytes rest left : List ℕ) (adus others : List (Header × List ℕ)) (kind other : Rest) → IsSplit bytes adus rest kind → IsSplit bytes others left other
+    → (adus ≡ others) × (rest ≡ left) × (kind ≡ other))
+    (first : (bytes held rest : List ℕ) (adus all : List (Header × List ℕ)) (kind : Rest) → bytes ≡ stream_of adus ++ held → All IsAdu adus → IsSplit bytes all rest kind
+    → (later : List (Header × List ℕ)) × (all ≡ adus ++ later) × IsSplit held later rest kind)
     (stays_without : (bytes more : List ℕ) → IsRest bytes no_length → IsRest (bytes ++ more) no_length)
     (stays_foreign : (bytes more : List ℕ) (protocol : ℕ) → IsRest bytes (foreign protocol) → IsRest (bytes ++ more) (foreign protocol))
-    (read rest : List ℕ) (messages : List (Header × List ℕ)) (clean : AreOnlyUnits (read ++ rest) messages) where
+    (read rest : List ℕ) (messages : List (Header × List ℕ)) (clean : AreOnlyAdus (read ++ rest) messages) where
   unbroken : (cuts : List ℕ) (before : List (Header × List ℕ)) (fault : ProcessError) → IsFaultAfter read cuts before fault → ⊥
   unbroken cuts before InvalidLength (left, split) =
       let more : IsSplit (read ++ rest) before (left ++ rest) no_length = record {
@@ -35,7 +35,7 @@ module _ (one : (bytes rest left : List ℕ) (units others : List (Header × Lis
       cc
   unbroken cuts before _ b = absurd b
 
-  next : (cuts : List ℕ) (before : List (Header × List ℕ)) (message : Header × List ℕ) → IsNextUnit read cuts before message
+  next : (cuts : List ℕ) (before : List (Header × List ℕ)) (message : Header × List ℕ) → IsNextAdu read cuts before message
       → (later : List (Header × List ℕ)) × (messages ≡ (before ++ message ∷ []) ++ later)
   next cuts before message (others, joined, whole) =
       let all : read ++ rest ≡ stream_of (before ++ message ∷ []) ++ (others ++ rest) =
@@ -43,7 +43,7 @@ module _ (one : (bytes rest left : List ℕ) (units others : List (Header × Lis
       let more = first (read ++ rest) (others ++ rest) [] (before ++ message ∷ []) messages empty all whole clean in
       (more.0, more.1)
 
-  used : (cuts : List ℕ) → rest ≡ [] → (left : List ℕ) (before : List (Header × List ℕ)) → AreAllUnits read cuts left before → left ≡ []
+  used : (cuts : List ℕ) → rest ≡ [] → (left : List ℕ) (before : List (Header × List ℕ)) → AreAllAdus read cuts left before → left ≡ []
   used cuts e left before (inl split) = split.left
   used cuts e left before (inr split) =
       let whole_is : read ++ rest ≡ read = ap (λ r. read ++ r) e ∙ append-nil read in

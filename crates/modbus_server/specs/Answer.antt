@@ -13,12 +13,12 @@ use Rattle.modbus_server.specs.declared.error.Answer.TheVariants.{Framed, Quiet}
 use Rattle.modbus_service.specs.Outcome.{silence, reply_pdu, code_of}
 use Rattle.modbus_server.specs.Framing.{Framing, Message}
 use Rattle.modbus_service.specs.Answering.{Answering}
-use Rattle.modbus_server.specs.Exchanges.{Exchange, Gives, Fits, told_size, reply_of, asked_of, asks}
+use Rattle.modbus_server.specs.Exchanges.{Exchange, GivesOutcome, ReplyFits, told_reply_size, reply_of, asked_of, asks}
 
 -- the service answered a message in this exchange
 pub record Answered (F : Framing) {S : Type 0} (A : Answering S) (message : Message F) (old new : S) (x : Exchange F) : Type 0 where
   pub asked : asked_of F message ≡ asks F x
-  pub step : Gives F A old x new
+  pub step : GivesOutcome F A old x new
 
 -- want of memory in the service, which was asked about a message, left it so
 pub record Wanted (F : Framing) {S : Type 0} (A : Answering S) (message : Message F) (old new : S) : Type 0 where
@@ -39,11 +39,11 @@ AsksAs F A message old (Err (TooLong size)) new = ⊥
 -- or had no memory either, or its answer fits.
 abbrev pub AnswersAs : (F : Framing) → {S : Type 0} → Answering S → Message F → S → Result Answer AnswerError → S → List ℕ → Type 0
 AnswersAs F A message old (Ok Framed) new made =
-    (x : Exchange F) × Answered F A message old new x × Fits F x × (x.outcome ≢ silence) × (made ≡ reply_of F x)
-AnswersAs F A message old (Ok Quiet) new made = (x : Exchange F) × Answered F A message old new x × Fits F x × (x.outcome ≡ silence) × (made ≡ [])
+    (x : Exchange F) × Answered F A message old new x × ReplyFits F x × (x.outcome ≢ silence) × (made ≡ reply_of F x)
+AnswersAs F A message old (Ok Quiet) new made = (x : Exchange F) × Answered F A message old new x × ReplyFits F x × (x.outcome ≡ silence) × (made ≡ [])
 AnswersAs F A message old (Err (Refused reason)) new made = (request_of message.1 ≡ Err reason) × (new ≡ old)
 AnswersAs F A message old (Err (TooLong size)) new made =
-    (x : Exchange F) × Answered F A message old new x × (size ≡ told_size F x) × (MAX_PDU < size)
+    (x : Exchange F) × Answered F A message old new x × (size ≡ told_reply_size F x) × (MAX_PDU < size)
 AnswersAs F A message old (Err NoMemory) new made =
     (request : Asked) × (request_of message.1 ≡ Ok request)
-    × ((new ≡ old) ⊎ (Wanted F A message old new ⊎ ((x : Exchange F) × Answered F A message old new x × Fits F x)))
+    × ((new ≡ old) ⊎ (Wanted F A message old new ⊎ ((x : Exchange F) × Answered F A message old new x × ReplyFits F x)))

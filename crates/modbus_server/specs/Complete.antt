@@ -7,7 +7,7 @@ use Rattle.modbus_service.specs.Answering.{Answering}
 use Rattle.modbus_server.specs.declared.error.ProcessError.{ProcessError}
 use Rattle.modbus_server.specs.declared.error.ProcessError.TheVariants.{NoMemory}
 use Rattle.modbus_server.specs.Framing.{Framing, Message}
-use Rattle.modbus_server.specs.Exchanges.{Exchange, Run, Fits, asked_of, asks}
+use Rattle.modbus_server.specs.Exchanges.{Exchange, Run, ReplyFits, asked_of, asks}
 
 abbrev pub IsRequest : (F : Framing) → Message F → Type 0
 IsRequest F message = (request : Asked) × (request_of message.1 ≡ Ok request)
@@ -21,7 +21,7 @@ pub record IsCleanLine (F : Framing) (bytes : List ℕ) : Type 0 where
 -- in every run of the service over the first messages, each reply fits
 abbrev pub RepliesFit : (F : Framing) → {S : Type 0} → Answering S → S → List (Message F) → Type 0
 RepliesFit F {S} A opening messages = (xs : List (Exchange F)) (end : S) (front rest : List (Message F)) → Run F A opening xs end
-    → messages ≡ front ++ rest → map (asked_of F) front ≡ map (asks F) xs → All (Fits F) xs
+    → messages ≡ front ++ rest → map (asked_of F) front ≡ map (asks F) xs → All (ReplyFits F) xs
 
 -- A clean line of fewer bytes than there are turns is served to its end, where every reply fits and neither the source nor the sink
 -- has a fault, or memory is wanting.

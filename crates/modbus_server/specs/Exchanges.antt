@@ -15,8 +15,8 @@ abbrev pub Exchange : Framing → Type 0
 Exchange F = service.Exchange F.Header
 
 -- the service gave this outcome, and went from one state to the other
-abbrev pub Gives : (F : Framing) → {S : Type 0} → Answering S → S → Exchange F → S → Type 0
-Gives F A old x new = service.Gives F.slave A old x new
+abbrev pub GivesOutcome : (F : Framing) → {S : Type 0} → Answering S → S → Exchange F → S → Type 0
+GivesOutcome F A old x new = service.GivesOutcome F.slave A old x new
 
 -- the service goes from one state to another over these exchanges
 abbrev pub Run : (F : Framing) → {S : Type 0} → Answering S → S → List (Exchange F) → S → Type 0
@@ -42,15 +42,15 @@ last_reply F (x ∷ []) = reply_of F x
 last_reply F (x ∷ y ∷ xs) = last_reply F (y ∷ xs)
 
 -- the length of the reply's PDU, and how a fault tells it
-abbrev pub size_of : (F : Framing) → Exchange F → ℕ
-size_of F x = length (reply_pdu (code_of x.request) x.outcome)
+abbrev pub reply_size : (F : Framing) → Exchange F → ℕ
+reply_size F x = length (reply_pdu (code_of x.request) x.outcome)
 
-abbrev pub told_size : (F : Framing) → Exchange F → ℕ
-told_size F x = min (size_of F x) (2 ^ 64 - 1)
+abbrev pub told_reply_size : (F : Framing) → Exchange F → ℕ
+told_reply_size F x = min (reply_size F x) (2 ^ 64 - 1)
 
 -- a PDU has at most 253 bytes (Modbus Application Protocol V1.1b3, section 4.1)
-abbrev pub Fits : (F : Framing) → Exchange F → Type 0
-Fits F x = size_of F x ≤ MAX_PDU
+abbrev pub ReplyFits : (F : Framing) → Exchange F → Type 0
+ReplyFits F x = reply_size F x ≤ MAX_PDU
 
 -- a message asks, under its header, what its PDU means
 abbrev pub Question : Framing → Type 0

@@ -5,10 +5,12 @@ pub mod Answer
 pub mod Serving
 pub mod Taking
 pub mod Moving
+pub mod Piece
 pub mod Stepping
+pub mod Stopping
 pub mod Complete
 pub mod First
 pub mod Tcp
-pub mod FirstUnit
+pub mod FirstAdu
 pub mod Rtu
 pub mod FirstFault

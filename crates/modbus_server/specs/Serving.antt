@@ -8,12 +8,12 @@ use Rattle.modbus_server.specs.declared.error.ProcessError.{ProcessError}
 use Rattle.modbus_server.specs.declared.error.ProcessError.TheVariants.{ReadFault, WriteFault, BytesRemaining, InvalidRequest, ResponseTooLong, TurnLimit, NoMemory}
 use Rattle.modbus_server.specs.Framing.{Framing, Message}
 use Rattle.modbus_service.specs.Answering.{Answering}
-use Rattle.modbus_server.specs.Exchanges.{Exchange, Gives, Run, Fits, told_size, output, last_reply, asked_of, asks}
+use Rattle.modbus_server.specs.Exchanges.{Exchange, GivesOutcome, Run, ReplyFits, told_reply_size, output, last_reply, asked_of, asks}
 use Rattle.modbus_server.specs.Answer.{Wanted}
 
 -- these bytes are an end of those
-abbrev pub IsRest : List ℕ → List ℕ → Type 0
-IsRest rest whole = (front : List ℕ) × (whole ≡ front ++ rest)
+abbrev pub IsEndOf : List ℕ → List ℕ → Type 0
+IsEndOf rest whole = (front : List ℕ) × (whole ≡ front ++ rest)
 
 -- A connection that holds these bytes was fed all those in these pieces. The messages that it took are requests, which the service
 -- answered in these exchanges with replies that fit. What was written, and then what waits, is the output of the run, and what waits
@@ -24,9 +24,9 @@ pub record Stands (F : Framing) {S : Type 0} (A : Answering S) (bytes cuts held 
   pub stands : F.StandsFor bytes cuts held taken
   pub asked : map (asked_of F) taken ≡ map (asks F) exchanges
   pub run : Run F A opening exchanges now
-  pub fit : All (Fits F) exchanges
+  pub fit : All (ReplyFits F) exchanges
   pub wrote : written ++ waiting ≡ output F exchanges
-  pub late : IsRest waiting (last_reply F exchanges)
+  pub late : IsEndOf waiting (last_reply F exchanges)
 
 -- all messages of these bytes were answered in these exchanges
 abbrev pub AreAllAnswered : (F : Framing) → List ℕ → List ℕ → List (Exchange F) → Type 0
@@ -58,7 +58,7 @@ Halts F A bytes cuts before ends now (refused reason) =
     (message : Message F) × F.IsNext bytes cuts before message × (request_of message.1 ≡ Err reason) × (now ≡ ends)
 Halts F A bytes cuts before ends now (too_long size) =
     (message : Message F) × F.IsNext bytes cuts before message × (x : Exchange F) × (asked_of F message ≡ asks F x)
-    × Gives F A ends x now × (size ≡ told_size F x) × (MAX_PDU < size)
+    × GivesOutcome F A ends x now × (size ≡ told_reply_size F x) × (MAX_PDU < size)
 
 -- One run of the service answered exactly the messages before the place where the call stops with replies that fit, and these were
 -- written whole.
@@ -67,7 +67,7 @@ pub record Served (F : Framing) {S : Type 0} (A : Answering S) (bytes cuts : Lis
   pub before : List (Message F)
   pub exchanges : List (Exchange F)
   pub asked : map (asked_of F) before ≡ map (asks F) exchanges
-  pub fit : All (Fits F) exchanges
+  pub fit : All (ReplyFits F) exchanges
   pub ends : S
   pub run : Run F A opening exchanges ends
   pub wrote : written ≡ output F exchanges

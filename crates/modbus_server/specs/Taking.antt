@@ -21,18 +21,18 @@ use Rattle.modbus_server.specs.State.{State}
 
 -- what stands at the front of the held bytes: the next message, which is taken off with all bytes before it; or these are all, and the
 -- bytes of no use are dropped; or there is a fault
-abbrev pub Finds : (F : Framing) → {H E : Type 0} → (H → F.Header) → (E → ProcessError) → List ℕ → List ℕ → List (Message F) → List ℕ → Result (Front H) E → Type 0
-Finds F header_of told bytes cuts taken held (Ok (front.Message header pdu end)) =
+abbrev pub FindsNext : (F : Framing) → {H E : Type 0} → (H → F.Header) → (E → ProcessError) → List ℕ → List ℕ → List (Message F) → List ℕ → Result (Front H) E → Type 0
+FindsNext F header_of told bytes cuts taken held (Ok (front.Message header pdu end)) =
     F.StandsFor bytes cuts (drop end held) (taken ++ (header_of header, pdu.now) ∷ []) × F.IsNext bytes cuts taken (header_of header, pdu.now)
-Finds F header_of told bytes cuts taken held (Ok (front.Waiting dropped)) =
+FindsNext F header_of told bytes cuts taken held (Ok (front.Waiting dropped)) =
     F.StandsFor bytes cuts (drop dropped held) taken × F.IsAll bytes cuts (drop dropped held) taken
-Finds F header_of told bytes cuts taken held (Err fault) = F.IsBroken bytes cuts taken (told fault)
+FindsNext F header_of told bytes cuts taken held (Err fault) = F.IsBroken bytes cuts taken (told fault)
 
 -- a message takes a byte at least, and what is taken off is held; where there is none, what stays waits for more
-abbrev pub IsWithin : {H E : Type 0} → (List ℕ → Type 0) → List ℕ → Result (Front H) E → Type 0
-IsWithin Waits held (Ok (front.Message header pdu end)) = (0 < end) × (end ≤ length held)
-IsWithin Waits held (Ok (front.Waiting dropped)) = (dropped ≤ length held) × Waits (drop dropped held)
-IsWithin Waits held (Err fault) = Unit {0}
+abbrev pub IsFrontWithin : {H E : Type 0} → (List ℕ → Type 0) → List ℕ → Result (Front H) E → Type 0
+IsFrontWithin Waits held (Ok (front.Message header pdu end)) = (0 < end) × (end ≤ length held)
+IsFrontWithin Waits held (Ok (front.Waiting dropped)) = (dropped ≤ length held) × Waits (drop dropped held)
+IsFrontWithin Waits held (Err fault) = Unit {0}
 
 -- what a connection did with a message that was answered so
 abbrev pub next_of : {E : Type 0} → Result Answer AnswerError → Result Next (NextError E)

@@ -14,10 +14,10 @@ pub enum ProcessError {
     /// Over RTU: twenty offsets in a row, which came with one read, have no frame.
     #[error("too many retries")]
     TooManyRetries,
-    /// The input ended within a frame or unit.
+    /// The input ended within a frame or ADU.
     #[error("bytes remaining")]
     BytesRemaining,
-    /// The PDU of a frame or unit is no request, for this reason.
+    /// The PDU of a frame or ADU is no request, for this reason.
     #[error("invalid request: {0}")]
     InvalidRequest(Reason),
     /// The service answered a response whose PDU would have so many bytes, more than 253.
@@ -26,10 +26,10 @@ pub enum ProcessError {
     /// As many reads gave bytes as were allowed.
     #[error("turn limit")]
     TurnLimit,
-    /// Over TCP: the header of a unit tells a length of 0.
+    /// Over TCP: the header of an ADU tells a length of 0.
     #[error("invalid length")]
     InvalidLength,
-    /// Over TCP: a whole unit is of another protocol than Modbus, which has this number.
+    /// Over TCP: a whole ADU is of another protocol than Modbus, which has this number.
     #[error("invalid protocol {0}")]
     InvalidProtocol(u16),
     /// Memory was refused.
@@ -88,9 +88,9 @@ pub enum Step {
     Answered,
     /// It asked the service about a request, and there is no reply.
     Silent,
-    /// There was no whole frame or unit, and a read gave bytes.
+    /// There was no whole frame or ADU, and a read gave bytes.
     MoreRead,
-    /// There is no whole frame or unit, and it may not read.
+    /// There is no whole frame or ADU, and it may not read.
     Hungry,
     /// The input ended with nothing held.
     Ended,

@@ -8,7 +8,7 @@ ghost use Rattle.modbus_pdu.specs.Coding.{Encodes};
 ghost use Rattle.modbus_pdu.specs.ResponsePdu.{response_result_pdu};
 ghost use Rattle.modbus_server.specs.declared.error.ProcessError.{ProcessError};
 ghost use Rattle.modbus_server.specs.Framing.{Framing as Frames, Message, IsOfFraming};
-ghost use Rattle.modbus_server.specs.Taking.{Finds, IsWithin};
+ghost use Rattle.modbus_server.specs.Taking.{FindsNext, IsFrontWithin};
 
 use crate::error::ProcessError;
 use bytes::BytesMut;
@@ -92,8 +92,8 @@ pub trait Framing: Drop {
     /// The fault that stands there.
     fn front(&self) -> Result<Front<'_, Self::Header>, Self::Fault>
         ensures finds { (bytes cuts : List ℕ) (taken : List (Message framing)) → framing.StandsFor bytes cuts (held self.now) taken
-            → Finds framing header_of told bytes cuts taken (held self.now) result }
-        ensures within { IsWithin framing.Waits (held self.now) result };
+            → FindsNext framing header_of told bytes cuts taken (held self.now) result }
+        ensures within { IsFrontWithin framing.Waits (held self.now) result };
 
     /// Takes so many bytes off the front.
     fn advance(&mut self, count: usize)

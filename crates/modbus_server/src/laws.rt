@@ -7,7 +7,7 @@ ghost use Rattle.modbus_frame.specs.declared.tcp.Header.{Header};
 ghost use Rattle.modbus_server.specs.Exchanges.{Exchange, Run};
 ghost use Rattle.modbus_server.specs.Serving.{Served, Halt, remaining, all_asked};
 ghost use Rattle.modbus_server.specs.FirstFault.{HasFault, IsFirstFault};
-ghost use Rattle.modbus_server.specs.FirstUnit.{HasUnitFault, IsFirstUnitFault};
+ghost use Rattle.modbus_server.specs.FirstAdu.{HasAduFault, IsFirstAduFault};
 ghost use Rattle.modbus_server.specs.Rtu.{rtu};
 ghost use Rattle.modbus_server.specs.Tcp.{tcp};
 
@@ -37,25 +37,25 @@ pub fn one_failing_place()
     modbus_rtu::laws::crowds_stay();
 }
 
-/// What a call over TCP names is what fails first in what it read, unit by unit and then the rest, in the very run that it made; it
+/// What a call over TCP names is what fails first in what it read, ADU by ADU and then the rest, in the very run that it made; it
 /// names nothing where nothing fails.
-pub fn failing_unit<V: Answerer>()
+pub fn failing_adu<V: Answerer>()
     ensures run { (bytes cuts written : List ℕ) (opening now : V) (halt : Halt) (s : Served tcp V.answering bytes cuts opening now written halt)
         → Run tcp V.answering opening (all_asked tcp V.answering bytes cuts opening now written halt s) now }
     ensures first { (bytes cuts written : List ℕ) (opening now : V) (halt : Halt) (s : Served tcp V.answering bytes cuts opening now written halt)
-        (units : List (Header × List ℕ)) (rest : List ℕ) (kind : Rest) → IsSplit bytes units rest kind
-        → IsFirstUnitFault units kind (all_asked tcp V.answering bytes cuts opening now written halt s) halt }
+        (adus : List (Header × List ℕ)) (rest : List ℕ) (kind : Rest) → IsSplit bytes adus rest kind
+        → IsFirstAduFault adus kind (all_asked tcp V.answering bytes cuts opening now written halt s) halt }
 {
     modbus_tcp::laws::one_splitting();
-    modbus_tcp::laws::units_come_first();
+    modbus_tcp::laws::adus_come_first();
 }
 
-/// What fails first in a stream of units is one, so a call whose bytes have it names it, unless a fault of the source or sink or want
+/// What fails first in a stream of ADUs is one, so a call whose bytes have it names it, unless a fault of the source or sink or want
 /// of memory came before.
-pub fn one_failing_unit()
-    ensures one { (units : List (Header × List ℕ)) (kind : Rest) (all : List (Exchange tcp)) (place at : ℕ) (fault other : Halt)
-        → HasUnitFault units kind all place fault → HasUnitFault units kind all at other
-        → IsFirstUnitFault units kind all fault → IsFirstUnitFault units kind all other → fault ≡ other }
-    ensures none { (units : List (Header × List ℕ)) (kind : Rest) (left : List ℕ) (all : List (Exchange tcp)) (place : ℕ) (fault : Halt)
-        → IsFirstUnitFault units kind all (remaining left) → HasUnitFault units kind all place fault → ⊥ }
+pub fn one_failing_adu()
+    ensures one { (adus : List (Header × List ℕ)) (kind : Rest) (all : List (Exchange tcp)) (place at : ℕ) (fault other : Halt)
+        → HasAduFault adus kind all place fault → HasAduFault adus kind all at other
+        → IsFirstAduFault adus kind all fault → IsFirstAduFault adus kind all other → fault ≡ other }
+    ensures none { (adus : List (Header × List ℕ)) (kind : Rest) (left : List ℕ) (all : List (Exchange tcp)) (place : ℕ) (fault : Halt)
+        → IsFirstAduFault adus kind all (remaining left) → HasAduFault adus kind all place fault → ⊥ }
 {}

@@ -1,15 +1,24 @@
-//! The RTU side of a server (MODBUS over Serial Line V1.02, section 2.5.1): a connection takes RTU frames, step by step.
-ghost use Rattle.std.specs.Prelude.{◌≡◌, ◌-◌, length};
+//! The RTU side of a server (MODBUS over Serial Line V1.02, section 2.5.1): a connection takes RTU frames, step by step, and a server
+//! serves the link of a serial line.
+ghost use Rattle.std.specs.Prelude.{◌≡◌, ◌-◌, ◌^◌, length};
 ghost use Rattle.modbus_rtu.specs.declared.length.TheConstants.{CAPACITY};
 ghost use Rattle.modbus_server.specs.declared.error.ProcessError.TheVariants.{TooManyRetries};
+ghost use Rattle.modbus_server.specs.Complete.{Completes};
+ghost use Rattle.modbus_server.specs.Stepping.{Ran};
+ghost use Rattle.modbus_server.specs.Stopping.{RanUntil, to_the_end};
 ghost use Rattle.modbus_server.specs.Rtu.{rtu};
 
 use crate::error::ProcessError;
 use crate::framing::{Framing, Front};
+use crate::rtu_over_tcp::process_link;
+use crate::serving::serve_until;
 use bytes::BytesMut;
-use modbus_frame::{EncodeError, ExceptionResponse, Response, SlaveId};
+use modbus_frame::{EncodeError, ExceptionResponse, Response, SlaveId, Terminated};
+use modbus_link::{Link, Stop};
 use modbus_rtu::{Crowd, Inbox, encode_response_frame};
+use modbus_service::Answerer;
 use std::alloc::{AllocError, Global};
+use std::marker::Model;
 
 /// A connection of RTU frames: the bytes that were fed and not used yet, taken step by step as frames.
 pub type Connection = crate::connection::Connection<Inbox>;
@@ -84,5 +93,71 @@ impl Framing for Inbox {
     fn append(&mut self, piece: &[u8]) {
         modbus_rtu::laws::standing();
         self.append(piece);
+    }
+}
+
+/// A server of a serial line: it answers the frames that come over one link.
+#[derive(Drop)]
+pub struct Server<L> {
+    link: L,
+}
+
+/// A contract sees the link.
+impl<L> Model for Server<L> {
+    ghost Value = { L };
+
+    ghost view = { λ server. server.link };
+}
+
+impl<L: Link> Server<L> {
+    /// A server over a link. It takes no memory, and reads nothing yet.
+    pub fn new(link: L) -> Server<L>
+        ensures { result ≡ link }
+    {
+        Server { link }
+    }
+
+    /// The link again.
+    pub fn into_link(self) -> L
+        ensures { result ≡ self }
+    {
+        self.link
+    }
+
+    /// Serves the link until its input ends. It does what `rtu_over_tcp::process` does, with the link as source and sink, and lets as
+    /// many reads give bytes as a `u64` counts.
+    ///
+    /// # Errors
+    /// Those of `rtu_over_tcp::process`, with the same causes.
+    pub fn serve_forever<V: Answerer>(
+        &mut self,
+        alloc: Global,
+        service: &mut V,
+    ) -> Result<(), ProcessError>
+        ensures ran { Ran rtu V.answering service.old service.new (L.input self.old) (L.input self.new) (L.output self.old) (L.output self.new) (2 ^ 64 - 1) result }
+        ensures complete { Completes rtu V.answering service.old (L.input self.old) (L.input self.new) (L.output self.old) (L.output self.new) (2 ^ 64 - 1) result }
+    {
+        process_link(alloc, &mut self.link, service, u64::MAX)
+    }
+
+    /// Serves the link until its input ends, which is `Finished`, or until a signal is set, which is `Aborted`.
+    ///
+    /// The signal is looked at before each step: before each request that is answered, and before each read. What has begun is done, so
+    /// no reply is cut short by a stop, and a read that waits is not woken. At a stop the requests so far were answered, as one run
+    /// of the service gives it; bytes that were read and are no whole frame yet are lost.
+    ///
+    /// # Errors
+    /// Those of `serve_forever`, with the same causes, where no look said that the signal is set.
+    pub fn serve_until<V: Answerer, X: Stop>(
+        &mut self,
+        alloc: Global,
+        service: &mut V,
+        abort_signal: &mut X,
+    ) -> Result<Terminated, ProcessError>
+        ensures ran { RanUntil rtu V.answering X.stops X.looks service.old service.new (L.input self.old) (L.input self.new) (L.output self.old) (L.output self.new) (2 ^ 64 - 1) abort_signal.old abort_signal.new result }
+        ensures complete { Completes rtu V.answering service.old (L.input self.old) (L.input self.new) (L.output self.old) (L.output self.new) (2 ^ 64 - 1) (to_the_end result) }
+    {
+        modbus_rtu::laws::quiet_lines();
+        serve_until::<Inbox, L, V, X>(alloc, &mut self.link, service, abort_signal, u64::MAX)
     }
 }

@@ -1,38 +1,78 @@
-//! Steps one after another until the input of a connection ends, whatever frames its messages.
+//! Steps one after another until the input of a connection ends or a signal says to stop, whatever frames its messages.
 ghost use Rattle.std.specs.Prelude.{◌≡◌, [], IsTrue};
 ghost use Rattle.modbus_server.specs.Stepping.{Ran};
+ghost use Rattle.modbus_server.specs.Stopping.{RanUntil};
 
 use crate::connection::Connection;
 use crate::error::{ProcessError, Step};
 use crate::framing::Framing;
-use modbus_link::{Both, Sink, Source};
+use modbus_frame::Terminated;
+use modbus_link::{Both, Sink, Source, Stop};
 use modbus_service::Answerer;
 use std::alloc::Global;
 
-/// Takes one step after another of a connection that was just opened.
-fn run<I: Framing, L: Source + Sink, V: Answerer>(
+/// A signal that is never set.
+#[derive(Drop)]
+struct Never;
+
+impl Stop for Never {
+    ghost stops = { λ it. 0 };
+
+    fn is_set(&mut self) -> bool {
+        false
+    }
+}
+
+/// Takes one step after another of a connection that was just opened, and looks at a signal before each.
+fn run<I: Framing, L: Source + Sink, V: Answerer, X: Stop>(
     connection: &mut Connection<I>,
     alloc: Global,
     link: &mut L,
     service: &mut V,
+    abort_signal: &mut X,
     turns: u64,
-) -> Result<(), ProcessError>
+) -> Result<Terminated, ProcessError>
     requires empty { connection.old.held ≡ [] }
     requires written { connection.old.waiting ≡ [] }
     requires ready { IsTrue connection.old.is_open }
     requires stands { I.framing.StandsFor [] [] [] [] }
-    ensures { Ran I.framing V.answering service.old service.new (L.input link.old) (L.input link.new) (L.output link.old) (L.output link.new) turns result }
+    ensures { RanUntil I.framing V.answering X.stops X.looks service.old service.new (L.input link.old) (L.input link.new) (L.output link.old) (L.output link.new) turns abort_signal.old abort_signal.new result }
 {
     let mut left = turns;
     'steps: loop {
+        if abort_signal.is_set() {
+            return Ok(Terminated::Aborted);
+        }
         match connection.step_link(alloc, link, service, left > 0) {
             Err(error) => return Err(error),
             Ok(Step::Hungry) => return Err(ProcessError::TurnLimit),
-            Ok(Step::Ended) => return Ok(()),
+            Ok(Step::Ended) => return Ok(Terminated::Finished),
             Ok(Step::MoreRead) => left -= 1,
             Ok(Step::Answered) => {}
             Ok(Step::Silent) => {}
         }
+    }
+}
+
+/// Serves one object as source and sink until its input ends or a signal is set, with at most `turns` reads that give bytes.
+///
+/// It looks at the signal before each step: before each request that it answers, and before each read. A step that has begun is
+/// finished, so no reply is cut short by a stop; held bytes that are no whole message are lost with it.
+///
+/// # Errors
+/// Those of a step, and `TurnLimit`.
+pub fn serve_until<I: Framing, L: Source + Sink, V: Answerer, X: Stop>(
+    alloc: Global,
+    link: &mut L,
+    service: &mut V,
+    abort_signal: &mut X,
+    turns: u64,
+) -> Result<Terminated, ProcessError>
+    ensures { RanUntil I.framing V.answering X.stops X.looks service.old service.new (L.input link.old) (L.input link.new) (L.output link.old) (L.output link.new) turns abort_signal.old abort_signal.new result }
+{
+    match Connection::<I>::open(alloc) {
+        Err(_) => Err(ProcessError::NoMemory),
+        Ok(mut connection) => run(&mut connection, alloc, link, service, abort_signal, turns),
     }
 }
 
@@ -48,9 +88,10 @@ pub fn serve_link<I: Framing, L: Source + Sink, V: Answerer>(
 ) -> Result<(), ProcessError>
     ensures { Ran I.framing V.answering service.old service.new (L.input link.old) (L.input link.new) (L.output link.old) (L.output link.new) turns result }
 {
-    match Connection::<I>::open(alloc) {
-        Err(_) => Err(ProcessError::NoMemory),
-        Ok(mut connection) => run(&mut connection, alloc, link, service, turns),
+    match serve_until::<I, L, V, Never>(alloc, link, service, &mut Never, turns) {
+        Ok(Terminated::Finished) => Ok(()),
+        Ok(Terminated::Aborted) => unreachable!(),
+        Err(error) => Err(error),
     }
 }
 

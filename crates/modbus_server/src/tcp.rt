@@ -111,8 +111,8 @@ pub fn process_link<L: Source + Sink, V: Answerer>(
     ensures complete { Completes tcp V.answering service.old (L.input link.old) (L.input link.new) (L.output link.old) (L.output link.new) turns result }
 {
     modbus_tcp::laws::one_splitting();
-    modbus_tcp::laws::units_come_first();
-    modbus_tcp::laws::unit_stays();
+    modbus_tcp::laws::adus_come_first();
+    modbus_tcp::laws::adu_stays();
     serve_link::<AduBuffer, L, V>(alloc, link, service, turns)
 }
 
@@ -145,7 +145,7 @@ pub fn process<S: Source, K: Sink, V: Answerer>(
     ensures complete { Completes tcp V.answering service.old (S.input source.old) (S.input source.new) (K.output sink.old) (K.output sink.new) turns result }
 {
     modbus_tcp::laws::one_splitting();
-    modbus_tcp::laws::units_come_first();
-    modbus_tcp::laws::unit_stays();
+    modbus_tcp::laws::adus_come_first();
+    modbus_tcp::laws::adu_stays();
     serve::<AduBuffer, S, K, V>(alloc, source, sink, service, turns)
 }

@@ -11,10 +11,10 @@ pub record Exchange (Header : Type 0) : Type 0 where
   pub outcome : Outcome
 
 -- the service, which is asked for the slave that a header tells, gave this outcome, and went from one state to the other
-abbrev pub Gives : {Header S : Type 0} → (Header → ℕ) → Answering S → S → Exchange Header → S → Type 0
-Gives slave A old x new = A.gives old (slave x.header) x.request x.outcome new
+abbrev pub GivesOutcome : {Header S : Type 0} → (Header → ℕ) → Answering S → S → Exchange Header → S → Type 0
+GivesOutcome slave A old x new = A.gives old (slave x.header) x.request x.outcome new
 
 -- it goes from one state to another over these exchanges
 abbrev pub Run : {Header S : Type 0} → (Header → ℕ) → Answering S → S → List (Exchange Header) → S → Type 0
 Run slave A start [] end = end ≡ start
-Run slave A start (x ∷ xs) end = (next : _) × Gives slave A start x next × Run slave A next xs end
+Run slave A start (x ∷ xs) end = (next : _) × GivesOutcome slave A start x next × Run slave A next xs end

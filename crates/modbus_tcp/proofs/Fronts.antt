@@ -1,4 +1,4 @@
--- What stands at the front of bytes: a unit, or a rest of one kind.
+-- What stands at the front of bytes: an ADU, or a rest of one kind.
 use Rattle.std.proofs.Common.{◌≡◌, ◌⊎◌, inl, inr, ℕ, zero, suc, ◌+◌, ◌-◌, ◌*◌, ◌<◌, ◌≤◌, List, [], ◌∷◌, ◌++◌, length, take, drop, get_or, refl, sym, ap, ◌∙◌, subst, arith, length-append, length-drop, append_assoc}
 use Rattle.std.specs.Prelude.{All}
 use Rattle.std.proofs.lemmas.Bool.{cases_lt}
@@ -11,7 +11,7 @@ use Rattle.modbus_pdu.specs.Laws.{IsByte}
 use Rattle.modbus_pdu.specs.Writing.{word}
 use Rattle.modbus_tcp.specs.declared.mbap.Mbap.{Mbap}
 use Rattle.modbus_tcp.specs.Decoding.{Tells}
-use Rattle.modbus_tcp.specs.Unit.{unit, IsUnit}
+use Rattle.modbus_tcp.specs.Adu.{adu_of, IsAdu}
 use Rattle.modbus_tcp.specs.Stream.{told_length, Rest, empty, unfinished, no_length, foreign, IsRest, BeginsWith}
 
 -- two bytes as a number, and back
@@ -29,7 +29,7 @@ pair_small a b p q (suc i) = one i
 word_of_bytes : (a b : ℕ) → a < 256 → b < 256 → word (a * 256 + b) ≡ a ∷ b ∷ []
 word_of_bytes a b p q = be_bytes_2 (a ∷ b ∷ []) (a * 256 + b) refl (pair_small a b p q) (omega arith)
 
--- what the bytes of a unit tell
+-- what the bytes of an ADU tell
 pub record Told (bytes : List ℕ) (message : Header × List ℕ) (others : List ℕ) : Type 0 where
   pub transaction : word_at bytes 0 ≡ message.0.transaction_id
   pub protocol : word_at bytes 2 ≡ 0
@@ -38,9 +38,9 @@ pub record Told (bytes : List ℕ) (message : Header × List ℕ) (others : List
   pub body : drop 7 bytes ≡ message.1 ++ others
   pub all : length bytes ≡ length message.1 + length others + 7
 
-told_by_unit : (header : Header) (pdu others : List ℕ) → IsUnit (header, pdu) → Told (unit header pdu ++ others) (header, pdu) others
-unfolding unit
-told_by_unit header pdu others is = record {
+told_by_adu : (header : Header) (pdu others : List ℕ) → IsAdu (header, pdu) → Told (adu_of header pdu ++ others) (header, pdu) others
+unfolding adu_of
+told_by_adu header pdu others is = record {
   transaction = word_back header.transaction_id is.transaction;
   protocol = refl;
   size = word_back (length pdu + 1) (omega (arith, is.size));
@@ -51,12 +51,12 @@ told_by_unit header pdu others is = record {
 
 pub told : {bytes others : List ℕ} {message : Header × List ℕ} → BeginsWith bytes message others → Told bytes message others
 told {bytes} {others} {message} begins =
-    subst (λ all. Told all message others) (sym begins.joined) (told_by_unit message.0 message.1 others begins.whole)
+    subst (λ all. Told all message others) (sym begins.joined) (told_by_adu message.0 message.1 others begins.whole)
 
--- bytes that tell a unit begin with it
+-- bytes that tell an ADU begin with it
 begins_by_parts : (a b c d e f u : ℕ) (pdu others : List ℕ) → a < 256 → b < 256 → e < 256 → f < 256 → c * 256 + d ≡ 0 → e * 256 + f ≡ length pdu + 1 →
     BeginsWith (a ∷ b ∷ c ∷ d ∷ e ∷ f ∷ u ∷ (pdu ++ others)) (record { transaction_id = a * 256 + b; unit_id = u }, pdu) others
-unfolding unit
+unfolding adu_of
 begins_by_parts a b c d e f u pdu others p q r s none size =
     let high : c ≡ 0 = omega arith in
     let low : d ≡ 0 = omega arith in
@@ -91,16 +91,16 @@ same_header header other p q =
     let with : ℕ → ℕ → Header = λ t u. record { transaction_id = t; unit_id = u } in
     ap (λ t. with t header.unit_id) p ∙ ap (λ u. with other.transaction_id u) q
 
--- what a header tells of its unit
-pub tells_unit : (bytes : List ℕ) (mbap : Mbap) (end : ℕ) → All IsByte bytes → Tells bytes mbap → 0 < mbap.length → end ≤ length bytes → mbap.protocol ≡ 0 → end ≡ 6 + mbap.length →
+-- what a header tells of its ADU
+pub tells_adu : (bytes : List ℕ) (mbap : Mbap) (end : ℕ) → All IsByte bytes → Tells bytes mbap → 0 < mbap.length → end ≤ length bytes → mbap.protocol ≡ 0 → end ≡ 6 + mbap.length →
     BeginsWith bytes (mbap.header, take (end - 7) (drop 7 bytes)) (drop end bytes)
-tells_unit bytes mbap end bounded tells some whole ours is =
+tells_adu bytes mbap end bounded tells some whole ours is =
     let header : mbap.header ≡ header_of bytes = same_header mbap.header (header_of bytes) tells.transaction tells.unit_id in
     let size : end ≡ 7 + (end - 7) = omega arith in
     let pdu : drop 7 (take end bytes) ≡ take (end - 7) (drop 7 bytes) = ap (λ n. drop 7 (take n bytes)) size ∙ drop-take 7 (end - 7) bytes in
     rw (header, ← pdu) (begins bytes end bounded (omega arith) whole (sym tells.protocol ∙ ours) (omega (arith, tells.length)))
 
--- the unit that ends where the others begin: what it has behind its header
+-- the ADU that ends where the others begin: what it has behind its header
 pub taken_off : {bytes : List ℕ} {message : Header × List ℕ} (end : ℕ) → BeginsWith bytes message (drop end bytes) → end ≤ length bytes → (7 ≤ length (take end bytes)) × (drop 7 (take end bytes) ≡ message.1)
 taken_off {bytes} {message} end begins within =
     let tells = told begins in
@@ -135,8 +135,8 @@ front_of bytes bounded = elim (cases_lt (length bytes) 7) [
   ]
 ]
 
-pub same_unit : {bytes others left : List ℕ} {message other : Header × List ℕ} → BeginsWith bytes message others → BeginsWith bytes other left → (message ≡ other) × (others ≡ left)
-same_unit {bytes} {others} {left} {message} {other} begins again =
+pub same_adu : {bytes others left : List ℕ} {message other : Header × List ℕ} → BeginsWith bytes message others → BeginsWith bytes other left → (message ≡ other) × (others ≡ left)
+same_adu {bytes} {others} {left} {message} {other} begins again =
     let tells = told begins in
     let again_tells = told again in
     let size : length message.1 ≡ length other.1 = omega (arith, tells.size, again_tells.size) in
@@ -174,12 +174,12 @@ same_rest bytes (foreign p) unfinished is or = absurd (elim or.1 [ inl short ↦
 same_rest bytes (foreign p) no_length is or = absurd (omega arith)
 same_rest bytes (foreign p) (foreign q) is or = ap foreign (is.3 ∙ sym or.3)
 
--- a front of an unfinished unit begins no unit
+-- a front of an unfinished ADU begins no ADU
 pub none_unfinished : (bytes more others : List ℕ) (message : Header × List ℕ) → IsRest (bytes ++ more) unfinished → BeginsWith bytes message others → ⊥
 none_unfinished bytes more others message is begins = no_rest unfinished (begins_longer begins more) is
   where
     begins_longer : {bytes others : List ℕ} {message : Header × List ℕ} → BeginsWith bytes message others → (more : List ℕ) → BeginsWith (bytes ++ more) message (others ++ more)
     begins_longer {bytes} {others} {message} begins more = record {
-      joined = ap (λ front. front ++ more) begins.joined ∙ append_assoc (unit message.0 message.1) others more;
+      joined = ap (λ front. front ++ more) begins.joined ∙ append_assoc (adu_of message.0 message.1) others more;
       whole = begins.whole;
     }

@@ -30,31 +30,31 @@ Finds bytes (Ok found.Waiting) = (IsRest bytes empty ⊎ IsRest bytes unfinished
 Finds bytes (Err faults.InvalidLength) = IsRest bytes no_length
 Finds bytes (Err (faults.InvalidProtocol protocol)) = IsRest bytes (foreign protocol)
 
--- From the buffer before, what the decoder of units answers, and the buffer after. The first unit is given and leaves the buffer.
--- Where the bytes begin no unit the buffer stays as it is, but for the header of another protocol, whose 7 bytes are gone.
-abbrev pub TakesUnit : List ℕ → Result (Option (Header × List ℕ)) TcpError → List ℕ → Type 0
-TakesUnit old (Ok (Some message)) new = BeginsWith old message new
-TakesUnit old (Ok None) new = (IsRest old empty ⊎ IsRest old unfinished) × (new ≡ old)
-TakesUnit old (Err errors.InvalidLength) new = IsRest old no_length × (new ≡ old)
-TakesUnit old (Err (errors.InvalidProtocol protocol)) new = IsRest old (foreign protocol) × (new ≡ drop 7 old)
-TakesUnit old (Err (errors.Invalid reason)) new = ⊥
-TakesUnit old (Err errors.NoMemory) new = (message : Header × List ℕ) × (others : List ℕ) × BeginsWith old message others × (new ≡ old)
+-- From the buffer before, what the decoder of ADUs answers, and the buffer after. The first ADU is given and leaves the buffer.
+-- Where the bytes begin no ADU the buffer stays as it is, but for the header of another protocol, whose 7 bytes are gone.
+abbrev pub TakesAdu : List ℕ → Result (Option (Header × List ℕ)) TcpError → List ℕ → Type 0
+TakesAdu old (Ok (Some message)) new = BeginsWith old message new
+TakesAdu old (Ok None) new = (IsRest old empty ⊎ IsRest old unfinished) × (new ≡ old)
+TakesAdu old (Err errors.InvalidLength) new = IsRest old no_length × (new ≡ old)
+TakesAdu old (Err (errors.InvalidProtocol protocol)) new = IsRest old (foreign protocol) × (new ≡ drop 7 old)
+TakesAdu old (Err (errors.Invalid reason)) new = ⊥
+TakesAdu old (Err errors.NoMemory) new = (message : Header × List ℕ) × (others : List ℕ) × BeginsWith old message others × (new ≡ old)
 
--- why a codec gives no message, of a unit whose PDU is not read
+-- why a codec gives no message, of an ADU whose PDU is not read
 abbrev pub error_of : PduError → TcpError
 error_of (pdu_errors.Refused reason) = errors.Invalid reason
 error_of pdu_errors.NoMemory = errors.NoMemory
 
--- The same of a codec, which then reads the PDU of the unit that is taken off: `header` and `meaning` are what its answer tells of
--- the unit. Where the PDU is refused the unit is gone. Where memory is wanting for the unit it stays. It is gone where memory is
+-- The same of a codec, which then reads the PDU of the ADU that is taken off: `header` and `meaning` are what its answer tells of
+-- the ADU. Where the PDU is refused the ADU is gone. Where memory is wanting for the ADU it stays. It is gone where memory is
 -- wanting for what its PDU stands for, which is then something that carries memory.
-abbrev pub ReadsUnit : {A M : Type 0} → (List ℕ → Result M Reason) → (M → Type 0) → (A → Header) → (A → M) → List ℕ → Result (Option A) TcpError → List ℕ → Type 0
-ReadsUnit read carries header meaning old (Ok (Some adu)) new =
+abbrev pub ReadsAdu : {A M : Type 0} → (List ℕ → Result M Reason) → (M → Type 0) → (A → Header) → (A → M) → List ℕ → Result (Option A) TcpError → List ℕ → Type 0
+ReadsAdu read carries header meaning old (Ok (Some adu)) new =
     (pdu : List ℕ) × BeginsWith old (header adu, pdu) new × (read pdu ≡ Ok (meaning adu))
-ReadsUnit read carries header meaning old (Ok None) new = (IsRest old empty ⊎ IsRest old unfinished) × (new ≡ old)
-ReadsUnit read carries header meaning old (Err errors.InvalidLength) new = IsRest old no_length × (new ≡ old)
-ReadsUnit read carries header meaning old (Err (errors.InvalidProtocol protocol)) new = IsRest old (foreign protocol) × (new ≡ drop 7 old)
-ReadsUnit read carries header meaning old (Err (errors.Invalid reason)) new =
+ReadsAdu read carries header meaning old (Ok None) new = (IsRest old empty ⊎ IsRest old unfinished) × (new ≡ old)
+ReadsAdu read carries header meaning old (Err errors.InvalidLength) new = IsRest old no_length × (new ≡ old)
+ReadsAdu read carries header meaning old (Err (errors.InvalidProtocol protocol)) new = IsRest old (foreign protocol) × (new ≡ drop 7 old)
+ReadsAdu read carries header meaning old (Err (errors.Invalid reason)) new =
     (message : Header × List ℕ) × BeginsWith old message new × (read message.1 ≡ Err reason)
-ReadsUnit read carries header meaning old (Err errors.NoMemory) new =
+ReadsAdu read carries header meaning old (Err errors.NoMemory) new =
     (message : Header × List ℕ) × (others : List ℕ) × BeginsWith old message others × ((new ≡ old) ⊎ (IsOkAnd (read message.1) carries × (new ≡ others)))

@@ -1,3 +1,3 @@
-pub mod Unit
+pub mod Adu
 pub mod Stream
 pub mod Decoding

@@ -9,8 +9,8 @@ ghost use Rattle.modbus_pdu.specs.RequestOf.{CarriesList, request_of};
 ghost use Rattle.modbus_pdu.specs.ResponseOf.{AnswerCarriesMemory, response_result_of};
 ghost use Rattle.modbus_pdu.specs.RequestPdu.{request_pdu};
 ghost use Rattle.modbus_pdu.specs.ResponsePdu.{response_result_pdu};
-ghost use Rattle.modbus_tcp.specs.Decoding.{ReadsUnit};
-ghost use Rattle.modbus_tcp.specs.Unit.{unit};
+ghost use Rattle.modbus_tcp.specs.Decoding.{ReadsAdu};
+ghost use Rattle.modbus_tcp.specs.Adu.{adu_of};
 
 use crate::decoder::{AduDecoder, TcpError};
 use crate::encoder::{encode_request_adu, encode_response_adu};
@@ -20,13 +20,13 @@ use modbus_frame::{EncodeError, RequestPdu, tcp};
 use modbus_pdu::{decode_request, decode_response_pdu};
 use std::alloc::Global;
 
-/// The codec of a client: it writes the units of requests, and reads those of responses.
+/// The codec of a client: it writes the ADUs of requests, and reads those of responses.
 #[derive(Debug, Default, Drop)]
 pub struct ClientCodec {
     decoder: AduDecoder,
 }
 
-/// The codec of a server: it reads the units of requests, and writes those of responses.
+/// The codec of a server: it reads the ADUs of requests, and writes those of responses.
 #[derive(Debug, Default, Drop)]
 pub struct ServerCodec {
     decoder: AduDecoder,
@@ -40,20 +40,20 @@ impl ClientCodec {
         }
     }
 
-    /// Takes off the next unit of a response, and reads its PDU: a response or an exception. `None` where the unit is not whole; the
+    /// Takes off the next ADU of a response, and reads its PDU: a response or an exception. `None` where the ADU is not whole; the
     /// buffer then stays, and fewer than `LONGEST_ADU` bytes are held (section 3.1.3).
     ///
     /// # Errors
     /// `InvalidLength` exactly where the header tells the length 0; the buffer stays. `InvalidProtocol` with the number, exactly
-    /// where the unit is whole and its protocol is not 0; its header of 7 bytes is gone. `Invalid` with the reason, exactly where
-    /// the PDU of the unit is refused; the unit is gone. `NoMemory` where memory is refused for a unit; it stays, or is gone where its PDU
+    /// where the ADU is whole and its protocol is not 0; its header of 7 bytes is gone. `Invalid` with the reason, exactly where
+    /// the PDU of the ADU is refused; the ADU is gone. `NoMemory` where memory is refused for an ADU; it stays, or is gone where its PDU
     /// is a response that carries a list or bytes.
     pub fn decode(
         &mut self,
         alloc: Global,
         buf: &mut BytesMut,
     ) -> Result<Option<tcp::ResponseAdu>, TcpError>
-        ensures reads { ReadsUnit response_result_of AnswerCarriesMemory (λ adu. adu.hdr) (λ adu. adu.pdu.0) buf.old.items result buf.new.items }
+        ensures reads { ReadsAdu response_result_of AnswerCarriesMemory (λ adu. adu.hdr) (λ adu. adu.pdu.0) buf.old.items result buf.new.items }
         ensures short { result ≡ Ok None → length buf.new.items < LONGEST_ADU }
     {
         let Some((hdr, pdu)) = self.decoder.decode(alloc, buf)? else {
@@ -63,7 +63,7 @@ impl ClientCodec {
         Ok(Some(tcp::ResponseAdu { hdr, pdu }))
     }
 
-    /// Appends the unit of a request: the header, with the transaction and the unit identifier, and the PDU (section 3.1).
+    /// Appends the ADU of a request: the header, with the transaction and the unit identifier, and the PDU (section 3.1).
     ///
     /// # Errors
     /// `TooLong` with the size of the PDU in bytes, exactly where that is above 253. `NoMemory` where memory is refused. The bytes
@@ -75,7 +75,7 @@ impl ClientCodec {
         adu: tcp::RequestAdu<'_>,
         buf: &mut BytesMut,
     ) -> Result<(), EncodeError>
-        ensures { Encodes (unit adu.entry.hdr (request_pdu (meaning adu.entry.pdu.0))) (request_pdu (meaning adu.entry.pdu.0)) buf.old.items result buf.new.items }
+        ensures { Encodes (adu_of adu.entry.hdr (request_pdu (meaning adu.entry.pdu.0))) (request_pdu (meaning adu.entry.pdu.0)) buf.old.items result buf.new.items }
     {
         encode_request_adu(alloc, adu.hdr, &adu.pdu.0, buf)
     }
@@ -89,20 +89,20 @@ impl ServerCodec {
         }
     }
 
-    /// Takes off the next unit of a request, and reads its PDU. `None` where the unit is not whole; the buffer then stays, and fewer
+    /// Takes off the next ADU of a request, and reads its PDU. `None` where the ADU is not whole; the buffer then stays, and fewer
     /// than `LONGEST_ADU` bytes are held (section 3.1.3).
     ///
     /// # Errors
     /// `InvalidLength` exactly where the header tells the length 0; the buffer stays. `InvalidProtocol` with the number, exactly
-    /// where the unit is whole and its protocol is not 0; its header of 7 bytes is gone. `Invalid` with the reason, exactly where
-    /// the PDU of the unit is refused; the unit is gone. `NoMemory` where memory is refused for a unit; it stays, or is gone where its PDU
+    /// where the ADU is whole and its protocol is not 0; its header of 7 bytes is gone. `Invalid` with the reason, exactly where
+    /// the PDU of the ADU is refused; the ADU is gone. `NoMemory` where memory is refused for an ADU; it stays, or is gone where its PDU
     /// is a request that carries a list.
     pub fn decode(
         &mut self,
         alloc: Global,
         buf: &mut BytesMut,
     ) -> Result<Option<tcp::RequestAdu<'static>>, TcpError>
-        ensures reads { ReadsUnit request_of CarriesList (λ adu. adu.hdr) (λ adu. meaning adu.pdu.0) buf.old.items result buf.new.items }
+        ensures reads { ReadsAdu request_of CarriesList (λ adu. adu.hdr) (λ adu. meaning adu.pdu.0) buf.old.items result buf.new.items }
         ensures short { result ≡ Ok None → length buf.new.items < LONGEST_ADU }
     {
         let Some((hdr, pdu)) = self.decoder.decode(alloc, buf)? else {
@@ -115,7 +115,7 @@ impl ServerCodec {
         }))
     }
 
-    /// Appends the unit of a response or an exception: the header, with the transaction and the unit identifier of the request, and
+    /// Appends the ADU of a response or an exception: the header, with the transaction and the unit identifier of the request, and
     /// the PDU (section 3.1). The function of an exception is below 0x80.
     ///
     /// # Errors
@@ -129,7 +129,7 @@ impl ServerCodec {
         buf: &mut BytesMut,
     ) -> Result<(), EncodeError>
         requires { ForErr adu.pdu.0 (λ refusal. function_number refusal.function < 0x80) }
-        ensures { Encodes (unit adu.hdr (response_result_pdu adu.pdu.0)) (response_result_pdu adu.pdu.0) buf.old.items result buf.new.items }
+        ensures { Encodes (adu_of adu.hdr (response_result_pdu adu.pdu.0)) (response_result_pdu adu.pdu.0) buf.old.items result buf.new.items }
     {
         encode_response_adu(alloc, adu.hdr, &adu.pdu.0, buf)
     }

@@ -1,7 +1,7 @@
-//! The decoder that takes units off the front of a buffer (MODBUS Messaging on TCP/IP V1.0b, section 3.1.3).
+//! The decoder that takes ADUs off the front of a buffer (MODBUS Messaging on TCP/IP V1.0b, section 3.1.3).
 ghost use Rattle.std.specs.Prelude.{◌≡◌, ◌<◌, Ok, None, length};
 ghost use Rattle.modbus_tcp.specs.declared.decoder.TcpError.TheVariants as errors;
-ghost use Rattle.modbus_tcp.specs.Decoding.{TakesUnit, error_of};
+ghost use Rattle.modbus_tcp.specs.Decoding.{TakesAdu, error_of};
 
 use crate::mbap::{HEADER, front};
 use crate::stream::{Front, HeaderFault, LONGEST_ADU};
@@ -9,7 +9,7 @@ use bytes::{Bytes, BytesMut};
 use modbus_frame::{PduError, Reason, tcp};
 use std::alloc::{AllocError, Global};
 
-/// Why no unit is given.
+/// Why no ADU is given.
 #[derive(Clone, Copy, Debug, PartialEq, Eq, thiserror::Error)]
 pub enum TcpError {
     /// The header tells the length 0, which leaves out the unit identifier.
@@ -18,7 +18,7 @@ pub enum TcpError {
     /// The header tells this protocol, and Modbus is 0.
     #[error("invalid protocol {0}")]
     InvalidProtocol(u16),
-    /// The PDU of a unit is refused for this reason.
+    /// The PDU of an ADU is refused for this reason.
     #[error(transparent)]
     Invalid(Reason),
     /// Memory is refused.
@@ -45,7 +45,7 @@ impl From<PduError> for TcpError {
     }
 }
 
-/// Takes units off the front of a buffer.
+/// Takes ADUs off the front of a buffer.
 #[derive(Debug, Default, Drop)]
 pub struct AduDecoder;
 
@@ -55,19 +55,19 @@ impl AduDecoder {
         AduDecoder
     }
 
-    /// Takes the first unit off the buffer, and gives what its header tells, and its PDU. `None` where the unit is not whole; the
+    /// Takes the first ADU off the buffer, and gives what its header tells, and its PDU. `None` where the ADU is not whole; the
     /// buffer then stays, and fewer than `LONGEST_ADU` bytes are held (section 3.1.3).
     ///
     /// # Errors
     /// `InvalidLength` exactly where the header tells the length 0; the buffer stays. `InvalidProtocol` with the number, exactly
-    /// where the unit is whole and its protocol is not 0; its header of 7 bytes is gone. `NoMemory` where memory is refused for a
-    /// unit; the buffer stays. `Invalid` never.
+    /// where the ADU is whole and its protocol is not 0; its header of 7 bytes is gone. `NoMemory` where memory is refused for an
+    /// ADU; the buffer stays. `Invalid` never.
     pub fn decode(
         &mut self,
         _alloc: Global,
         buf: &mut BytesMut,
     ) -> Result<Option<(tcp::Header, Bytes)>, TcpError>
-        ensures takes { TakesUnit buf.old.items result buf.new.items }
+        ensures takes { TakesAdu buf.old.items result buf.new.items }
         ensures short { result ≡ Ok None → length buf.new.items < LONGEST_ADU }
     {
         match front(buf.as_slice()) {

@@ -7,7 +7,7 @@ ghost use Rattle.modbus_pdu.specs.Coding.{Encodes};
 ghost use Rattle.modbus_pdu.specs.RequestPdu.{request_pdu};
 ghost use Rattle.modbus_pdu.specs.ResponsePdu.{response_result_pdu};
 ghost use Rattle.modbus_pdu.specs.Writing.{word};
-ghost use Rattle.modbus_tcp.specs.Unit.{unit};
+ghost use Rattle.modbus_tcp.specs.Adu.{adu_of};
 
 use crate::mbap::{HEADER, MODBUS};
 use bytes::BytesMut;
@@ -37,14 +37,14 @@ fn put_header(buf: &mut BytesMut, header: tcp::Header, pdu_len: usize)
 /// # Errors
 /// `TooLong` with the size of the PDU in bytes, exactly where that is above 253. `NoMemory` where memory is refused. The bytes of the
 /// buffer are then as they were.
-#[tactic(auto, unfolding(crate::specs::Unit::unit))]
+#[tactic(auto, unfolding(crate::specs::Adu::adu_of))]
 pub fn encode_request_adu(
     alloc: Global,
     header: tcp::Header,
     request: &Request<'_>,
     buf: &mut BytesMut,
 ) -> Result<(), EncodeError>
-    ensures { Encodes (unit header (request_pdu (meaning request.now))) (request_pdu (meaning request.now)) buf.old.items result buf.new.items }
+    ensures { Encodes (adu_of header (request_pdu (meaning request.now))) (request_pdu (meaning request.now)) buf.old.items result buf.new.items }
 {
     let pdu_len = request_pdu_size(request)?;
     // One growth for the whole ADU.
@@ -62,7 +62,7 @@ pub fn encode_request_adu(
 /// # Errors
 /// `TooLong` with the size of the PDU in bytes, exactly where that is above 253. `NoMemory` where memory is refused. The bytes of the
 /// buffer are then as they were.
-#[tactic(auto, unfolding(crate::specs::Unit::unit))]
+#[tactic(auto, unfolding(crate::specs::Adu::adu_of))]
 pub fn encode_response_adu(
     alloc: Global,
     header: tcp::Header,
@@ -70,7 +70,7 @@ pub fn encode_response_adu(
     buf: &mut BytesMut,
 ) -> Result<(), EncodeError>
     requires { ForErr answer.now (λ refusal. function_number refusal.function < 0x80) }
-    ensures { Encodes (unit header (response_result_pdu answer.now)) (response_result_pdu answer.now) buf.old.items result buf.new.items }
+    ensures { Encodes (adu_of header (response_result_pdu answer.now)) (response_result_pdu answer.now) buf.old.items result buf.new.items }
 {
     let pdu_len = response_result_pdu_size(answer)?;
     // One growth for the whole ADU.

@@ -1,8 +1,8 @@
-//! Modbus TCP: units of an MBAP header and a PDU, and the codecs of the two ends of a connection
+//! Modbus TCP: ADUs of an MBAP header and a PDU, and the codecs of the two ends of a connection
 //! (MODBUS Messaging on TCP/IP V1.0b, section 3.1).
 //!
-//! A connection loses no byte and adds none, so units stand one after another, and a header tells where its unit ends. What tells
-//! no unit is a fault of the other end, and nothing is searched for after it.
+//! A connection loses no byte and adds none, so ADUs stand one after another, and a header tells where its ADU ends. What tells
+//! no ADU is a fault of the other end, and nothing is searched for after it.
 #![tactic(auto)]
 
 mod codec;

@@ -1,3 +1,5 @@
-//! Sources and sinks.
+//! Sources, sinks and links, what makes links, and signals to stop.
 mod adapters;
 mod memory;
+mod stops;
+mod tcp;

@@ -1,6 +1,8 @@
 //! Servers: worked frames and ADUs, and each generic call once at a concrete type.
 ghost use Rattle.std.specs.Prelude.{◌≡◌};
 
+mod stops;
+
 use modbus_frame::{Reason, Response, SlaveRequest, Words};
 use modbus_link::{Both, MemorySink, MemorySource};
 use modbus_server::rtu::Connection;
@@ -151,32 +153,32 @@ fn a_step_reads_answers_or_ends(rt: HostRuntime) -> Result<(), Fail> {
 }
 
 /// A read of one register from address 0 by unit 255, transaction 0x0102.
-const READ_UNIT: [u8; 12] = [
+const READ_ADU: [u8; 12] = [
     0x01, 0x02, 0x00, 0x00, 0x00, 0x06, 0xFF, 0x03, 0x00, 0x00, 0x00, 0x01,
 ];
 
 /// The register 0x0020 in reply.
-const UNIT: [u8; 11] = [
+const REPLY_ADU: [u8; 11] = [
     0x01, 0x02, 0x00, 0x00, 0x00, 0x05, 0xFF, 0x03, 0x02, 0x00, 0x20,
 ];
 
 #[test]
-fn a_service_answers_a_unit(rt: HostRuntime) -> Result<(), Fail> {
-    let (result, sink) = served(rt.alloc(), &READ_UNIT, &[], &[], u64::MAX)?;
+fn a_service_answers_an_adu(rt: HostRuntime) -> Result<(), Fail> {
+    let (result, sink) = served(rt.alloc(), &READ_ADU, &[], &[], u64::MAX)?;
     assert_eq!(rt; result, Ok(()));
-    assert_eq!(rt; sink.bytes(), UNIT.as_slice());
+    assert_eq!(rt; sink.bytes(), REPLY_ADU.as_slice());
     Ok(())
 }
 
 #[test]
-fn a_lent_service_answers_a_unit_in_pieces(rt: HostRuntime) -> Result<(), Fail> {
+fn a_lent_service_answers_an_adu_in_pieces(rt: HostRuntime) -> Result<(), Fail> {
     let alloc = rt.alloc();
     let mut service = SameWords {
         words: Vec::from_slice(alloc, &[0x0020])?,
         calls: 0,
     };
     let stops = [1, 2, 3, 4, 5, 6, 7, 8, 9, 10, 11];
-    let mut source = MemorySource::new(alloc, &READ_UNIT, &stops, &[])?;
+    let mut source = MemorySource::new(alloc, &READ_ADU, &stops, &[])?;
     let mut sink = MemorySink::new(alloc, 64, 1, &[])?;
     assert_eq!(rt;
         tcp::process_link(
@@ -187,12 +189,12 @@ fn a_lent_service_answers_a_unit_in_pieces(rt: HostRuntime) -> Result<(), Fail> 
         ),
         Ok(())
     );
-    assert_eq!(rt; sink.bytes(), UNIT.as_slice());
+    assert_eq!(rt; sink.bytes(), REPLY_ADU.as_slice());
     assert_eq!(rt; service.calls, 1);
     Ok(())
 }
 
-/// Serves the units with a service that answers the register 0x0020, and gives the answer and what was written.
+/// Serves the ADUs with a service that answers the register 0x0020, and gives the answer and what was written.
 fn served(
     alloc: Global,
     input: &[u8],
@@ -210,7 +212,7 @@ fn served(
     Ok((result, sink))
 }
 
-/// The second of two units with another protocol, another length or an end of its own, and the answer.
+/// The second of two ADUs with another protocol, another length or an end of its own, and the answer.
 fn ends() -> [(u8, u8, usize, ProcessError); 4] {
     [
         (0, 6, 23, ProcessError::BytesRemaining),
@@ -226,17 +228,17 @@ fn ends() -> [(u8, u8, usize, ProcessError); 4] {
 }
 
 #[test]
-fn each_end_of_a_stream_of_units_has_its_answer(rt: HostRuntime) -> Result<(), Fail> {
+fn each_end_of_a_stream_of_adus_has_its_answer(rt: HostRuntime) -> Result<(), Fail> {
     for (protocol, length, end, error) in ends() {
         let mut both = [0; 24];
-        both[..12].copy_from_slice(&READ_UNIT);
-        both[12..].copy_from_slice(&READ_UNIT);
+        both[..12].copy_from_slice(&READ_ADU);
+        both[12..].copy_from_slice(&READ_ADU);
         both[15] = protocol;
         both[17] = length;
         let input = both.get(..end).unwrap_or(&[]);
         let (result, sink) = served(rt.alloc(), input, &[], &[], u64::MAX)?;
         assert_eq!(rt; result, Err(error));
-        assert_eq!(rt; sink.bytes(), UNIT.as_slice());
+        assert_eq!(rt; sink.bytes(), REPLY_ADU.as_slice());
     }
     Ok(())
 }
@@ -244,24 +246,24 @@ fn each_end_of_a_stream_of_units_has_its_answer(rt: HostRuntime) -> Result<(), F
 #[test]
 fn each_fault_of_an_object_has_its_answer(rt: HostRuntime) -> Result<(), Fail> {
     let alloc = rt.alloc();
-    let (result, _) = served(alloc, &READ_UNIT, &[1], &[], u64::MAX)?;
+    let (result, _) = served(alloc, &READ_ADU, &[1], &[], u64::MAX)?;
     assert_eq!(rt; result, Err(ProcessError::ReadFault));
-    let (result, _) = served(alloc, &READ_UNIT, &[], &[0], u64::MAX)?;
+    let (result, _) = served(alloc, &READ_ADU, &[], &[0], u64::MAX)?;
     assert_eq!(rt; result, Err(ProcessError::WriteFault));
-    let (result, sink) = served(alloc, &READ_UNIT, &[], &[], 1)?;
+    let (result, sink) = served(alloc, &READ_ADU, &[], &[], 1)?;
     assert_eq!(rt; result, Err(ProcessError::TurnLimit));
-    assert_eq!(rt; sink.bytes(), UNIT.as_slice());
+    assert_eq!(rt; sink.bytes(), REPLY_ADU.as_slice());
     Ok(())
 }
 
 #[test]
-fn a_connection_of_units_reads_answers_or_ends(rt: HostRuntime) -> Result<(), Fail> {
+fn a_connection_of_adus_reads_answers_or_ends(rt: HostRuntime) -> Result<(), Fail> {
     let alloc = rt.alloc();
     let mut service = SameWords {
         words: Vec::from_slice(alloc, &[0x0020])?,
         calls: 0,
     };
-    let mut source = MemorySource::new(alloc, &READ_UNIT, &[], &[])?;
+    let mut source = MemorySource::new(alloc, &READ_ADU, &[], &[])?;
     let mut sink = MemorySink::new(alloc, 64, 64, &[])?;
     let mut connection = tcp::Connection::open(alloc)?;
     let hungry = connection.step(alloc, &mut source, &mut sink, &mut service, false);
@@ -270,7 +272,7 @@ fn a_connection_of_units_reads_answers_or_ends(rt: HostRuntime) -> Result<(), Fa
     assert_eq!(rt; more, Ok(Step::MoreRead));
     let answered = connection.step(alloc, &mut source, &mut sink, &mut service, false);
     assert_eq!(rt; answered, Ok(Step::Answered));
-    assert_eq!(rt; sink.bytes(), UNIT.as_slice());
+    assert_eq!(rt; sink.bytes(), REPLY_ADU.as_slice());
     assert!(rt; connection.is_open());
     let ended = connection.step(alloc, &mut source, &mut sink, &mut service, true);
     assert_eq!(rt; ended, Ok(Step::Ended));

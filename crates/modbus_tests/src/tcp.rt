@@ -1,4 +1,4 @@
-//! Units as the standard's tables have them, both ways.
+//! ADUs as the standard's tables have them, both ways.
 ghost use Rattle.std.specs.Prelude.{◌≡◌, Ok};
 
 use bytes::BytesMut;
@@ -28,7 +28,7 @@ fn transactions_are_numbered(rt: HostRuntime) -> Result<(), Fail> {
 }
 
 #[test]
-fn units_are_taken(rt: HostRuntime) -> Result<(), Fail> {
+fn adus_are_taken(rt: HostRuntime) -> Result<(), Fail> {
     let alloc = rt.alloc();
     let mut buf = BytesMut::copy_from_slice(alloc, b"\x10\x01\x00\x00\x00\x03\xFE\x82\x03\x00")?;
     let mut decoder = AduDecoder::new();
@@ -38,7 +38,7 @@ fn units_are_taken(rt: HostRuntime) -> Result<(), Fail> {
             assert_eq!(rt; header.unit_id, 0xFE);
             assert_eq!(rt; pdu.as_slice(), b"\x82\x03".as_slice());
         }
-        _ => assert!(rt; false, "no unit"),
+        _ => assert!(rt; false, "no ADU"),
     }
     assert_eq!(rt; buf.as_slice(), b"\x00".as_slice());
     assert!(rt; AduDecoder::default().decode(alloc, &mut buf) == Ok(None));
@@ -247,7 +247,7 @@ fn requests_are_written(rt: HostRuntime) -> Result<(), Fail> {
     Ok(())
 }
 
-/// A unit that answers so, of transaction 0 and unit 255.
+/// An ADU that answers so, of transaction 0 and unit 255.
 fn answered(response: Response) -> tcp::ResponseAdu
     ensures { result.pdu.0 ≡ Ok response }
 {

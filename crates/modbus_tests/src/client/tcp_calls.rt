@@ -48,7 +48,7 @@ fn each_call_draws_a_transaction(rt: HostRuntime) -> Result<(), Fail> {
 }
 
 #[test]
-fn headers_of_no_unit_are_told(rt: HostRuntime) -> Result<(), Fail> {
+fn headers_of_no_adu_are_told(rt: HostRuntime) -> Result<(), Fail> {
     for (bytes, fault, held) in [
         (
             b"\x00\x00\x00\x00\x00\x00\xFF\x03".as_slice(),

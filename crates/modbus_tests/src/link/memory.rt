@@ -1,6 +1,11 @@
-//! The source and the sink in memory.
-use modbus_link::{Failed, MemorySink, MemorySource, Sink, Source};
+//! The source, the sink, the link and the connector in memory.
+use modbus_link::{
+    Connector, Failed, Link, MemoryConnector, MemoryLink, MemorySink, MemorySource, Sink, Source,
+};
+use std::alloc::{AllocError, Global};
+use std::net::{Ipv4Addr, SocketAddr};
 use std::test::Fail;
+use std::time::Duration;
 
 #[test]
 fn reads_stop_at_stops_and_fail_by_number(rt: HostRuntime) -> Result<(), Fail> {
@@ -26,5 +31,53 @@ fn writes_take_what_is_free_and_fail_by_number(rt: HostRuntime) -> Result<(), Fa
     assert_eq!(rt; sink.write(b"f"), Err(Failed));
     assert_eq!(rt; sink.write(b""), Ok(0));
     assert_eq!(rt; sink.bytes(), b"abcde".as_slice());
+    Ok(())
+}
+
+/// A link that gives three bytes, two of them at first, and holds four.
+fn small_link(alloc: Global, shutdown_fails: bool) -> Result<MemoryLink, AllocError> {
+    let source = MemorySource::new(alloc, b"abc", &[2], &[])?;
+    let sink = MemorySink::new(alloc, 4, 3, &[])?;
+    Ok(MemoryLink::new(source, sink, shutdown_fails))
+}
+
+#[test]
+fn a_link_has_both_ends_and_a_shutdown(rt: HostRuntime) -> Result<(), Fail> {
+    let mut link = small_link(rt.alloc(), false)?;
+    let mut room = [0u8; 3];
+    assert_eq!(rt; link.read(&mut room), Ok(2));
+    assert_eq!(rt; link.write(b"xyzw"), Ok(3));
+    link.set_timeout(Some(Duration::from_secs(2)));
+    assert!(rt; link.timeout() == Some(Duration::from_secs(2)));
+    assert_eq!(rt; link.shutdown(), Ok(()));
+    assert_eq!(rt; link.source().given(), 2);
+    assert_eq!(rt; link.sink().bytes(), b"xyz".as_slice());
+
+    let mut broken = small_link(rt.alloc(), true)?;
+    assert_eq!(rt; broken.shutdown(), Err(Failed));
+    Ok(())
+}
+
+/// What a connector gives for the port of Modbus on this machine.
+fn connect<C: Connector + Drop>(
+    mut connector: C,
+    timeout: Option<Duration>,
+) -> Result<C::Link, Failed> {
+    connector.connect(SocketAddr::from((Ipv4Addr::LOCALHOST, 502)), timeout)
+}
+
+#[test]
+fn a_connector_gives_its_link_once(rt: HostRuntime) -> Result<(), Fail> {
+    let mut connector = MemoryConnector::new(Some(small_link(rt.alloc(), false)?));
+    let mut link = connect(&mut connector, Some(Duration::from_secs(2)))?;
+    assert_eq!(rt; link.read(&mut [0u8; 3]), Ok(2));
+    assert!(rt; link.timeout().is_none());
+    for timeout in [None, Some(Duration::from_secs(2))] {
+        assert!(rt; connect(&mut connector, timeout).is_err());
+    }
+    assert_eq!(rt;
+        connect(MemoryConnector::<u8>::new(None), None),
+        Err(Failed)
+    );
     Ok(())
 }

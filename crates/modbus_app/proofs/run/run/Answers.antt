@@ -2,7 +2,7 @@ use Rattle.std.proofs.Common.{Ok, Err, subst, refl}
 use Rattle.modbus_link.specs.Outside.{bytes_appended, cuts_made}
 use Rattle.modbus_link.specs.Reads.{totals}
 use Rattle.modbus_app.specs.declared.words.Form.{Form}
-use Rattle.modbus_app.specs.Device.{Answers}
+use Rattle.modbus_app.specs.Device.{EndsServing}
 use Rattle.modbus_app.specs.Ending.{Ends}
 use Rattle.modbus_app.proofs.Ending.{same_form, ends, answers, unserved}
 use Rattle.modbus_app.proofs.run.run.Goals as goal
@@ -17,7 +17,7 @@ returns-in-Ok-serve-clause-ok g c = λ form named is told told'.
     let sunk = g.K.Ends.output c.args.sink.now in
     let sinks = g.K.Ends.output c.serve.new.sink in
     let all = answers c.in-Some.form c.in-Ok.store c.serve.new.store c.in-Ok.ensures from to sunk sinks c.in-Ok-serve.ensures.ran told told' in (
-      subst (λ (f : Form). Answers f from.left (totals (cuts_made from to)) (bytes_appended sunk sinks) (Ok tt)) (same_form c.in-Some.form form _ c.in-Some.ensures.exact named) all.0,
+      subst (λ (f : Form). EndsServing f from.left (totals (cuts_made from to)) (bytes_appended sunk sinks) (Ok tt)) (same_form c.in-Some.form form _ c.in-Some.ensures.exact named) all.0,
       all.1,
     )
 

@@ -1,5 +1,4 @@
-use Rattle.modbus_server.proofs.Running.{ran_none}
 use Rattle.modbus_server.proofs.serving.serve_link.Goals as goal
 
 pub returns-in-Err : goal.returns-in-Err
-returns-in-Err g c = ran_none g.I.Framing.framing g.V.Answerer.answering c.args.service.now _ _ _ c.open.ensures.stands
+returns-in-Err g c = c.in-Err.ensures.ran

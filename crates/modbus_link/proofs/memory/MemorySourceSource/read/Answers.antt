@@ -1,4 +1,4 @@
-use Rattle.std.proofs.Common.{◌-◌, refl, ◌∙◌, ◌≡◌, arith, ◌≤◌, ◌+◌, length, ◌==◌}
+use Rattle.std.proofs.Common.{rules, ◌-◌, refl, ◌∙◌, ◌≡◌, arith, ◌≤◌, ◌+◌, length, ◌==◌}
 use Rattle.std.proofs.lemmas.Grind.{common_steps}
 use Rattle.modbus_link.proofs.CutsLemmas.{memory-gives, memory-bytes, memory-cuts, memory-not_ended}
 use Rattle.modbus_link.proofs.memory.MemorySourceSource.read.Goals as goal
@@ -31,10 +31,15 @@ returns-clause-told c = rw (← c.self.view_is) (λ told.
       ended = memory-not_ended _ _ _ _ (length c.args.room.now) c.self.inside.faults (length c.self.inside.fails.items == 0) c.next_end-end.ensures.above within same c.requires c.self.invariant.none_yet;
     })
 
-pub returns-clause-most : goal.returns-clause-most
-returns-clause-most c = rw (← c.self.view_is) (
+pub returns-clause-reads : goal.returns-clause-reads
+returns-clause-reads c = rw (← c.self.view_is) (
     let end : c.self.inside.given + (c.next_end-end.result - c.self.inside.given) ≡ c.next_end-end.result = omega (arith, c.next_end-end.ensures.above) in
     record {
-      passes_none = rw (end, ← c.deref-2.ensures.value) c.next_end-end.ensures.passes_none;
-      most = λ less. rw (end, ← c.deref-2.ensures.value) (c.next_end-end.ensures.most (omega (arith, c.self.inside.input.ok.0, c.self.invariant.within)));
+      fails = search rules;
+      most = record {
+        passes_none = rw (end, ← c.deref-2.ensures.value) c.next_end-end.ensures.passes_none;
+        most = λ less. rw (end, ← c.deref-2.ensures.value) (c.next_end-end.ensures.most (omega (arith, c.self.inside.input.ok.0, c.self.invariant.within)));
+      };
+      keeps = search rules;
+      counts = refl;
     })

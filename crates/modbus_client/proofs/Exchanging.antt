@@ -1,0 +1,115 @@
+-- A call that is fed bytes in memory, in pieces that fill its room.
+use Rattle.std.proofs.Common.{◌≡◌, ◌≢◌, ℕ, zero, suc, ◌+◌, ◌*◌, ◌<◌, ◌≤◌, min, List, [], ◌∷◌, ◌++◌, length, take, drop, Some, None, Option, Ok, Err, refl, sym, ap, ◌∙◌, subst, arith, length-append}
+use Rattle.std.proofs.Math.Seq.{take-add}
+use Rattle.std.proofs.lemmas.List.{length-take, length-drop, drop-drop}
+use Rattle.modbus_frame.specs.declared.code.FunctionCode.{FunctionCode}
+use Rattle.modbus_frame.specs.declared.fault.Error.TheVariants.{Protocol as protocol, Transport, NoMemory}
+use Rattle.modbus_frame.specs.declared.fault.HeaderSeen.{HeaderSeen}
+use Rattle.modbus_frame.specs.declared.fault.TransportError.{TransportError}
+use Rattle.modbus_frame.specs.declared.fault.TransportError.TheVariants as transport
+use Rattle.modbus_client.specs.declared.call.TheConstants.{ROOM}
+use Rattle.modbus_client.specs.Protocol.{Protocol, waiting}
+use Rattle.modbus_client.specs.Matching.{Answer}
+use Rattle.modbus_client.specs.Call.{CallState, CallStands, IsSameCall, IsOfBytesIfSome, FeedsAs, CallFed, TellsEnd}
+use Rattle.modbus_client.specs.Calling.{CallEndsAs}
+use Rattle.modbus_client.specs.Exchange.{IsOfReplies, full_cuts, ReadsAll}
+use Rattle.modbus_client.proofs.Turning.{same_call, answered_ends, fed_goes}
+
+count_full : (n : ℕ) (bytes : List ℕ) → length (full_cuts n bytes) ≡ n
+count_full zero bytes = refl
+count_full (suc n) bytes = length-append (full_cuts n bytes) (min (suc n * ROOM) (length bytes) ∷ []) ∙ omega (arith, count_full n bytes)
+
+of_bytes : (answer : Answer) → IsOfBytesIfSome (Some answer) → IsOfReplies answer
+of_bytes (Ok result) late = tt
+of_bytes (Err (protocol fault)) late = tt
+of_bytes (Err (Transport (transport.InvalidResponse reason))) late = tt
+of_bytes (Err (Transport transport.TooManyRetries)) late = tt
+of_bytes (Err (Transport transport.InvalidLength)) late = tt
+of_bytes (Err (Transport (transport.InvalidProtocol number))) late = tt
+of_bytes (Err (Transport _)) late = absurd late
+of_bytes (Err NoMemory) late = tt
+
+module _ {H : Type 0} (P : Protocol H) (bytes : List ℕ) where
+  -- what the loop keeps, from a call whose request was written
+  pub record Going (first call : CallState) (left : List ℕ) : Type 0 where
+    pub reads : ℕ
+    pub rest : left ≡ drop (reads * ROOM) bytes
+    pub stands : CallStands P first.request (take (reads * ROOM) bytes) (full_cuts reads bytes) call
+    pub same : IsSameCall first call
+    pub written : call.unwritten ≡ []
+
+  pub going : (call : CallState) → call.unwritten ≡ [] → CallStands P call.request [] [] call → Going call call bytes
+  going call written stands = record {
+    reads = 0;
+    rest = refl;
+    stands = stands;
+    same = record { asked = refl; function = refl; request = refl; turns = refl };
+    written = written;
+  }
+
+  module _ (first old : CallState) (left : List ℕ) (g : Going first old left) where
+    -- it may read once more
+    pub may_read : 0 < length left → old.reads < length bytes
+    may_read some = omega (arith, some, ap length g.rest, length-drop (g.reads * ROOM) bytes, g.stands.counted, count_full g.reads bytes)
+
+    pub no_memory : (held : List ℕ) → ReadsAll P first.asked first.function bytes held (Err NoMemory)
+    no_memory held = record { only = tt; reads = g.reads; ends = tt; ended = tt }
+
+    pub over : left ≡ [] → (fault : TransportError) → TellsEnd old.held fault → ReadsAll P first.asked first.function bytes old.held (Err (Transport fault))
+    over none transport.BrokenPipe tells = record { only = tt; reads = g.reads; ends = (g.stands.finds, tells); ended = sym g.rest ∙ none }
+    over none transport.BytesRemaining tells = record { only = tt; reads = g.reads; ends = (g.stands.finds, tells); ended = sym g.rest ∙ none }
+    over none _ tells = absurd tells
+
+    module _ (free : ℕ) (mid new : CallState) (same : mid ≡ record old { free = free }) (piece : List ℕ) (is : piece ≡ take ROOM left) (answer : Option Answer) (fed : CallFed P mid new piece answer) where
+      all_same : IsSameCall first new
+      all_same = let m = same_call old mid free same in record {
+        asked = fed.same.asked ∙ m.asked ∙ g.same.asked;
+        function = fed.same.function ∙ m.function ∙ g.same.function;
+        request = fed.same.request ∙ m.request ∙ g.same.request;
+        turns = fed.same.turns ∙ m.turns ∙ g.same.turns;
+      }
+
+      bytes_more : take (g.reads * ROOM) bytes ++ piece ≡ take (suc g.reads * ROOM) bytes
+      bytes_more =
+          let next : suc g.reads * ROOM ≡ g.reads * ROOM + ROOM = omega arith in
+          ap (λ p. take (g.reads * ROOM) bytes ++ p) (is ∙ ap (λ l. take ROOM l) g.rest) ∙ sym (take-add (g.reads * ROOM) ROOM bytes) ∙ ap (λ n. take n bytes) (sym next)
+
+      cuts_more : full_cuts g.reads bytes ++ length (take (g.reads * ROOM) bytes ++ piece) ∷ [] ≡ full_cuts (suc g.reads) bytes
+      cuts_more = ap (λ n. full_cuts g.reads bytes ++ n ∷ []) (ap length bytes_more ∙ length-take (suc g.reads * ROOM) bytes)
+
+      fed_as : FeedsAs P first.request (take (suc g.reads * ROOM) bytes) (full_cuts (suc g.reads) bytes) new answer
+      fed_as =
+          let s = g.stands in
+          let stood : CallStands P first.request (take (g.reads * ROOM) bytes) (full_cuts g.reads bytes) mid =
+          subst (λ c. CallStands P first.request (take (g.reads * ROOM) bytes) (full_cuts g.reads bytes) c) (sym same) (record { wrote = s.wrote; first = s.first; finds = s.finds; counted = s.counted }) in
+          subst (λ b. FeedsAs P first.request b (full_cuts (suc g.reads) bytes) new answer) bytes_more
+          (subst (λ c. FeedsAs P first.request (take (g.reads * ROOM) bytes ++ piece) c new answer) cuts_more
+          (fed.stands first.request (take (g.reads * ROOM) bytes) (full_cuts g.reads bytes) stood))
+
+      rest_more : drop ROOM left ≡ drop (suc g.reads * ROOM) bytes
+      rest_more =
+          let next : suc g.reads * ROOM ≡ g.reads * ROOM + ROOM = omega arith in
+          ap (λ l. drop ROOM l) g.rest ∙ drop-drop ROOM (g.reads * ROOM) bytes ∙ ap (λ n. drop n bytes) (sym next)
+
+    module _ (free : ℕ) (mid new : CallState) (same : mid ≡ record old { free = free }) (piece : List ℕ) (is : piece ≡ take ROOM left) where
+      pub goes_on : CallFed P mid new piece None → Going first new (drop ROOM left)
+      goes_on fed = record {
+        reads = suc g.reads;
+        rest = rest_more free mid new same piece is None fed;
+        stands = fed_as free mid new same piece is None fed;
+        same = all_same free mid new same piece is None fed;
+        written = fed.unwritten ∙ ap (λ (s : CallState). s.unwritten) same ∙ g.written;
+      }
+
+      pub received : (answer : Answer) → CallFed P mid new piece (Some answer) → ReadsAll P first.asked first.function bytes new.held answer
+      received answer fed =
+          let all = all_same free mid new same piece is (Some answer) fed in
+          record {
+            only = of_bytes answer fed.late;
+            reads = suc g.reads;
+            ends =
+                subst (λ (asked : HeaderSeen). CallEndsAs P asked first.function (take (suc g.reads * ROOM) bytes) (full_cuts (suc g.reads) bytes) new.held answer) all.asked
+                (subst (λ (function : FunctionCode). CallEndsAs P new.asked function (take (suc g.reads * ROOM) bytes) (full_cuts (suc g.reads) bytes) new.held answer) all.function
+                (answered_ends P new.asked new.function (take (suc g.reads * ROOM) bytes) (full_cuts (suc g.reads) bytes) new.held answer (fed_as free mid new same piece is (Some answer) fed)));
+            ended = fed_goes (Some answer) (drop (suc g.reads * ROOM) bytes) fed.late;
+          }

@@ -1,0 +1,84 @@
+//! A request to a service without a transport: a call and a connection take turns over memory.
+ghost use Rattle.std.specs.Prelude.{◌≡◌, ◌↔◌, ◌^◌, ◌-◌, [], IsTrue};
+ghost use Rattle.modbus_frame.specs.Meaning.{meaning};
+ghost use Rattle.modbus_client.specs.Call.{CallStands};
+ghost use Rattle.modbus_client.specs.Exchange.{IsWanting, ReadsAll, ExchangesLocally};
+
+use crate::call::{Call, ROOM};
+use crate::protocol::Protocol;
+use crate::rtu::Frames;
+use bytes::BytesMut;
+use modbus_frame::rtu::Header;
+use modbus_frame::{EncodeError, Error, Request, Response, Result, Slave, TransportError};
+use modbus_rtu::Inbox;
+use modbus_server::{Answerer, ProcessError, serve_piece};
+use std::alloc::Global;
+
+/// Feeds a call whose request was written, in pieces of `ROOM` bytes, until it has an answer or the bytes end.
+fn receive_all<P: Protocol>(call: &mut Call<P>, alloc: Global, replies: &[u8]) -> Result<Response>
+    requires written { call.old.unwritten ≡ [] }
+    requires turns { call.old.turns ≡ 2 ^ 64 - 1 }
+    requires stands { CallStands P.protocol call.old.request [] [] call.old }
+    ensures { ReadsAll P.protocol call.old.asked call.old.function replies.now call.new.held result }
+{
+    let mut left = replies;
+    'pieces: while !left.is_empty() {
+        if call.make_room().is_err() {
+            return Err(Error::NoMemory);
+        }
+        let (piece, rest) = left.split_at(ROOM.min(left.len()));
+        if let Some(answer) = call.feed(alloc, piece) {
+            return answer;
+        }
+        left = rest;
+    }
+    Err(Error::Transport(call.end()))
+}
+
+/// Whether memory was refused to the server.
+fn lacked_memory(served: &std::result::Result<(), ProcessError>) -> bool
+    ensures { IsTrue result ↔ IsWanting served.now }
+{
+    matches!(
+        served,
+        Err(ProcessError::NoMemory | ProcessError::WriteFault)
+    )
+}
+
+/// Asks a service, or another answerer, a request to a slave, with no transport between them.
+///
+/// It answers what the call of an RTU client answers whose link gives exactly the bytes that `modbus_server::rtu_over_tcp::process`
+/// appends for the frame of the request, in each read as many as its room holds, and then ends. The service stands where `process`
+/// leaves it: it is asked once for a request that its server takes.
+///
+/// # Errors
+/// Those of a call but `NotConnected`, `ReadFault`, `WriteFault` and `TurnLimit`. `RequestTooLong` with the size of the PDU in bytes,
+/// exactly where that is above 253; the service is not asked then. `BrokenPipe` where nothing was answered, as to a broadcast.
+pub fn exchange<V: Answerer>(
+    alloc: Global,
+    slave: Slave,
+    request: Request<'_>,
+    service: &mut V,
+) -> Result<Response>
+    ensures { ExchangesLocally V.answering service.old service.new slave.0 (meaning request.entry) result }
+{
+    modbus_rtu::laws::verdicts_by_offset();
+    let header = Header { slave_id: slave.0 };
+    let space = BytesMut::new(alloc);
+    let mut call = match Call::<Frames>::open(alloc, header, &request, u64::MAX, space) {
+        Ok(call) => call,
+        Err(EncodeError::TooLong(size)) => {
+            return Err(Error::Transport(TransportError::RequestTooLong(size)));
+        }
+        Err(EncodeError::NoMemory) => return Err(Error::NoMemory),
+    };
+    let mut replies = BytesMut::new(alloc);
+    // What a server tells of its input, its client sees by the bytes of the replies alone.
+    let served = serve_piece::<Inbox, V>(alloc, call.to_write(), service, &mut replies);
+    if lacked_memory(&served) {
+        return Err(Error::NoMemory);
+    }
+    let count = call.to_write().len();
+    call.wrote(count);
+    receive_all(&mut call, alloc, replies.as_slice())
+}

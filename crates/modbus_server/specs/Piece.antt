@@ -1,0 +1,30 @@
+-- What the driver over memory promises: its input is one piece of bytes.
+use Rattle.std.specs.Prelude.{◌≡◌, ◌⊎◌, ℕ, List, [], ◌∷◌, ◌++◌, length, Result, Ok, Err}
+use Rattle.modbus_server.specs.declared.error.ProcessError.{ProcessError}
+use Rattle.modbus_server.specs.declared.error.ProcessError.TheVariants.{ReadFault, TurnLimit, NoMemory}
+use Rattle.modbus_server.specs.Framing.{Framing}
+use Rattle.modbus_service.specs.Answering.{Answering}
+use Rattle.modbus_server.specs.Exchanges.{Exchange}
+use Rattle.modbus_server.specs.Serving.{Stands, EndsAs}
+
+-- an answer that comes of no read
+abbrev pub IsOfNoRead : Result (Unit {0}) ProcessError → Type 0
+IsOfNoRead (Err ReadFault) = ⊥
+IsOfNoRead (Err TurnLimit) = ⊥
+IsOfNoRead _ = Unit {0}
+
+-- Of a connection that holds these bytes: for all that it stood for, the run ends so, and these bytes are appended to the replies.
+pub record ServedHeld (F : Framing) {S : Type 0} (A : Answering S) (held : List ℕ) (before after : S) (old new : List ℕ) (result : Result (Unit {0}) ProcessError) : Type 0 where
+  pub sent : List ℕ
+  pub appended : new ≡ old ++ sent
+  pub only : IsOfNoRead result
+  pub ends : (bytes cuts written : List ℕ) (opening : S) (exchanges : List (Exchange F)) → Stands F A bytes cuts held opening before written [] exchanges
+      → EndsAs F A bytes cuts opening after (written ++ sent) result
+
+-- Of a piece as the whole input, which one read gave: the run ends so, and these bytes are appended to the replies. Or memory for a
+-- connection was refused, and nothing was done.
+pub record ServedPiece (F : Framing) {S : Type 0} (A : Answering S) (piece : List ℕ) (before after : S) (old new : List ℕ) (result : Result (Unit {0}) ProcessError) : Type 0 where
+  pub sent : List ℕ
+  pub appended : new ≡ old ++ sent
+  pub only : IsOfNoRead result
+  pub ends : EndsAs F A piece (length piece ∷ []) before after sent result ⊎ ((result ≡ Err NoMemory) × (after ≡ before) × (sent ≡ []))

@@ -1,0 +1,19 @@
+-- An ADU of a TCP stream: an MBAP header and a PDU (MODBUS Messaging on TCP/IP V1.0b, section 3.1).
+use Rattle.std.specs.Prelude.{ℕ, ◌+◌, ◌<◌, ◌≤◌, List, ◌∷◌, ◌++◌, length}
+use Rattle.std.specs.List.{flat_map}
+use Rattle.modbus_frame.specs.declared.tcp.Header.{Header}
+use Rattle.modbus_pdu.specs.Writing.{word}
+
+-- the transaction, the protocol, which is 0, the length of what follows, the unit identifier, and the PDU (section 3.1.3)
+unfoldable pub adu_of : Header → List ℕ → List ℕ
+adu_of header pdu = word header.transaction_id ++ word 0 ++ word (length pdu + 1) ++ header.unit_id ∷ pdu
+
+-- A header and a PDU that an ADU can carry: the transaction is a number of two bytes, and so is the length of the unit identifier
+-- and the PDU.
+pub record IsAdu (message : Header × List ℕ) : Type 0 where
+  pub transaction : message.0.transaction_id < 65536
+  pub size : length message.1 ≤ 65534
+
+-- ADUs one after another
+abbrev pub stream_of : List (Header × List ℕ) → List ℕ
+stream_of messages = flat_map (λ message. adu_of message.0 message.1) messages
