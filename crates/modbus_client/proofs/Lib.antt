@@ -9,7 +9,7 @@ pub mod FrameAlone
 pub mod OneAdu
 pub mod Completing
 pub mod Exactly
-pub mod Boxing
-pub mod Connecting
 pub mod Exchanging
 pub mod Exchanged
+pub mod Boxing
+pub mod Connecting

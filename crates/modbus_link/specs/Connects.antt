@@ -1,7 +1,7 @@
--- What a connector in memory keeps, and does.
-use Rattle.std.specs.Prelude.{◌≡◌, ◌↔◌, ℕ, Option, Some, None, Result, IsErr, IfOk}
-use Rattle.modbus_link.specs.Memory.{faults_after}
+-- What a connector in memory keeps, and what it does.
+use Rattle.std.specs.Prelude.{◌≡◌, ℕ, Option, Some, None, Result, Ok, Err}
 use Rattle.modbus_link.specs.declared.outside.Failed.{Failed}
+use Rattle.modbus_link.specs.Memory.{counted}
 
 pub record ConnectorState (L : Type 0) : Type 0 where
   -- the link that it will give
@@ -9,10 +9,7 @@ pub record ConnectorState (L : Type 0) : Type 0 where
   -- how often it failed; it stays at the last number of a counter
   pub faults : ℕ
 
--- What one connection in memory does, to whatever address and within whatever time: it gives the very link that the connector has, and
--- fails exactly where it has none.
-pub record MemoryConnects {L : Type 0} (old : ConnectorState L) (result : Result L Failed) (new : ConnectorState L) : Type 0 where
-  pub gives : IfOk result (λ link. old.link ≡ Some link)
-  pub fails : IsErr result ↔ (old.link ≡ None)
-  pub left : new.link ≡ None
-  pub counts : new.faults ≡ faults_after result old.faults
+-- It gives the link that it has, and none is left; it fails, which it counts, exactly where it has none.
+abbrev pub ConnectsOnce : {L : Type 0} → ConnectorState L → Result L Failed → ConnectorState L → Type 0
+ConnectsOnce old (Ok link) new = (old.link ≡ Some link) × (new ≡ record old { link = None })
+ConnectsOnce old (Err failed) new = (old.link ≡ None) × (new ≡ record old { faults = counted old.faults })

@@ -4,7 +4,7 @@ ghost use Rattle.std.specs.declared.net.SocketAddr.{SocketAddr};
 ghost use Rattle.std.specs.declared.time.Duration.{Duration};
 ghost use Rattle.modbus_link.specs.declared.outside.Failed.{Failed};
 ghost use Rattle.modbus_link.specs.Outside.{Rose};
-ghost use Rattle.modbus_link.specs.Connects.{MemoryConnects};
+ghost use Rattle.modbus_link.specs.Connects.{ConnectsOnce};
 
 use crate::outside::Failed;
 use std::marker::Model;
@@ -19,8 +19,8 @@ pub trait Connector {
     // how often it failed
     ghost faults: { Self → ℕ };
 
-    // what a connection may lead to, by the state before, what was asked, the answer and the state after; an implementation says it,
-    // and by default nothing is said
+    // what a connection may lead to, by the state before, what was asked, the answer and the state after; an implementation says it, and
+    // by default nothing is said
     ghost connects: { Self → SocketAddr → Option Duration → Result Self.Link Failed → Self → Type 0 } = { λ _ _ _ _ _. Unit {0} };
 
     /// Makes a link to an address, within `timeout`; `None` for any time.
@@ -74,7 +74,7 @@ impl<L> Connector for MemoryConnector<L> {
 
     ghost faults = { λ connector. connector.faults };
 
-    ghost connects = { λ old _ _ result new. MemoryConnects old result new };
+    ghost connects = { λ old addr timeout result new. ConnectsOnce old result new };
 
     /// Gives its link, to whatever address and with whatever timeout.
     ///

@@ -6,7 +6,7 @@ ghost use Rattle.std.specs.Io.{ReadsAtMost, WritesAtMost};
 ghost use Rattle.modbus_link.specs.Outside.{Rose, Advances, Extends, untold_input, untold_output};
 ghost use Rattle.modbus_link.specs.Memory.{faults_after};
 ghost use Rattle.modbus_link.specs.Line.{shut};
-ghost use Rattle.modbus_link.specs.Tcp.{tcp_at_start, TcpConnects};
+ghost use Rattle.modbus_link.specs.Tcp.{tcp_at_start};
 
 use crate::connector::Connector;
 use crate::link::Link;
@@ -208,7 +208,7 @@ impl<'r, R: Net<Stream = TcpStream>> Connector for TcpConnector<'r, R> {
 
     ghost faults = { λ connector. connector };
 
-    ghost connects = { λ old _ _ result new. TcpConnects old result new };
+    ghost connects = { λ old addr timeout result new. IfOk result (λ link. link ≡ tcp_at_start) × (new ≡ faults_after result old) };
 
     /// Connects to `addr`, within `timeout`. The link that it gives has no timeout for its reads and writes.
     ///
