@@ -1,6 +1,6 @@
 //! Calls that read, for every client (Modbus Application Protocol V1.1b3, section 6).
 ghost use Rattle.modbus_frame.specs.Meaning as asked;
-ghost use Rattle.modbus_client.specs.Typed.{Asks, answer_map, coils, discrete_inputs, holding_registers, input_registers, registers_after_write, identification};
+ghost use Rattle.modbus_client.specs.Typed.{Asks, answer_map, coils_read, discrete_inputs_read, holding_registers_read, input_registers_read, registers_read_after_write, identification_read};
 
 use crate::client::Client;
 use crate::typed::{all_words, another_kind, first_coils};
@@ -22,7 +22,7 @@ pub trait Reader: Client {
     /// Those of `call`. `FunctionCodeMismatch` exactly where the response is of another kind, `PayloadMismatch` exactly where it has
     /// fewer than `cnt` coils.
     fn read_coils(&mut self, addr: Address, cnt: Quantity) -> Result<Vec<Coil>>
-        ensures { Asks Self.answers self.old (asked.ReadCoils addr cnt) (coils cnt) (answer_map (λ v. v.items) result) self.new }
+        ensures { Asks Self.answers self.old (asked.ReadCoils addr cnt) (coils_read cnt) (answer_map (λ v. v.items) result) self.new }
     {
         match self.call(Request::ReadCoils(addr, cnt))? {
             Ok(Response::ReadCoils(coils)) => first_coils(coils, cnt, Response::ReadCoils),
@@ -37,7 +37,7 @@ pub trait Reader: Client {
     /// Those of `call`. `FunctionCodeMismatch` exactly where the response is of another kind, `PayloadMismatch` exactly where it has
     /// fewer than `cnt` inputs.
     fn read_discrete_inputs(&mut self, addr: Address, cnt: Quantity) -> Result<Vec<Coil>>
-        ensures { Asks Self.answers self.old (asked.ReadDiscreteInputs addr cnt) (discrete_inputs cnt) (answer_map (λ v. v.items) result) self.new }
+        ensures { Asks Self.answers self.old (asked.ReadDiscreteInputs addr cnt) (discrete_inputs_read cnt) (answer_map (λ v. v.items) result) self.new }
     {
         match self.call(Request::ReadDiscreteInputs(addr, cnt))? {
             Ok(Response::ReadDiscreteInputs(inputs)) => {
@@ -54,7 +54,7 @@ pub trait Reader: Client {
     /// Those of `call`. `FunctionCodeMismatch` exactly where the response is of another kind, `PayloadMismatch` exactly where it has
     /// not `cnt` registers.
     fn read_holding_registers(&mut self, addr: Address, cnt: Quantity) -> Result<Vec<Word>>
-        ensures { Asks Self.answers self.old (asked.ReadHoldingRegisters addr cnt) (holding_registers cnt) (answer_map (λ v. v.items) result) self.new }
+        ensures { Asks Self.answers self.old (asked.ReadHoldingRegisters addr cnt) (holding_registers_read cnt) (answer_map (λ v. v.items) result) self.new }
     {
         match self.call(Request::ReadHoldingRegisters(addr, cnt))? {
             Ok(Response::ReadHoldingRegisters(words)) => {
@@ -71,7 +71,7 @@ pub trait Reader: Client {
     /// Those of `call`. `FunctionCodeMismatch` exactly where the response is of another kind, `PayloadMismatch` exactly where it has
     /// not `cnt` registers.
     fn read_input_registers(&mut self, addr: Address, cnt: Quantity) -> Result<Vec<Word>>
-        ensures { Asks Self.answers self.old (asked.ReadInputRegisters addr cnt) (input_registers cnt) (answer_map (λ v. v.items) result) self.new }
+        ensures { Asks Self.answers self.old (asked.ReadInputRegisters addr cnt) (input_registers_read cnt) (answer_map (λ v. v.items) result) self.new }
     {
         match self.call(Request::ReadInputRegisters(addr, cnt))? {
             Ok(Response::ReadInputRegisters(words)) => {
@@ -95,7 +95,7 @@ pub trait Reader: Client {
         write_addr: Address,
         write_data: &[Word],
     ) -> Result<Vec<Word>>
-        ensures { Asks Self.answers self.old (asked.ReadWriteMultipleRegisters read_addr read_count write_addr write_data.now) (registers_after_write read_count)
+        ensures { Asks Self.answers self.old (asked.ReadWriteMultipleRegisters read_addr read_count write_addr write_data.now) (registers_read_after_write read_count)
             (answer_map (λ v. v.items) result) self.new }
     {
         match self.call(Request::ReadWriteMultipleRegisters(
@@ -121,7 +121,7 @@ pub trait Reader: Client {
         read_code: ReadCode,
         object_id: ObjectId,
     ) -> Result<ReadDeviceIdentificationResponse>
-        ensures { Asks Self.answers self.old (asked.ReadDeviceIdentification read_code object_id) identification result self.new }
+        ensures { Asks Self.answers self.old (asked.ReadDeviceIdentification read_code object_id) identification_read result self.new }
     {
         match self.call(Request::ReadDeviceIdentification(read_code, object_id))? {
             Ok(Response::ReadDeviceIdentification(found)) => Ok(Ok(found)),

@@ -16,7 +16,7 @@ pub(crate) fn another_kind(function: FunctionCode, response: Response) -> Error
 }
 
 /// The fault that a response is of the kind of its request, and does not fit it.
-fn misfit(response: Response) -> Error
+fn unequal(response: Response) -> Error
     ensures { result ≡ Error.Protocol (ProtocolError.PayloadMismatch response) }
 {
     Error::Protocol(ProtocolError::PayloadMismatch { response })
@@ -37,7 +37,7 @@ pub(crate) fn first_coils<F: FnOnce(Coils) -> Response>(
         × (fault ≡ Error.Protocol (ProtocolError.PayloadMismatch response))) }
 {
     if coils.as_slice().len() < usize::from(count) {
-        return Err(misfit(kind(coils)));
+        return Err(unequal(kind(coils)));
     }
     let mut first = coils.into_vec();
     first.truncate(usize::from(count));
@@ -59,7 +59,7 @@ pub(crate) fn all_words<F: FnOnce(Words) -> Response>(
         × (fault ≡ Error.Protocol (ProtocolError.PayloadMismatch response))) }
 {
     if words.as_slice().len() != usize::from(count) {
-        return Err(misfit(kind(words)));
+        return Err(unequal(kind(words)));
     }
     Ok(Ok(words.into_vec()))
 }
@@ -72,7 +72,7 @@ pub(crate) fn confirmed(tells_it: bool, response: Response) -> Result<()>
     ensures { result ≡ (if tells_it then Ok (Ok tt) else Err (Error.Protocol (ProtocolError.PayloadMismatch response))) }
 {
     if !tells_it {
-        return Err(misfit(response));
+        return Err(unequal(response));
     }
     Ok(Ok(()))
 }

@@ -19,8 +19,8 @@ pub trait Connector {
     // how often it failed
     ghost faults: { Self → ℕ };
 
-    // what a connection may lead to, by the state before, what was asked, the answer and the state after; an implementation says it, and
-    // by default nothing is said
+    // what a connection may lead to, by the state before, what was asked, the answer and the state after; an implementation says it,
+    // and by default nothing is said
     ghost connects: { Self → SocketAddr → Option Duration → Result Self.Link Failed → Self → Type 0 } = { λ _ _ _ _ _. Unit {0} };
 
     /// Makes a link to an address, within `timeout`; `None` for any time.

@@ -297,8 +297,8 @@ fn typed_calls_go_over_a_link(rt: HostRuntime) -> std::result::Result<(), Fail> 
     let mut cut = rtu_client(alloc, 1, b"\x01\x03\x04\x89", &[])?;
     let remaining = Err(Error::Transport(TransportError::BytesRemaining));
     assert!(rt; cut.read_holding_registers(0x082B, 2) == remaining);
-    let unit = b"\x00\x00\x00\x00\x00\x06\xFF\x06\x00\x01\x00\x03";
-    let mut tcp = tcp::attach(alloc, link(alloc, unit, &[])?);
+    let adu = b"\x00\x00\x00\x00\x00\x06\xFF\x06\x00\x01\x00\x03";
+    let mut tcp = tcp::attach(alloc, link(alloc, adu, &[])?);
     assert!(rt; tcp.write_single_register(1, 3) == Ok(Ok(())));
     Ok(())
 }
