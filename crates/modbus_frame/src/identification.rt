@@ -3,10 +3,9 @@
 ghost use Rattle.std.specs.Prelude.{◌≡◌, IfOk, IfSome, IsSome, ◌↔◌, IsUtf8};
 
 use crate::code::{ConformityLevel, ReadCode};
+use crate::list::Items;
 use bytes::Bytes;
 use std::alloc::{AllocError, Global};
-use std::fmt;
-use std::marker::Model;
 
 /// The number of an object of a device identification.
 pub type ObjectId = u8;
@@ -46,78 +45,20 @@ impl DeviceIdObject {
     }
 }
 
-/// The objects of a device identification, in the order of the response. Contracts see the plain list.
-#[derive(Drop)]
-pub struct DeviceIdObjects {
-    items: Vec<DeviceIdObject>,
-}
+/// The objects of a device identification, in the order of the response.
+pub type DeviceIdObjects = Items<DeviceIdObject>;
 
-impl Model for DeviceIdObjects {
-    ghost use Rattle.std.specs.Prelude.{List};
-    ghost use Rattle.modbus_frame.specs.declared.identification.DeviceIdObject.{DeviceIdObject};
-
-    ghost Value = { List DeviceIdObject };
-
-    ghost view = { λ o. o.items.items };
-}
-
-impl DeviceIdObjects {
-    /// The list of these objects, in their order.
-    pub fn new(items: Vec<DeviceIdObject>) -> Self
-        ensures { result ≡ items.items }
-    {
-        DeviceIdObjects { items }
-    }
-
-    /// The objects, in their order.
-    pub fn as_slice(&self) -> &[DeviceIdObject]
-        ensures { result.now ≡ self.now }
-    {
-        self.items.as_slice()
-    }
-
-    /// The objects as a vector, in their order.
-    pub fn into_vec(self) -> Vec<DeviceIdObject>
-        ensures { result.items ≡ self }
-    {
-        self.items
-    }
-
+impl Items<DeviceIdObject> {
+    /// An equal list, with memory from `alloc`. Want of memory is the one error.
     pub(crate) fn try_clone(&self, alloc: Global) -> Result<Self, AllocError>
         ensures { IfOk result (λ copy. copy ≡ self.now) }
     {
-        let mut items = Vec::with_capacity(alloc, self.items.len())?;
-        for object in self.items.as_slice() {
+        let objects = self.as_slice();
+        let mut items = Vec::with_capacity(alloc, objects.len())?;
+        for object in objects {
             items.push(object.try_clone(alloc)?)?;
         }
-        Ok(DeviceIdObjects { items })
-    }
-}
-
-impl PartialEq for DeviceIdObjects {
-    ghost use Rattle.std.specs.Cmp.Lexicographic.{pointwise, lists_equiv};
-    ghost use Rattle.std.specs.Cmp.{partial_equiv_from_equiv};
-    ghost use Rattle.modbus_frame.specs.Objects.{same_object, same_object_equiv};
-
-    ghost eq = { pointwise same_object };
-
-    ghost laws = { partial_equiv_from_equiv (lists_equiv same_object_equiv) };
-
-    fn eq(&self, other: &DeviceIdObjects) -> bool {
-        self.as_slice() == other.as_slice()
-    }
-}
-
-impl Eq for DeviceIdObjects {
-    ghost use Rattle.std.specs.Cmp.Lexicographic.{lists_equiv};
-    ghost use Rattle.modbus_frame.specs.Objects.{same_object_equiv};
-
-    ghost laws = { lists_equiv same_object_equiv };
-}
-
-impl fmt::Debug for DeviceIdObjects {
-    fn fmt<W: fmt::Write>(&self, f: &mut fmt::Formatter<W>) -> fmt::Result {
-        fmt::Debug::fmt(&self.as_slice(), f)
+        Ok(Items::new(items))
     }
 }
 

@@ -30,7 +30,7 @@ pub use crate::identification::{
     DeviceIdObject, DeviceIdObjects, MoreFollows, NextObjectId, ObjectId,
     ReadDeviceIdentificationResponse,
 };
-pub use crate::list::{Address, Coil, Coils, Data, Quantity, Word, Words};
+pub use crate::list::{Address, Coil, Coils, Data, Items, Quantity, Word, Words};
 pub use crate::pdu::{OptionalResponsePdu, RequestPdu, ResponsePdu};
 pub use crate::request::{Request, SlaveRequest};
 pub use crate::response::{ExceptionResponse, Response};

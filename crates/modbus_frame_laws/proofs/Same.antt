@@ -1,12 +1,13 @@
 -- When two values are equal: the parts of the proofs that derived equality is that of the meaning.
 use Rattle.std.proofs.Common.{◌≡◌, Bool, true, false, ◌&&◌, refl, ap, rules}
+use Rattle.std.specs.Prelude.{nat_eq}
 use Rattle.std.specs.Bool.{Decides}
+use Rattle.std.specs.Cmp.Lexicographic.{pointwise}
 use Rattle.std.proofs.lemmas.Bool.Decides.{Decides-eqb}
 use Rattle.std.proofs.lemmas.Slice.Eq.{bytes_eq-Decides}
 use Rattle.modbus_frame.specs.declared.identification.DeviceIdObject.{DeviceIdObject}
 use Rattle.modbus_frame.specs.declared.code.ReadCode.{ReadCode}
 use Rattle.modbus_frame.specs.contracts.code.ReadCodePartialEq.TheImpl as derived_code
-use Rattle.modbus_frame.specs.Objects.{same_object}
 
 -- one fact, in other words
 pub one : {P R : Type 0} (x : Bool) → Decides x P → (P → R) → (R → P) → Decides x R
@@ -18,7 +19,11 @@ both true true d e join first second = ((λ _. join (d.0 refl) (e.0 refl)), λ _
 both true false d e join first second = ((λ h. absurd cc), λ r. e.1 (second r))
 both false y d e join first second = ((λ h. absurd cc), λ r. d.1 (first r))
 
--- objects are equal where their ids and the bytes of their values are
+-- two objects of a device identification: their ids are equal, and so are the bytes of their values
+abbrev same_object : DeviceIdObject → DeviceIdObject → Bool
+same_object x y = nat_eq x.id y.id && pointwise nat_eq x.value y.value
+
+-- so they are one object
 pub objects_Decide : (x y : DeviceIdObject) → Decides (same_object x y) (x ≡ y)
 objects_Decide x y = both _ _ (Decides-eqb x.id y.id) (bytes_eq-Decides x.value y.value) (λ p q i. record { id = p i; value = q i }) (λ r. ap (λ (o : DeviceIdObject). o.id) r) (λ r. ap (λ (o : DeviceIdObject). o.value) r)
 
