@@ -16,6 +16,7 @@ use Rattle.modbus_server.specs.Serving as server
 use Rattle.modbus_server.specs.Rtu.{rtu}
 use Rattle.modbus_client.specs.Matching.{Answer}
 use Rattle.modbus_client.specs.Exchange.{IsOfReplies, ReadsAll, IsWanting, LocalExchange, ExchangesLocally}
+use Rattle.modbus_client.specs.Back.{ComesBack}
 use Rattle.modbus_client.specs.Rtu.{rtu_protocol, slave_seen}
 
 pub frame_length : (slave : ℕ) (pdu : List ℕ) → length (frame slave pdu) ≡ length pdu + 3
@@ -76,3 +77,12 @@ module _ {S : Type 0} (A : Answering S) (slave : ℕ) (asked : Asked) where
         }))
         | inr none ↦ absurd (unwanted (subst IsWanting (sym none.0) tt))
       ]
+
+-- what comes back, by what the exchange promises
+pub exchange_back : {S : Type 0} (A : Answering S) (before after : S) (slave : ℕ) (asked : Asked) (answer : Answer)
+    → (LocalExchange A before after slave asked answer → ComesBack A before after slave asked answer)
+    → ExchangesLocally A before after slave asked answer → ComesBack A before after slave asked answer
+exchange_back A before after slave asked answer law exchanges = λ of fits some. elim (exchanges.asks fits) [
+  | inl local ↦ law local of fits some
+  | inr none ↦ absurd (some none.0)
+]

@@ -12,7 +12,7 @@ ghost use Rattle.modbus_client.specs.Search as search;
 ghost use Rattle.modbus_client.specs.Call.{CallState, CallStands};
 ghost use Rattle.modbus_client.specs.Calling.{Exchanged};
 ghost use Rattle.modbus_client.specs.Exactly.{IsToldOf, TellsWaiting};
-ghost use Rattle.modbus_client.specs.Exchange.{LocalExchange};
+ghost use Rattle.modbus_client.specs.Exchange.{ExchangesLocally};
 ghost use Rattle.modbus_client.specs.Back.{ComesBack};
 
 use crate::protocol::Protocol;
@@ -45,11 +45,11 @@ pub fn calls_go_on<P: Protocol>()
         → CallStands P.protocol written bytes cuts (record call { free = n }) }
 {}
 
-/// What comes back of an exchange over memory whose request reads back from its PDU: the outcome that the service gave when it was asked
-/// once.
+/// What an exchange over memory promises of a request that reads back from its PDU says what comes back: the outcome that the service
+/// gave when it was asked once.
 pub fn outcomes_come_back<V: Answerer>()
     ensures { (before after : V) (slave : ℕ) (asked : Asked) (answer : Answer) → ReadsBack asked
-        → LocalExchange V.answering before after slave asked answer → ComesBack V.answering before after slave asked answer }
+        → ExchangesLocally V.answering before after slave asked answer → ComesBack V.answering before after slave asked answer }
 {
     modbus_pdu::requests_have_sizes();
     modbus_pdu::responses_have_sizes();
