@@ -1,6 +1,6 @@
 -- A frame whose first bytes tell its length is a quiet line of one message.
-use Rattle.std.proofs.Common.{◌≡◌, inl, inr, ℕ, ◌+◌, ◌<◌, ◌≤◌, List, [], ◌∷◌, ◌++◌, map, length, take, drop, refl, sym, ap, ◌∙◌, subst, arith, append-nil, length-take}
-use Rattle.std.specs.Prelude.{All, Contains}
+use Rattle.std.proofs.Common.{◌≡◌, inl, inr, ℕ, ◌+◌, ◌<◌, ◌≤◌, List, [], ◌∷◌, map, length, take, drop, refl, ap, subst, arith, append-nil, length-take}
+use Rattle.std.specs.Prelude.{Contains}
 use Rattle.std.specs.List.{AllByRecursion}
 use Rattle.std.proofs.lemmas.Bool.{cases_lt}
 use Rattle.std.proofs.lemmas.List.Elements.{All-contains}
@@ -11,7 +11,7 @@ use Rattle.modbus_rtu.specs.Framed.{HasHead, stream_of, IsWholeReading}
 use Rattle.modbus_rtu.specs.Leftmost.{IsLeftmost, IsUncovered}
 use Rattle.modbus_rtu.specs.Quiet.{IsQuietLine}
 use Rattle.modbus_rtu.specs.Stands.{pdu_len_of, frame_at}
-use Rattle.modbus_client.proofs.Exchanged.{frame_length}
+use Rattle.modbus_client.proofs.FrameAlone.{length-frame}
 
 abbrev pub FramesAreRead : Type 0
 FramesAreRead = (messages : List (ℕ × List ℕ)) → AllByRecursion HasHead messages → IsWholeReading (stream_of messages) messages
@@ -47,13 +47,13 @@ module _ (end_open : EndIsOpen) (whole : FramesAreWhole) (slave : ℕ) (pdu : Li
         omega (arith, ap length taken, by_good, length-take (pdu_len_of (verdict bytes f)) (drop (f + 1) bytes))
 
     first : f ≡ 0
-    first = omega (arith, long, whole bytes f good.0 good.1, frame_length slave pdu)
+    first = omega (arith, long, whole bytes f good.0 good.1, length-frame slave pdu)
 
     none_free : (k : ℕ) → verdict bytes k ≡ Bad → IsUncovered bytes (f ∷ []) k → ⊥
     none_free k bad free = elim (cases_lt k (length bytes)) [
       | inr past ↦ open_bad (end_open bytes k past) bad
       | inl inside ↦ elim (cases_lt f k) [
-        | inl above ↦ free f here (good.0, good.1, above, omega (arith, inside, long, frame_length slave pdu))
+        | inl above ↦ free f here (good.0, good.1, above, omega (arith, inside, long, length-frame slave pdu))
         | inr below ↦ (let same : k ≡ f = omega (arith, below, first) in good_bad good.1 (subst (λ i. verdict bytes i ≡ Bad) same bad))
       ]
     ]

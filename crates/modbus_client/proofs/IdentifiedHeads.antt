@@ -1,5 +1,5 @@
 -- The first bytes of a device identification tell its length.
-use Rattle.std.proofs.Common.{◌≡◌, ℕ, suc, ◌+◌, ◌-◌, ◌<◌, ◌≤◌, List, [], ◌∷◌, ◌++◌, length, Option, Some, None, Ok, refl, sym, ap, ◌∙◌, arith, length-append, append_assoc, add-zero}
+use Rattle.std.proofs.Common.{◌≡◌, ℕ, suc, ◌+◌, ◌-◌, ◌≤◌, List, [], ◌∷◌, ◌++◌, length, Some, Ok, refl, ap, ◌∙◌, arith, length-append, append_assoc, add-zero}
 use Rattle.std.specs.Prelude.{slice_get}
 use Rattle.std.specs.Option.{option_map}
 use Rattle.std.proofs.lemmas.Bool.{le-leb}
@@ -7,7 +7,7 @@ use Rattle.modbus_frame.specs.Codes.{read_code_number, level_number}
 use Rattle.modbus_frame.specs.declared.identification.DeviceIdObject.{DeviceIdObject}
 use Rattle.modbus_frame.specs.declared.identification.ReadDeviceIdentificationResponse.{ReadDeviceIdentificationResponse}
 use Rattle.modbus_pdu.specs.ResponsePdu.{flag, object, objects, device_identification_pdu}
-use Rattle.modbus_rtu.specs.ResponseHead.{response_head, response_rule, within, after_object, after_objects, identified_len}
+use Rattle.modbus_rtu.specs.ResponseHead.{response_head, response_rule, after_object, after_objects, identified_len}
 
 -- the byte behind the first one of what follows a front
 size_there : (front : List ℕ) (id size : ℕ) (more : List ℕ) → slice_get (front ++ id ∷ size ∷ more) (length front + 1) ≡ Some size

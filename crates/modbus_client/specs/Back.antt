@@ -1,15 +1,15 @@
 -- What comes back of an exchange over memory, by what the service gave.
 use Rattle.std.specs.Prelude.{◌≡◌, ◌≢◌, ℕ, ◌<◌, length, Ok, Err}
 use Rattle.modbus_frame.specs.Answered.{function_answered}
-use Rattle.modbus_frame.specs.Codes.{exception_number, exception_of}
+use Rattle.modbus_frame.specs.Codes.{function_number, exception_number, exception_of}
 use Rattle.modbus_frame.specs.Meaning.{Asked, Custom, function_asked}
 use Rattle.modbus_frame.specs.declared.response.Response.{Response}
-use Rattle.modbus_frame.specs.declared.response.Response.TheVariants as response
 use Rattle.modbus_frame.specs.declared.fault.Error.TheVariants.{Protocol, Transport, NoMemory}
 use Rattle.modbus_frame.specs.declared.fault.ProtocolError.TheVariants.{FunctionCodeMismatch}
 use Rattle.modbus_frame.specs.declared.fault.TransportError.TheVariants.{BrokenPipe}
 use Rattle.modbus_pdu.specs.Coding.{Fits}
 use Rattle.modbus_pdu.specs.declared.limits.TheConstants.{MAX_PDU}
+use Rattle.modbus_pdu.specs.RequestOf.{IsModelled}
 use Rattle.modbus_pdu.specs.RequestPdu.{request_pdu}
 use Rattle.modbus_pdu.specs.ResponseLaws.{IsResponse, with_filled_coils}
 use Rattle.modbus_pdu.specs.ResponsePdu.{response_pdu}
@@ -17,22 +17,17 @@ use Rattle.modbus_service.specs.Answering.{Answering}
 use Rattle.modbus_service.specs.Outcome.{Outcome, silence, reply, exception}
 use Rattle.modbus_client.specs.Matching.{Answer}
 
--- a request of any kind but a custom function
-abbrev pub IsOfKind : Asked → Type 0
-IsOfKind (Custom code bytes) = ⊥
-IsOfKind _ = Unit {0}
+-- a request of a modelled kind, which is each but a custom function
+abbrev pub IsModelledRequest : Asked → Type 0
+IsModelledRequest (Custom code bytes) = ⊥
+IsModelledRequest _ = Unit {0}
 
--- A response of any kind but a custom function, each of whose numbers is in the range of its type, as those of every `Response` of the
--- code are.
-abbrev pub IsAnswerOfKind : Response → Type 0
-IsAnswerOfKind (response.Custom code bytes) = ⊥
-IsAnswerOfKind other = IsResponse other
-
--- What a client makes of a response. Where it fits and is of the request's function, it comes back, with its coils filled by false to a
--- multiple of eight; one of another function is told as that. One that doesn't fit is not sent.
+-- What a client makes of a response, each of whose numbers is in the range of its type, as those of every `Response` of the code are. One
+-- that fits and is of the function that was asked comes back, with its coils filled by false to a multiple of eight. One of another
+-- modelled function is told as that. One that doesn't fit is not sent.
 pub record ReplyComesBack (asked : Asked) (given : Response) (answer : Answer) : Type 0 where
-  pub own : IsAnswerOfKind given → Fits (response_pdu given) → function_answered given ≡ function_asked asked → answer ≡ Ok (Ok (with_filled_coils given))
-  pub other : IsAnswerOfKind given → Fits (response_pdu given) → function_answered given ≢ function_asked asked
+  pub own : IsResponse given → Fits (response_pdu given) → function_answered given ≡ function_asked asked → answer ≡ Ok (Ok (with_filled_coils given))
+  pub other : IsResponse given → IsModelled (function_number (function_answered given)) → Fits (response_pdu given) → function_answered given ≢ function_asked asked
       → answer ≡ Err (Protocol (FunctionCodeMismatch (function_asked asked) (Ok (with_filled_coils given))))
   pub too_long : MAX_PDU < length (response_pdu given) → answer ≡ Err (Transport BrokenPipe)
 
@@ -42,7 +37,7 @@ OutcomeComesBack asked silence answer = answer ≡ Err (Transport BrokenPipe)
 OutcomeComesBack asked (reply given) answer = ReplyComesBack asked given answer
 OutcomeComesBack asked (exception code) answer = answer ≡ Ok (Err (exception_of (exception_number code)))
 
--- A request of a kind that fits was asked once, for this slave, unless memory is wanting; what comes back is the outcome.
+-- A request of a modelled kind that fits was asked once, for this slave, unless memory is wanting, and its outcome comes back.
 abbrev pub ComesBack : {S : Type 0} → Answering S → S → S → ℕ → Asked → Answer → Type 0
-ComesBack A before after slave asked answer = IsOfKind asked → Fits (request_pdu asked) → answer ≢ Err NoMemory
+ComesBack A before after slave asked answer = IsModelledRequest asked → Fits (request_pdu asked) → answer ≢ Err NoMemory
     → (outcome : Outcome) × A.gives before slave asked outcome after × OutcomeComesBack asked outcome answer

@@ -1,22 +1,23 @@
-use Rattle.std.proofs.Common.{rules, ◌≡◌, ◌<◌, ◌≤◌, length, refl, sym, ap, ◌∙◌, subst, arith}
+use Rattle.std.proofs.Common.{rules, ◌≡◌, length, sym, ap, ◌∙◌, subst, arith}
 use Rattle.modbus_frame.specs.Meaning.{meaning}
 use Rattle.modbus_pdu.specs.RequestPdu.{request_pdu}
 use Rattle.modbus_rtu.specs.Frame.{frame}
 use Rattle.modbus_server.specs.Rtu.{rtu}
 use Rattle.modbus_server.specs.Piece.{ServedPiece}
 use Rattle.modbus_client.specs.Exchange.{ExchangesLocally}
-use Rattle.modbus_client.proofs.Exchanged.{frame_length, exchange_unserved}
+use Rattle.modbus_client.proofs.Exchanged.{exchange_unserved}
+use Rattle.modbus_client.proofs.FrameAlone.{length-frame}
 use Rattle.modbus_client.proofs.local.exchange.Goals as goal
 
 pub serve_piece-served-requires-clause-some : goal.serve_piece-served-requires-clause-some
 serve_piece-served-requires-clause-some g c =
     let is : c.to_write.result.now ≡ frame c.args.slave.0 (request_pdu (meaning c.args.request)) = c.to_write.ensures ∙ sym c.in-Ok.ensures.stands.wrote ∙ c.in-Ok.ensures.asks.request in
-    omega (arith, ap length is, frame_length c.args.slave.0 (request_pdu (meaning c.args.request)))
+    omega (arith, ap length is, length-frame c.args.slave.0 (request_pdu (meaning c.args.request)))
 
 pub serve_piece-served-requires-clause-fits : goal.serve_piece-served-requires-clause-fits
 serve_piece-served-requires-clause-fits g c =
     let is : c.to_write.result.now ≡ frame c.args.slave.0 (request_pdu (meaning c.args.request)) = c.to_write.ensures ∙ sym c.in-Ok.ensures.stands.wrote ∙ c.in-Ok.ensures.asks.request in
-    omega (arith, ap length is, frame_length c.args.slave.0 (request_pdu (meaning c.args.request)), c.in-Ok.ensures.fits)
+    omega (arith, ap length is, length-frame c.args.slave.0 (request_pdu (meaning c.args.request)), c.in-Ok.ensures.fits)
 
 pub returns-then-lacked_memory-clause-exchanges : goal.returns-then-lacked_memory-clause-exchanges
 returns-then-lacked_memory-clause-exchanges g c =
