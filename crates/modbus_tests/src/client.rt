@@ -1,5 +1,6 @@
 //! Calls over links in memory.
 
+mod exchange;
 mod rtu_calls;
 mod searches;
 mod tcp_calls;
