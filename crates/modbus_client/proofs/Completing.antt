@@ -23,14 +23,14 @@ use Rattle.modbus_client.specs.Calling.{Exchanged}
 abbrev pub IsFoundAlone : {H : Type 0} → Protocol H → Type 0
 IsFoundAlone {H} P = (header : H) (pdu bytes rest cuts : List ℕ) (found : Found) → P.IsWhole header pdu → P.adu header pdu ≡ bytes ++ rest → P.Finds bytes cuts found → IsOfMessage (P.seen header) pdu rest found
 
-ok_same : (a b : Result Response ExceptionResponse) (m : Result (Result Response ExceptionResponse) Reason) → m ≡ Ok a → m ≡ Ok b → a ≡ b
+pub ok_same : (a b : Result Response ExceptionResponse) (m : Result (Result Response ExceptionResponse) Reason) → m ≡ Ok a → m ≡ Ok b → a ≡ b
 ok_same a b m e f = cc
 
-ok_err : {P : Type 0} (a : Result Response ExceptionResponse) (r : Reason) (m : Result (Result Response ExceptionResponse) Reason) → m ≡ Ok a → m ≡ Err r → P
+pub ok_err : {P : Type 0} (a : Result Response ExceptionResponse) (r : Reason) (m : Result (Result Response ExceptionResponse) Reason) → m ≡ Ok a → m ≡ Err r → P
 ok_err a r m e f = cc
 
 -- of an answer that belongs to the request the call gives the result
-judged_result : (asked : HeaderSeen) (function : FunctionCode) (header : HeaderSeen) (result : Result Response ExceptionResponse) (answer : Answer) → header ≡ asked → IsOf function result
+pub judged_result : (asked : HeaderSeen) (function : FunctionCode) (header : HeaderSeen) (result : Result Response ExceptionResponse) (answer : Answer) → header ≡ asked → IsOf function result
     → Judges asked function header result answer → answer ≡ answer_of result
 judged_result asked function header result (Ok (Ok response)) e is (same, of, r) = ap answer_of (sym r)
 judged_result asked function header result (Ok (Err code)) e is (same, of, refusal, r, c) = ap (λ x. Ok (Err x)) (sym c) ∙ ap answer_of (sym r)

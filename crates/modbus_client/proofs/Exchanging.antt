@@ -1,5 +1,5 @@
 -- A call that is fed bytes in memory, in pieces that fill its room.
-use Rattle.std.proofs.Common.{◌≡◌, ◌≢◌, ℕ, zero, suc, ◌+◌, ◌*◌, ◌<◌, ◌≤◌, min, List, [], ◌∷◌, ◌++◌, length, take, drop, Some, None, Option, Ok, Err, refl, sym, ap, ◌∙◌, subst, arith, length-append}
+use Rattle.std.proofs.Common.{◌≡◌, ℕ, zero, suc, ◌+◌, ◌*◌, ◌<◌, min, List, [], ◌∷◌, ◌++◌, length, take, drop, Some, None, Option, Ok, Err, refl, sym, ap, ◌∙◌, subst, arith, length-append}
 use Rattle.std.proofs.Math.Seq.{take-add}
 use Rattle.std.proofs.lemmas.List.{length-take, length-drop, drop-drop}
 use Rattle.modbus_frame.specs.declared.code.FunctionCode.{FunctionCode}
@@ -8,7 +8,7 @@ use Rattle.modbus_frame.specs.declared.fault.HeaderSeen.{HeaderSeen}
 use Rattle.modbus_frame.specs.declared.fault.TransportError.{TransportError}
 use Rattle.modbus_frame.specs.declared.fault.TransportError.TheVariants as transport
 use Rattle.modbus_client.specs.declared.call.TheConstants.{ROOM}
-use Rattle.modbus_client.specs.Protocol.{Protocol, waiting}
+use Rattle.modbus_client.specs.Protocol.{Protocol}
 use Rattle.modbus_client.specs.Matching.{Answer}
 use Rattle.modbus_client.specs.Call.{CallState, CallStands, IsSameCall, IsOfBytesIfSome, FeedsAs, CallFed, TellsEnd}
 use Rattle.modbus_client.specs.Calling.{CallEndsAs}

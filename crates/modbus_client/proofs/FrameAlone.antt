@@ -22,7 +22,7 @@ FramesAreGood = (slave : ℕ) (pdu more : List ℕ) → HasResponseHead (slave, 
 abbrev pub FrontsAreOpen : Type 0
 FrontsAreOpen = (slave : ℕ) (pdu : List ℕ) (k : ℕ) → HasResponseHead (slave, pdu) → k < length pdu + 3 → response_verdict (take k (frame slave pdu)) ≡ Open
 
-length-frame : (slave : ℕ) (pdu : List ℕ) → length (frame slave pdu) ≡ length pdu + 3
+pub length-frame : (slave : ℕ) (pdu : List ℕ) → length (frame slave pdu) ≡ length pdu + 3
 unfolding frame
 length-frame slave pdu = omega (arith, length-append (slave ∷ pdu) (crc (slave ∷ pdu) % 256 ∷ crc (slave ∷ pdu) / 256 ∷ []))
 

@@ -11,5 +11,10 @@ pub mod Completing
 pub mod Exactly
 pub mod Exchanging
 pub mod Exchanged
-pub mod Boxing
-pub mod Connecting
+pub mod RequestHeads
+pub mod IdentifiedHeads
+pub mod ResponseHeads
+pub mod FrameLine
+pub mod AskedOnce
+pub mod ReadBack
+pub mod Back

@@ -8,6 +8,7 @@ pub mod Ending
 pub mod Search
 pub mod Rtu
 pub mod Exchange
+pub mod Back
 pub mod Tcp
 pub mod TcpClient
 pub mod Exactly

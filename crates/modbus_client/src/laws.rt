@@ -4,6 +4,7 @@ ghost use Rattle.modbus_link.specs.Outside.{Input, Output, Rose};
 ghost use Rattle.modbus_link.specs.Reads.{totals};
 ghost use Rattle.modbus_frame.specs.Meaning.{Asked, function_asked};
 ghost use Rattle.modbus_pdu.specs.Coding.{Fits};
+ghost use Rattle.modbus_pdu.specs.Laws.{ReadsBack};
 ghost use Rattle.modbus_pdu.specs.RequestPdu.{request_pdu};
 ghost use Rattle.modbus_client.specs.Protocol.{Found, waiting};
 ghost use Rattle.modbus_client.specs.Matching.{Answer};
@@ -11,8 +12,11 @@ ghost use Rattle.modbus_client.specs.Search as search;
 ghost use Rattle.modbus_client.specs.Call.{CallState, CallStands};
 ghost use Rattle.modbus_client.specs.Calling.{Exchanged};
 ghost use Rattle.modbus_client.specs.Exactly.{IsToldOf, TellsWaiting};
+ghost use Rattle.modbus_client.specs.Exchange.{ExchangesLocally};
+ghost use Rattle.modbus_client.specs.Back.{ComesBack};
 
 use crate::protocol::Protocol;
+use modbus_server::Answerer;
 
 /// In given bytes with given cuts the search of a client of a serial line stands in one way.
 pub fn one_search()
@@ -40,3 +44,20 @@ pub fn calls_go_on<P: Protocol>()
     ensures room { (written bytes cuts : List ℕ) (n : ℕ) (call : CallState) → CallStands P.protocol written bytes cuts call
         → CallStands P.protocol written bytes cuts (record call { free = n }) }
 {}
+
+/// What an exchange over memory promises of a request that reads back from its PDU says what comes back: the outcome that the service
+/// gave when it was asked once.
+pub fn outcomes_come_back<V: Answerer>()
+    ensures { (before after : V) (slave : ℕ) (asked : Asked) (answer : Answer) → ReadsBack asked
+        → ExchangesLocally V.answering before after slave asked answer → ComesBack V.answering before after slave asked answer }
+{
+    modbus_pdu::requests_have_sizes();
+    modbus_pdu::responses_have_sizes();
+    modbus_pdu::responses_read_back();
+    modbus_rtu::laws::frames_alone();
+    modbus_rtu::laws::verdicts_by_offset();
+    modbus_rtu::laws::one_reading();
+    modbus_rtu::laws::quiet_lines();
+    modbus_rtu::laws::responses_by_front();
+    modbus_rtu::laws::responses_in_pieces();
+}

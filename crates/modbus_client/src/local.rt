@@ -3,8 +3,10 @@ ghost use Rattle.std.specs.Prelude.{◌≡◌, ◌↔◌, ◌^◌, ◌-◌, [], 
 ghost use Rattle.modbus_frame.specs.Meaning.{meaning};
 ghost use Rattle.modbus_client.specs.Call.{CallStands};
 ghost use Rattle.modbus_client.specs.Exchange.{IsWanting, ReadsAll, ExchangesLocally};
+ghost use Rattle.modbus_client.specs.Back.{ComesBack};
 
 use crate::call::{Call, ROOM};
+use crate::laws::outcomes_come_back;
 use crate::protocol::Protocol;
 use crate::rtu::Frames;
 use bytes::BytesMut;
@@ -60,9 +62,12 @@ pub fn exchange<V: Answerer>(
     request: Request<'_>,
     service: &mut V,
 ) -> Result<Response>
-    ensures { ExchangesLocally V.answering service.old service.new slave.0 (meaning request.entry) result }
+    ensures exchanges { ExchangesLocally V.answering service.old service.new slave.0 (meaning request.entry) result }
+    ensures comes_back { ComesBack V.answering service.old service.new slave.0 (meaning request.entry) result }
 {
     modbus_rtu::laws::verdicts_by_offset();
+    modbus_pdu::request_reads_back(&request);
+    outcomes_come_back::<V>();
     let header = Header { slave_id: slave.0 };
     let space = BytesMut::new(alloc);
     let mut call = match Call::<Frames>::open(alloc, header, &request, u64::MAX, space) {

@@ -1,0 +1,51 @@
+-- The first bytes of a modelled response, and of an exception, tell its length.
+use Rattle.std.proofs.Common.{◌≡◌, ℕ, ◌∷◌, length, Some, Ok, refl, sym, ap, ◌∙◌, arith}
+use Rattle.modbus_frame.specs.Answered.{function_answered}
+use Rattle.modbus_frame.specs.Codes.{function_number}
+use Rattle.modbus_frame.specs.Meaning.{Asked, ReadCoils, ReadDiscreteInputs, WriteSingleCoil, WriteMultipleCoils, ReadInputRegisters, ReadHoldingRegisters, WriteSingleRegister, WriteMultipleRegisters, ReportServerId, MaskWriteRegister, ReadWriteMultipleRegisters, ReadDeviceIdentification, Custom}
+use Rattle.modbus_frame.specs.declared.code.ExceptionCode.{ExceptionCode}
+use Rattle.modbus_frame.specs.declared.response.Response.{Response}
+use Rattle.modbus_frame.specs.declared.response.Response.TheVariants as response
+use Rattle.modbus_pdu.specs.RequestOf.{IsModelled}
+use Rattle.modbus_pdu.specs.ResponseLaws.{IsResponse, response_size}
+use Rattle.modbus_pdu.specs.ResponsePdu.{response_pdu}
+use Rattle.modbus_rtu.specs.ResponseHead.{response_head, response_rule, HasResponseHead}
+use Rattle.modbus_service.specs.Outcome.{reply_pdu, exception, code_of}
+use Rattle.modbus_client.specs.Back.{IsModelledRequest}
+use Rattle.modbus_client.proofs.IdentifiedHeads.{identified_head}
+
+module _ (sizes : (r : Response) → length (response_pdu r) ≡ response_size r) (slave : ℕ) where
+  by_size : (given : Response) → response_head (slave ∷ response_pdu given) ≡ Ok (Some (response_size given)) → HasResponseHead (slave, response_pdu given)
+  by_size given is = is ∙ ap (λ n. Ok (Some n)) (sym (sizes given))
+
+  pub response_has_head : (given : Response) → IsResponse given → IsModelled (function_number (function_answered given)) → HasResponseHead (slave, response_pdu given)
+  unfolding response_head response_rule response_pdu
+  response_has_head (response.ReadCoils coils) is of = by_size (response.ReadCoils coils) refl
+  response_has_head (response.ReadDiscreteInputs coils) is of = by_size (response.ReadDiscreteInputs coils) refl
+  response_has_head (response.WriteSingleCoil address coil) is of = by_size (response.WriteSingleCoil address coil) refl
+  response_has_head (response.WriteMultipleCoils address quantity) is of = by_size (response.WriteMultipleCoils address quantity) refl
+  response_has_head (response.ReadInputRegisters words) is of = by_size (response.ReadInputRegisters words) refl
+  response_has_head (response.ReadHoldingRegisters words) is of = by_size (response.ReadHoldingRegisters words) refl
+  response_has_head (response.WriteSingleRegister address word) is of = by_size (response.WriteSingleRegister address word) refl
+  response_has_head (response.WriteMultipleRegisters address quantity) is of = by_size (response.WriteMultipleRegisters address quantity) refl
+  response_has_head (response.ReportServerId id run extra) is of = by_size (response.ReportServerId id run extra) (ap (λ n. Ok (Some n)) (omega arith))
+  response_has_head (response.MaskWriteRegister address and_mask or_mask) is of = by_size (response.MaskWriteRegister address and_mask or_mask) refl
+  response_has_head (response.ReadWriteMultipleRegisters words) is of = by_size (response.ReadWriteMultipleRegisters words) refl
+  response_has_head (response.ReadDeviceIdentification found) is of = identified_head slave found
+  response_has_head (response.Custom code bytes) is of = absurd (is of)
+
+pub exception_has_head : (slave : ℕ) (asked : Asked) (code : ExceptionCode) → IsModelledRequest asked → HasResponseHead (slave, reply_pdu (code_of asked) (exception code))
+unfolding response_head response_rule reply_pdu
+exception_has_head slave (ReadCoils address quantity) code is = refl
+exception_has_head slave (ReadDiscreteInputs address quantity) code is = refl
+exception_has_head slave (WriteSingleCoil address coil) code is = refl
+exception_has_head slave (WriteMultipleCoils address coils) code is = refl
+exception_has_head slave (ReadInputRegisters address quantity) code is = refl
+exception_has_head slave (ReadHoldingRegisters address quantity) code is = refl
+exception_has_head slave (WriteSingleRegister address word) code is = refl
+exception_has_head slave (WriteMultipleRegisters address words) code is = refl
+exception_has_head slave ReportServerId code is = refl
+exception_has_head slave (MaskWriteRegister address and_mask or_mask) code is = refl
+exception_has_head slave (ReadWriteMultipleRegisters read_address quantity write_address words) code is = refl
+exception_has_head slave (ReadDeviceIdentification code' id) code is = refl
+exception_has_head slave (Custom code' bytes) code is = absurd is
