@@ -11,6 +11,8 @@ pub mod Completing
 pub mod Exactly
 pub mod Exchanging
 pub mod Exchanged
+pub mod Boxing
+pub mod Connecting
 pub mod RequestHeads
 pub mod IdentifiedHeads
 pub mod ResponseHeads

@@ -1,3 +1,82 @@
 //! Calls over links in memory.
 
+mod connections;
 mod exchange;
+mod rtu_calls;
+mod searches;
+mod tcp_calls;
+mod typed_calls;
+
+use modbus_client::Client;
+use modbus_frame::{
+    Error, ExceptionResponse, HeaderSeen, ProtocolError, Request, Response, Result, Slave,
+    TransportError,
+};
+use modbus_link::{MemoryLink, MemorySink, MemorySource};
+use std::alloc::{AllocError, Global};
+
+/// A link that gives these bytes, cut at these totals, and takes a few hundred.
+fn link(
+    alloc: Global,
+    bytes: &[u8],
+    stops: &[usize],
+) -> std::result::Result<MemoryLink, AllocError> {
+    let source = MemorySource::new(alloc, bytes, stops, &[])?;
+    let sink = MemorySink::new(alloc, 600, 600, &[])?;
+    Ok(MemoryLink::new(source, sink, false))
+}
+
+/// An RTU client of a slave over such a link.
+fn rtu_client(
+    alloc: Global,
+    slave: u8,
+    bytes: &[u8],
+    stops: &[usize],
+) -> std::result::Result<modbus_client::rtu::Client<MemoryLink>, AllocError> {
+    Ok(modbus_client::rtu::attach_slave(alloc, link(alloc, bytes, stops)?, Slave(slave)))
+}
+
+/// Whether the answer is this fault.
+fn is_fault(answer: Result<Response>, fault: TransportError) -> bool {
+    match answer {
+        Err(Error::Transport(other)) => other == fault,
+        _ => false,
+    }
+}
+
+/// Whether the answer is holding registers with these words.
+fn are_words(answer: Result<Response>, words: &[u16]) -> bool {
+    match answer {
+        Ok(Ok(Response::ReadHoldingRegisters(read))) => read.as_slice() == words,
+        _ => false,
+    }
+}
+
+/// The two headers and the result of a mismatch.
+fn mismatch(
+    answer: Result<Response>,
+) -> Option<
+    (
+        HeaderSeen,
+        HeaderSeen,
+        std::result::Result<Response, ExceptionResponse>,
+    ),
+> {
+    match answer {
+        Err(
+            Error::Protocol(
+                ProtocolError::HeaderMismatch {
+                    request,
+                    response,
+                    result,
+                },
+            ),
+        ) => Some((request, response, result)),
+        _ => None,
+    }
+}
+
+/// Asks any client for a holding register.
+fn ask<C: Client>(client: &mut C) -> Result<Response> {
+    client.call(Request::ReadHoldingRegisters(0, 1))
+}
