@@ -51,7 +51,8 @@ fn lacked_memory(served: &std::result::Result<(), ProcessError>) -> bool
 ///
 /// It answers what the call of an RTU client answers whose link gives exactly the bytes that `modbus_server::rtu_over_tcp::process`
 /// appends for the frame of the request, in each read as many as its room holds, and then ends. The service stands where `process`
-/// leaves it: it is asked once for a request that its server takes, which is one of any kind but a custom function.
+/// leaves it: it is asked once for a request that its server takes. That is one of any kind but a custom function, whose length may not
+/// be known.
 ///
 /// What comes back then is a response of the request's function, or an exception. A PDU has whole bytes of coils, so coils come back
 /// filled by false to a multiple of eight (Modbus Application Protocol V1.1b3, section 6.1).
