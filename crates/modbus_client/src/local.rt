@@ -51,11 +51,16 @@ fn lacked_memory(served: &std::result::Result<(), ProcessError>) -> bool
 ///
 /// It answers what the call of an RTU client answers whose link gives exactly the bytes that `modbus_server::rtu_over_tcp::process`
 /// appends for the frame of the request, in each read as many as its room holds, and then ends. The service stands where `process`
-/// leaves it: it is asked once for a request that its server takes.
+/// leaves it: it is asked once for a request that its server takes. That is one of any kind but a custom function, whose length may not
+/// be known.
+///
+/// What comes back then is a response of the request's function, or an exception. A PDU has whole bytes of coils, so coils come back
+/// filled by false to a multiple of eight (Modbus Application Protocol V1.1b3, section 6.1).
 ///
 /// # Errors
 /// Those of a call but `NotConnected`, `ReadFault`, `WriteFault` and `TurnLimit`. `RequestTooLong` with the size of the PDU in bytes,
-/// exactly where that is above 253; the service is not asked then. `BrokenPipe` where nothing was answered, as to a broadcast.
+/// exactly where that is above 253; the service is not asked then. `BrokenPipe` where nothing was answered, as to a broadcast, or
+/// where the PDU of the response has more than 253 bytes. `FunctionCodeMismatch` for a response of another function.
 pub fn exchange<V: Answerer>(
     alloc: Global,
     slave: Slave,
