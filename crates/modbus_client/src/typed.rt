@@ -22,7 +22,7 @@ fn unequal(response: Response) -> Error
     Error::Protocol(ProtocolError::PayloadMismatch { response })
 }
 
-/// The first `count` coils of a response of this kind, whose last byte may be filled up with others.
+/// The first `count` coils of a response, whose last byte may be filled up with others. `kind` makes them the response again.
 ///
 /// # Errors
 /// `PayloadMismatch` exactly where there are fewer.
@@ -44,7 +44,7 @@ pub(crate) fn first_coils<F: FnOnce(Coils) -> Response>(
     Ok(Ok(first))
 }
 
-/// The registers of a response of this kind, where there are exactly `count`.
+/// The registers of a response, where there are exactly `count`. `kind` makes them the response again.
 ///
 /// # Errors
 /// `PayloadMismatch` exactly where there are more or fewer.
