@@ -1,11 +1,9 @@
 //! Calls over links in memory.
 
 mod connections;
-mod exchange;
 mod rtu_calls;
 mod searches;
 mod tcp_calls;
-mod typed_calls;
 
 use modbus_client::Client;
 use modbus_frame::{

@@ -1,14 +1,35 @@
 //! Typed calls of a caller's client behind a box, and of clients over a link. Requests and responses are given by their PDUs.
 
-use super::{link, rtu_client};
 use bytes::Bytes;
 use modbus_client::Context;
 use modbus_client::prelude::*;
 use modbus_frame::{Coil, Coils, Error, Result, ShutdownFault, TransportError, Words};
+use modbus_link::{MemoryLink, MemorySink, MemorySource};
 use modbus_pdu::{decode_request, decode_response};
-use std::alloc::Global;
+use std::alloc::{AllocError, Global};
 use std::test::Fail;
 use std::time::Duration;
+
+/// A link that gives these bytes, cut at these totals, and takes a few hundred.
+fn link(
+    alloc: Global,
+    bytes: &[u8],
+    stops: &[usize],
+) -> std::result::Result<MemoryLink, AllocError> {
+    let source = MemorySource::new(alloc, bytes, stops, &[])?;
+    let sink = MemorySink::new(alloc, 600, 600, &[])?;
+    Ok(MemoryLink::new(source, sink, false))
+}
+
+/// An RTU client of a slave over such a link.
+fn rtu_client(
+    alloc: Global,
+    slave: u8,
+    bytes: &[u8],
+    stops: &[usize],
+) -> std::result::Result<rtu::Client<MemoryLink>, AllocError> {
+    Ok(rtu::attach_slave(alloc, link(alloc, bytes, stops)?, Slave(slave)))
+}
 
 /// A client that answers once, whatever it is asked, and keeps what it is told.
 #[derive(Drop)]
