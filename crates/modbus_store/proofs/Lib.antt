@@ -5,3 +5,4 @@ pub mod Keeps
 pub mod Passing
 pub mod Turning
 pub mod Writing
+pub mod Orderly

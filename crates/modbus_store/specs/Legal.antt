@@ -39,3 +39,12 @@ calls_by n cs = filter (λ (c : Call). c.number == n) cs
 -- the history begins with these calls
 abbrev pub StartsWith : List Call → List Call → Type 0
 StartsWith cs front = (rest : List Call) × (cs ≡ front ++ rest)
+
+-- a call without its outcome
+pub record Asking : Type 0 where
+  pub number : ℕ
+  pub slave : ℕ
+  pub asked : Asked
+
+abbrev pub asking_of : Call → Asking
+asking_of c = record { number = c.number; slave = c.slave; asked = c.asked }

@@ -10,3 +10,4 @@ pub mod Plays
 pub mod Turns
 pub mod Passes
 pub mod Standing
+pub mod Orderly

@@ -95,7 +95,8 @@ impl StoreTable {
         request: SlaveRequest<'_>,
     ) -> Result<Option<Response>, ServiceError>
         requires { IsPassOf self.now pass.old }
-        ensures { Keeps caller pass.old request.entry.slave (meaning request.entry.request) result pass.new }
+        ensures answer { Keeps caller pass.old request.entry.slave (meaning request.entry.request) result pass.new }
+        ensures same_store { IsPassOf self.now pass.new }
     {
         let (outcome, length) = turn(
             &self.table.shared,
