@@ -9,9 +9,13 @@ use std::marker::Model;
 /// One call: the number of the pass that made it, the slave, the request and the outcome.
 #[derive(Drop)]
 pub struct Entry {
+    /// The number of the pass.
     pub seat: u32,
+    /// The slave, or the unit identifier of a TCP request.
     pub slave: SlaveId,
+    /// What was asked, with lists of its own.
     pub request: Request<'static>,
+    /// What was answered.
     pub outcome: Outcome,
 }
 

@@ -102,8 +102,8 @@ pub(crate) fn leave(desk: &Desk, seat: &mut Spot, number: u32, stored: Stored)
 {
     let _ = number;
     drop(desk.exchange(seat, 0, Some(stored)));
-    desk.fetch_add::<Advance>(seat, SERVING, 1);
-    wake(desk, seat);
+    let served = desk.fetch_add::<Advance>(seat, SERVING, 1);
+    wake(desk, seat, served);
 }
 
 fn count_as<E: Adds>(

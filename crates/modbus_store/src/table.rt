@@ -48,7 +48,9 @@ pub struct PassesOut;
 /// What is left of a shared store that was closed: the store, and the record of its calls where one was kept.
 #[derive(Drop)]
 pub struct ClosedStore {
+    /// The store with its tables as the history leaves them.
     pub store: RegisterStore,
+    /// All calls in their order; none where no record was kept.
     pub history: Option<History>,
 }
 

@@ -84,15 +84,16 @@ impl Looks {
     }
 }
 
-/// Whether nobody has a ticket that is not served.
-fn is_open(desk: &Desk) -> bool
+/// Whether a pass may draw a ticket: nobody has one that is not served, or one has and the pass has slept. So who was woken comes next.
+fn is_open(desk: &Desk, has_slept: bool) -> bool
     requires { IsDesk desk.now.table_id }
 {
+    let most = if has_slept { 2 } else { 1 };
     let serving = desk.peek(SERVING);
-    desk.peek(TICKET) == serving
+    desk.peek(TICKET).wrapping_sub(serving) < most
 }
 
-/// Waits until nobody has a ticket. Who slept here marks the gate again, so that each wake leads to the next.
+/// Waits until few have a ticket. Who slept here marks the gate again, so that each wake leads to the next.
 pub(crate) fn pass_gate<R: Wait>(desk: &Desk, rt: &R, seat: &mut Spot)
     requires { (seat.old.table_id ≡ desk.now.table_id) × IsDesk desk.now.table_id }
     ensures { (seat.new.table_id ≡ seat.old.table_id) × (seat.new.me ≡ seat.old.me) }
@@ -100,12 +101,12 @@ pub(crate) fn pass_gate<R: Wait>(desk: &Desk, rt: &R, seat: &mut Spot)
     let mut has_slept = false;
     let mut looks = Looks::new();
     for _ in rt.forever() {
-        if is_open(desk) {
+        if is_open(desk, has_slept) {
             break;
         }
         if looks.is_last() {
             let marked = mark(desk, seat, GATE);
-            if is_open(desk) {
+            if is_open(desk, has_slept) {
                 break;
             }
             sleep(desk, rt, GATE, marked);
@@ -120,8 +121,11 @@ pub(crate) fn pass_gate<R: Wait>(desk: &Desk, rt: &R, seat: &mut Spot)
     }
 }
 
-/// Wakes who may sleep for its turn, and one at the gate. To be called once the next turn has begun.
-pub(crate) fn wake(desk: &Desk, seat: &mut Spot)
+/// At each of so many turns one who sleeps at the gate is woken, marked or not, so that none is left behind.
+const FAIR: u64 = 256;
+
+/// Wakes who may sleep for its turn, and one at the gate. To be called once the turn after that of the ticket has begun.
+pub(crate) fn wake(desk: &Desk, seat: &mut Spot, served: u64)
     requires { (seat.old.table_id ≡ desk.now.table_id) × IsDesk desk.now.table_id }
     ensures { (seat.new.table_id ≡ seat.old.table_id) × (seat.new.me ≡ seat.old.me) }
 {
@@ -130,7 +134,7 @@ pub(crate) fn wake(desk: &Desk, seat: &mut Spot)
         desk.wake_all(turn.word);
     }
     let gate = GATE;
-    if unmark(desk, seat, gate) {
+    if unmark(desk, seat, gate) || served % FAIR == 0 {
         desk.wake_one(gate.word);
     }
 }

@@ -2,6 +2,8 @@
 
 use super::{of_slave, sizes};
 use modbus_frame::{ExceptionCode, Request, Response, Words};
+use modbus_link::{MemorySink, MemorySource};
+use modbus_server::tcp;
 use modbus_service::{Service, ServiceError};
 use modbus_store::{ClosedStore, History, Outcome, RegisterStore, SharedStore, StoreTable};
 use std::alloc::{AllocError, Global};
@@ -74,7 +76,8 @@ fn a_pass_reads_what_another_wrote_once_it_has_joined_it(rt: HostRuntime) -> Res
         Ok(Some(words(alloc, 3)?))
     );
     assert_eq!(rt; first.seen(), 2);
-    let Some(history) = table.close(&rt, first).history else {
+    let ClosedStore { store: _, history } = table.close(&rt, first);
+    let Some(history) = history else {
         panic!(rt; "a record was kept")
     };
     assert_eq!(rt; history.len(), 2);
@@ -160,12 +163,16 @@ struct Job<'t, R> {
 }
 
 /// Makes all calls of a pass. Whether each was answered so.
-fn work<R: Wait>(alloc: Global, mut job: Job<'_, R>) -> bool {
+fn work<R: Wait>(alloc: Global, job: Job<'_, R>) -> bool {
+    let Job {
+        mut service,
+        register,
+    } = job;
     for n in 0..2 * ROUNDS {
-        let Ok(wanted) = answered(alloc, job.register, n) else {
+        let Ok(wanted) = answered(alloc, register, n) else {
             return false;
         };
-        match job.service.call(alloc, of_slave(1, asked(job.register, n))) {
+        match service.call(alloc, of_slave(1, asked(register, n))) {
             Ok(Some(response)) if response == wanted => {}
             _ => return false,
         }
@@ -202,7 +209,7 @@ fn history_of_four<R: Threads + Wait + Sync>(rt: &R, alloc: Global) -> Option<Hi
     let mut jobs = Vec::new(alloc);
     for _ in 0..4 {
         let own = table.split(rt, &mut pass).ok()?;
-        let register = own.number() as u16;
+        let register = u16::try_from(own.number()).ok()?;
         let service = SharedStore::new(rt, &table, own);
         jobs.push(Job { service, register }).ok()?;
     }
@@ -210,7 +217,8 @@ fn history_of_four<R: Threads + Wait + Sync>(rt: &R, alloc: Global) -> Option<Hi
     if done.iter().any(|all| !*all) {
         return None;
     }
-    table.close(rt, pass).history
+    let ClosedStore { store: _, history } = table.close(rt, pass);
+    history
 }
 
 #[test]
@@ -220,6 +228,35 @@ fn four_passes_call_on_threads_of_their_own(rt: HostRuntime) -> Result<(), Fail>
     };
     assert_eq!(rt; history.len(), 400);
     assert_eq!(rt; has_all_calls_in_order(rt.alloc(), &history), Ok(true));
+    Ok(())
+}
+
+/// Two requests of unit 1 over TCP: to write 3 to register 1, and to read it.
+const ADUS: [u8; 24] = [
+    0x00, 0x01, 0x00, 0x00, 0x00, 0x06, 0x01, 0x06, 0x00, 0x01, 0x00, 0x03, 0x00, 0x02, 0x00, 0x00,
+    0x00, 0x06, 0x01, 0x03, 0x00, 0x01, 0x00, 0x01,
+];
+
+/// Their replies.
+const REPLIES: [u8; 23] = [
+    0x00, 0x01, 0x00, 0x00, 0x00, 0x06, 0x01, 0x06, 0x00, 0x01, 0x00, 0x03, 0x00, 0x02, 0x00, 0x00,
+    0x00, 0x05, 0x01, 0x03, 0x02, 0x00, 0x03,
+];
+
+#[test]
+fn a_connection_is_served_from_a_shared_store(rt: HostRuntime) -> Result<(), Fail> {
+    let alloc = rt.alloc();
+    let store = RegisterStore::new(alloc, sizes(4), false)?;
+    let (table, pass) = StoreTable::open_unrecorded(alloc, store)?;
+    let mut service = SharedStore::new(&rt, &table, pass);
+    let mut source = MemorySource::new(alloc, &ADUS, &[5], &[])?;
+    let mut sink = MemorySink::new(alloc, 64, 64, &[])?;
+    assert_eq!(rt;
+        tcp::process(alloc, &mut source, &mut sink, &mut service, u64::MAX),
+        Ok(())
+    );
+    assert_eq!(rt; sink.bytes(), REPLIES.as_slice());
+    assert_eq!(rt; service.seen(), 2);
     Ok(())
 }
 

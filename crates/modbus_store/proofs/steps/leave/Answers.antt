@@ -6,8 +6,8 @@ use Rattle.modbus_store.specs.Plays.{known_of}
 use Rattle.modbus_store.proofs.Keeps.{advances_as}
 use Rattle.modbus_store.proofs.steps.leave.Goals as goal
 
-pub fetch_add-requires : goal.fetch_add-requires
-fetch_add-requires c =
+pub fetch_add-served-requires : goal.fetch_add-served-requires
+fetch_add-served-requires c =
     let h = c.requires.turn in
     let e = c.exchange.ensures in
     let after = e.3 in
