@@ -1,5 +1,7 @@
 //! Worked requests, and each call that may want memory once.
 
+mod shared;
+
 use modbus_frame::{Coils, ExceptionCode, Request, Response, SlaveRequest, Words};
 use modbus_service::{Service, ServiceError};
 use modbus_store::{OutOfRange, RegisterStore, Sizes, StoreError};

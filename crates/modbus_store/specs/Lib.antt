@@ -1,3 +1,13 @@
 pub mod Tables
-pub mod Step
 pub mod Opening
+pub mod Step
+pub mod Planning
+pub mod Legal
+pub mod Outcomes
+pub mod Views
+pub mod Lock
+pub mod Plays
+pub mod Turns
+pub mod Passes
+pub mod Standing
+pub mod Orderly

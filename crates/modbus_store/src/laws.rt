@@ -1,10 +1,16 @@
 //! Laws on the definitions alone.
-ghost use Rattle.std.specs.Prelude.{ℕ, ◌≤◌, length};
+ghost use Rattle.std.specs.Prelude.{◌≡◌, ℕ, ◌≤◌, List, length, map, Option};
+ghost use Rattle.atomic_table.specs.Table.{State};
 ghost use Rattle.modbus_frame.specs.Meaning.{Asked};
 ghost use Rattle.modbus_pdu.specs.declared.limits.TheConstants.{MAX_PDU};
 ghost use Rattle.modbus_service.specs.Outcome.{reply_pdu};
 ghost use Rattle.modbus_store.specs.Tables.{Tables};
 ghost use Rattle.modbus_store.specs.Step.{store_step};
+ghost use Rattle.modbus_store.specs.declared.lock.Stored.{Stored};
+ghost use Rattle.modbus_store.specs.Legal.{Call, Asking, asking_of, IsLegal};
+ghost use Rattle.modbus_store.specs.Views.{Opening, View};
+ghost use Rattle.modbus_store.specs.Lock.{Kept};
+ghost use Rattle.modbus_store.specs.Orderly.{IsOrderly};
 
 use modbus_pdu::responses_have_sizes;
 
@@ -14,3 +20,14 @@ pub fn answers_fit()
 {
     responses_have_sizes();
 }
+
+/// Calls, each of a pass and a slave, have exactly one legal history from given tables: there is one, and there are no two.
+pub fn calls_have_one_history()
+    ensures is_there { (tables : Tables) (asked : List Asking) → (history : List Call) × IsLegal tables history × (map asking_of history ≡ asked) }
+    ensures is_one { (tables : Tables) (one other : List Call) → IsLegal tables one → IsLegal tables other → map asking_of one ≡ map asking_of other → one ≡ other }
+{}
+
+/// What the rule of the lock of a shared store comes to, between any two of its steps.
+pub fn the_lock_is_orderly()
+    ensures { (opening : Opening) (state : State (Option Stored) View) → Kept opening state → IsOrderly opening state }
+{}

@@ -1,11 +1,27 @@
-//! A device that holds coils, discrete inputs, holding registers and input registers.
+//! A device that holds coils, discrete inputs, holding registers and input registers, for one caller or for many.
 //!
 //! `RegisterStore` is a `Service`: it answers each request as the Modbus Application Protocol V1.1b3 says (sections 6 and 7).
+//! `StoreTable` shares one store among many callers, and `SharedStore` is the `Service` of one of them.
 #![tactic(auto)]
 
 mod apply;
 mod bounds;
+mod history;
 pub mod laws;
+mod lock;
+mod outcome;
+mod pass;
+mod plan;
+mod shared;
+mod steps;
 mod store;
+mod table;
+mod turn;
+mod waiting;
 
+pub use crate::history::{Entry, History};
+pub use crate::outcome::Outcome;
+pub use crate::pass::StorePass;
+pub use crate::shared::SharedStore;
 pub use crate::store::{OutOfRange, RegisterStore, Sizes, StoreError};
+pub use crate::table::{ClosedStore, PassesOut, StoreTable};

@@ -43,11 +43,11 @@ pub struct OutOfRange;
 /// Coils, discrete inputs, holding registers and input registers.
 #[derive(Drop)]
 pub struct RegisterStore {
-    coils: Vec<Coil>,
-    discrete_inputs: Vec<Coil>,
-    holding_registers: Vec<Word>,
-    input_registers: Vec<Word>,
-    broadcast: bool,
+    pub(crate) coils: Vec<Coil>,
+    pub(crate) discrete_inputs: Vec<Coil>,
+    pub(crate) holding_registers: Vec<Word>,
+    pub(crate) input_registers: Vec<Word>,
+    pub(crate) broadcast: bool,
 }
 
 /// A contract sees the tables.
