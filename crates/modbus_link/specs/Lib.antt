@@ -7,6 +7,8 @@ pub mod Together
 pub mod Cuts
 pub mod Memory
 pub mod Line
+pub mod Polled
 pub mod Stops
 pub mod Connects
+pub mod Listens
 pub mod Tcp

@@ -1,5 +1,5 @@
 -- The cuts and rooms of one run of reads after another.
-use Rattle.std.proofs.Common.{◌≡◌, ℕ, ◌+◌, ◌≤◌, List, [], ◌∷◌, ◌++◌, map, length, refl, sym, ap, ◌∙◌, subst, arith, length-append}
+use Rattle.std.proofs.Common.{◌≡◌, ℕ, ◌+◌, ◌≤◌, List, [], ◌∷◌, ◌++◌, map, length, refl, sym, ap, ◌∙◌, subst, arith, append_assoc, append-nil, length-append}
 use Rattle.std.proofs.lemmas.List.{map-append, take-append-le}
 use Rattle.modbus_link.specs.Outside.{RisesTo, shifted}
 use Rattle.modbus_link.specs.Runs.{RisesTo-count}
@@ -38,3 +38,31 @@ pub rooms_then : (HasRoom : List ℕ → ℕ → Type 0) (bytes : List ℕ) (tot
     → HaveRooms HasRoom bytes total xs → HaveRooms HasRoom bytes end ys → HaveRooms HasRoom bytes total (xs ++ ys)
 rooms_then HasRoom bytes total end [] ys p q r = subst (λ t. HaveRooms HasRoom bytes t ys) (sym p) r
 rooms_then HasRoom bytes total end (x ∷ xs) ys p q r = (q.0, rooms_then HasRoom bytes x.0 end xs ys p.1 q.1 r)
+
+shifted_twice : (n m : ℕ) (cuts : List (ℕ × ℕ)) → shifted n (shifted m cuts) ≡ shifted (n + m) cuts
+shifted_twice n m [] = refl
+shifted_twice n m (cut ∷ cuts) =
+    let same : n + (m + cut.0) ≡ (n + m) + cut.0 = omega arith in
+    let head : ℕ → ℕ × ℕ = λ total. (total, cut.1) in
+    ap (λ total. head total ∷ shifted n (shifted m cuts)) same ∙ ap (λ rest. head ((n + m) + cut.0) ∷ rest) (shifted_twice n m cuts)
+
+-- the cuts of one run after another, counted from an earlier total
+pub shifted_both : (n m : ℕ) (xs ys : List (ℕ × ℕ)) → shifted n (xs ++ shifted m ys) ≡ shifted n xs ++ shifted (n + m) ys
+shifted_both n m [] ys = shifted_twice n m ys
+shifted_both n m (x ∷ xs) ys = let head : ℕ × ℕ = (n + x.0, x.1) in ap (λ rest. head ∷ rest) (shifted_both n m xs ys)
+
+-- two runs after what was read before are one
+pub regroup : (P : List ℕ → List (ℕ × ℕ) → Type 0) (bytes fed fed' : List ℕ) (earlier made made' : List (ℕ × ℕ))
+    → P ((bytes ++ fed) ++ fed') ((earlier ++ shifted (length bytes) made) ++ shifted (length (bytes ++ fed)) made')
+    → P (bytes ++ (fed ++ fed')) (earlier ++ shifted (length bytes) (made ++ shifted (length fed) made'))
+regroup P bytes fed fed' earlier made made' p =
+    subst (λ b. P b (earlier ++ shifted (length bytes) (made ++ shifted (length fed) made'))) (append_assoc bytes fed fed') (subst (P ((bytes ++ fed) ++ fed')) cuts p)
+  where
+    cuts : (earlier ++ shifted (length bytes) made) ++ shifted (length (bytes ++ fed)) made' ≡ earlier ++ shifted (length bytes) (made ++ shifted (length fed) made')
+    cuts = append_assoc earlier (shifted (length bytes) made) (shifted (length (bytes ++ fed)) made')
+        ∙ ap (λ (n : ℕ). earlier ++ (shifted (length bytes) made ++ shifted n made')) (length-append bytes fed)
+        ∙ ap (λ (rest : List (ℕ × ℕ)). earlier ++ rest) (sym (shifted_both (length bytes) (length fed) made made'))
+
+-- a run that read nothing
+pub unread_on : (P : List ℕ → List (ℕ × ℕ) → Type 0) (bytes : List ℕ) (earlier : List (ℕ × ℕ)) → P bytes earlier → P (bytes ++ []) (earlier ++ [])
+unread_on P bytes earlier p = subst (λ b. P b (earlier ++ [])) (sym (append-nil bytes)) (subst (P bytes) (sym (append-nil earlier)) p)

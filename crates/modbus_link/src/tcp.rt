@@ -1,4 +1,4 @@
-//! Links over TCP, and what makes them: the trusted edge, which tells no content, only what it counts and was told.
+//! Links over TCP, what makes them and what accepts them: the trusted edge, which tells no content, only what it counts and was told.
 //!
 //! A call that a signal interrupts is tried again and is no fault, as with the other adapters over std.
 ghost use Rattle.std.specs.Prelude.{◌≡◌, ◌<◌, ◌≤◌, length, IfOk, OnErr};
@@ -7,14 +7,16 @@ ghost use Rattle.modbus_link.specs.Outside.{Rose, Advances, Extends, untold_inpu
 ghost use Rattle.modbus_link.specs.Memory.{faults_after};
 ghost use Rattle.modbus_link.specs.Line.{shut};
 ghost use Rattle.modbus_link.specs.Tcp.{tcp_at_start};
+ghost use Rattle.modbus_link.specs.Listens.{tally_at_start, tally_after};
 
+use crate::acceptor::Acceptor;
 use crate::connector::Connector;
 use crate::link::Link;
 use crate::outside::{Ends, Failed, Sink, Source};
 use crate::real::{read_once, write_once};
-use std::io::{ErrorKind, Result as IoResult};
+use std::io::{Error, ErrorKind, Result as IoResult};
 use std::marker::Model;
-use std::net::{Net, Shutdown, SocketAddr, TcpStream};
+use std::net::{Net, Shutdown, SocketAddr, TcpListener, TcpStream};
 use std::time::Duration;
 
 /// A link over a TCP stream.
@@ -221,6 +223,75 @@ impl<'r, R: Net<Stream = TcpStream>> Connector for TcpConnector<'r, R> {
         };
         match connected {
             Ok(stream) => Ok(TcpLink::new(stream)),
+            Err(_) => {
+                self.faults = self.faults.saturating_add(1);
+                Err(Failed)
+            }
+        }
+    }
+}
+
+/// What accepts TCP connections, and gives links over them.
+#[derive(Drop)]
+pub struct TcpAcceptor {
+    listener: TcpListener,
+    given: u64,
+    faults: u64,
+}
+
+/// What a contract knows of it is how many links it gave, and how often it failed.
+impl Model for TcpAcceptor {
+    ghost use Rattle.modbus_link.specs.Listens.{Tally};
+
+    ghost Value = { Tally };
+
+    ghost view = { λ acceptor. record { given = acceptor.given; faults = acceptor.faults } };
+}
+
+impl TcpAcceptor {
+    /// An acceptor over `listener` that has given nothing. std's `bind` sets SO_REUSEADDR.
+    pub fn new(listener: TcpListener) -> Self
+        ensures { result ≡ tally_at_start }
+    {
+        TcpAcceptor {
+            listener,
+            given: 0,
+            faults: 0,
+        }
+    }
+}
+
+// One accept, tried again where the peer gave its connection up before it was accepted.
+fn accept_once(listener: &TcpListener) -> IoResult<(TcpStream, SocketAddr)> {
+    for _ in 0..u64::MAX {
+        match listener.accept() {
+            Err(error) if error.kind() == ErrorKind::ConnectionAborted => {}
+            result => return result,
+        }
+    }
+    Err(Error::from(ErrorKind::ConnectionAborted))
+}
+
+impl Acceptor for TcpAcceptor {
+    type Link = TcpLink;
+
+    ghost faults = { λ acceptor. acceptor.faults };
+
+    ghost given = { λ acceptor. acceptor.given };
+
+    ghost accepts = { λ old result new. IfOk result (λ accepted. accepted.0 ≡ tcp_at_start) × (new ≡ tally_after result old) };
+
+    /// Waits for the next peer. The link that it gives has no timeout. A peer that gives its connection up before it is accepted is
+    /// no fault.
+    ///
+    /// # Errors
+    /// `Failed` where the listener failed, as it does where no file descriptor is left.
+    fn accept(&mut self) -> Result<(TcpLink, SocketAddr), Failed> {
+        match accept_once(&self.listener) {
+            Ok((stream, address)) => {
+                self.given = self.given.saturating_add(1);
+                Ok((TcpLink::new(stream), address))
+            }
             Err(_) => {
                 self.faults = self.faults.saturating_add(1);
                 Err(Failed)

@@ -1,11 +1,13 @@
-//! Tests of the public calls of modbus_link: sources, sinks and links in memory, the adapters, real connections on the loopback
-//! interface, and signals to stop.
+//! Tests of the public calls of modbus_link: sources, sinks and links in memory, the adapters, links that may not be ready, real
+//! connections on the loopback interface, and signals to stop.
 #![tactic(auto)]
 
 #[cfg(test)]
 mod adapters;
 #[cfg(test)]
 mod memory;
+#[cfg(test)]
+mod polled;
 #[cfg(test)]
 mod stops;
 #[cfg(test)]

@@ -1,6 +1,7 @@
-//! Links over TCP and what makes them, over loopback and on one thread: a peer is accepted once it has connected.
+//! Links over TCP, what makes them and what accepts them, over loopback and on one thread: a peer is accepted once it has connected.
 use modbus_link::{
-    Connector, Failed, FlagStop, Link, MemoryLink, Sink, Source, TcpConnector, TcpLink,
+    Acceptor, Connector, Failed, FlagStop, Link, MemoryLink, Sink, Source, TcpAcceptor,
+    TcpConnector, TcpLink,
 };
 use std::io::{Read, Result as IoResult, Write};
 use std::net::{Net, TcpListener, TcpStream};
@@ -124,6 +125,26 @@ fn a_connector_opens_connections_until_nobody_listens(rt: HostRuntime) -> Result
     for timeout in [None, Some(Duration::from_secs(2)), Some(Duration::ZERO)] {
         assert!(rt; connector.connect(address, timeout).is_err());
     }
+    Ok(())
+}
+
+#[test]
+fn an_acceptor_gives_the_links_of_peers_in_order(rt: HostRuntime) -> Result<(), Fail> {
+    let listener = TcpListener::bind(&rt, "127.0.0.1:0")?;
+    listener.set_nonblocking(true)?;
+    let address = listener.local_addr()?;
+    let mut acceptor = TcpAcceptor::new(listener);
+    for text in [b"one", b"two"] {
+        let mut peer = TcpStream::connect(&rt, address)?;
+        peer.write_all(text)?;
+        let (mut link, from) = (&mut acceptor).accept()?;
+        assert!(rt; from == peer.local_addr()?);
+        let mut room = [0u8; 3];
+        assert_eq!(rt; link.read(&mut room), Ok(3));
+        assert_eq!(rt; room, *text);
+    }
+    // Nobody else has connected, and this listener does not wait.
+    assert!(rt; acceptor.accept().is_err());
     Ok(())
 }
 

@@ -1,0 +1,69 @@
+-- What a link that may not be ready means, and what one in memory keeps.
+use Rattle.std.specs.Prelude.{◌≡◌, ◌↔◌, ℕ, List, Option, Some, None, Result, Ok, Err, Bool, true, false, IsTrue, if◌then◌else◌}
+use Rattle.modbus_link.specs.declared.polled.Polled.{Polled}
+use Rattle.modbus_link.specs.declared.polled.Polled.TheVariants.{Ready, Pending}
+use Rattle.modbus_link.specs.Outside.{Rose}
+use Rattle.modbus_link.specs.Memory.{counted, FailsNow, MemoryReads, MemoryWrites}
+use Rattle.modbus_link.specs.Line.{LinkState}
+
+abbrev pub is_pending : {T : Type 0} → Polled T → Bool
+is_pending Pending = true
+is_pending (Ready value) = false
+
+-- a poll as a read or a write: one that found the link not ready gave or took nothing, as one that failed
+abbrev pub at_once : {E : Type 0} → Result (Polled ℕ) E → Result ℕ (Option E)
+at_once (Ok (Ready count)) = Ok count
+at_once (Ok Pending) = Err None
+at_once (Err error) = Err (Some error)
+
+-- a link is not ready only where its count of that rose
+abbrev pub Waited : {T E : Type 0} → Result (Polled T) E → ℕ → ℕ → Type 0
+Waited (Ok (Ready value)) before now = Unit {0}
+Waited (Ok Pending) before now = Rose before now
+Waited (Err error) before now = Unit {0}
+
+-- a polled link in memory
+pub record PolledState : Type 0 where
+  pub link : LinkState
+  -- the numbers of the polls that find it not ready, from 0
+  pub pending : List ℕ
+  -- how many polls were made, and how many of them found it not ready; both stay at the last number of a counter
+  pub polls : ℕ
+  pub not_ready : ℕ
+
+-- a polled link that nothing was done to
+abbrev pub polled_at_start : LinkState → List ℕ → PolledState
+polled_at_start link pending = record { link = link; pending = pending; polls = 0; not_ready = 0 }
+
+-- the count of polls that found it not ready, after a poll with this result
+abbrev pub waits_after : {E : Type 0} → Result (Polled ℕ) E → ℕ → ℕ
+waits_after (Ok (Ready count)) not_ready = not_ready
+waits_after (Ok Pending) not_ready = counted not_ready
+waits_after (Err error) not_ready = not_ready
+
+-- a poll is counted, and finds the link not ready exactly where it is named
+pub record IsPolled (old new : PolledState) (is_named : Bool) : Type 0 where
+  pub named : IsTrue is_named ↔ FailsNow old.pending old.polls
+  pub counts : new ≡ record old { polls = counted old.polls; not_ready = if is_named then counted old.not_ready else old.not_ready }
+
+-- what a poll did with the link, where it was ready
+abbrev pub DoesUnlessPending : {E : Type 0} → (Result ℕ (Option E) → LinkState → LinkState → Type 0) → Result (Polled ℕ) E → LinkState → LinkState → Type 0
+DoesUnlessPending Does (Ok (Ready count)) old new = Does (Ok count) old new
+DoesUnlessPending Does (Ok Pending) old new = new ≡ old
+DoesUnlessPending Does (Err error) old new = Does (Err (Some error)) old new
+
+-- One poll of a polled link in memory: it is not ready exactly where the poll is named, and then the link is as it was; else it does
+-- what the link does.
+pub record MemoryPolls {E : Type 0} (Does : Result ℕ (Option E) → LinkState → LinkState → Type 0) (old new : PolledState) (result : Result (Polled ℕ) E) : Type 0 where
+  pub waits : (result ≡ Ok Pending) ↔ FailsNow old.pending old.polls
+  pub does : DoesUnlessPending Does result old.link new.link
+  pub pending : new.pending ≡ old.pending
+  pub polls : new.polls ≡ counted old.polls
+  pub not_ready : new.not_ready ≡ waits_after result old.not_ready
+
+-- a read into a room of this length, and a write of so many bytes
+abbrev pub LinkReads : {E : Type 0} → ℕ → Result ℕ E → LinkState → LinkState → Type 0
+LinkReads room result old new = MemoryReads old.source new.source room result × (new ≡ record old { source = new.source })
+
+abbrev pub LinkWrites : {E : Type 0} → ℕ → Result ℕ E → LinkState → LinkState → Type 0
+LinkWrites size result old new = MemoryWrites old.sink new.sink size result × (new ≡ record old { sink = new.sink })
