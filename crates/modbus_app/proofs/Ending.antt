@@ -1,27 +1,31 @@
 -- How serving a device becomes an ending of the program.
-use Rattle.std.proofs.Common.{◌≡◌, ◌^◌, ◌-◌, inl, inr, ap, subst, refl, ◌∙◌, sym, ℕ, IsTrue, Option, Some, None, Result, Ok, Err, []}
-use Rattle.modbus_link.specs.Outside.{Input, Output, bytes_appended, cuts_made}
+use Rattle.std.proofs.Common.{◌≡◌, ◌⊎◌, ◌^◌, ◌-◌, arith, inl, inr, ap, subst, refl, ◌∙◌, sym, ℕ, IsTrue, Option, Some, None, Result, Ok, Err, []}
+use Rattle.modbus_link.specs.Outside.{Input, Output, Rose, bytes_appended, cuts_made}
 use Rattle.modbus_link.specs.Reads.{totals}
 use Rattle.modbus_link.specs.Runs.{bytes_read-all}
 use Rattle.modbus_server.specs.declared.error.ProcessError.{ProcessError}
-use Rattle.modbus_server.specs.declared.error.ProcessError.TheVariants.{NoMemory}
+use Rattle.modbus_server.specs.declared.error.ProcessError.TheVariants.{WriteFault, NoMemory}
 use Rattle.modbus_server.specs.Framing.{Framing}
 use Rattle.modbus_server.specs.Serving.{EndsAs}
 use Rattle.modbus_server.specs.Stepping.{Ran}
 use Rattle.modbus_store.specs.Tables.{Tables}
 use Rattle.modbus_store.specs.Step.{device}
 use Rattle.modbus_app.specs.declared.words.Form.{Form}
+use Rattle.modbus_app.specs.declared.words.Task.{Task}
+use Rattle.modbus_app.specs.declared.words.Task.TheVariants.{Serve, Make}
+use Rattle.modbus_app.specs.Make.{SumsUp, summary}
 use Rattle.modbus_app.specs.Device.{EndsServing, Serves, messages_of, opening}
-use Rattle.modbus_app.specs.Ending.{Ends, TellsResult}
+use Rattle.modbus_app.specs.Ending.{Ends, Makes, TellsResult}
 use Rattle.modbus_app.specs.Status.{ending_of, Reports, line_of}
 
-abbrev form_or : Form → Option Form → Form
-form_or other None = other
-form_or other (Some form) = form
+abbrev count_or : ℕ → Option Task → ℕ
+count_or other None = other
+count_or other (Some (Serve form)) = other
+count_or other (Some (Make count)) = count
 
--- words have one form
-pub same_form : (a b : Form) (found : Option Form) → Some a ≡ found → found ≡ Some b → a ≡ b
-same_form a b found e f = ap (form_or a) (e ∙ f)
+-- words have one number
+pub same_count : (a b : ℕ) (found : Option Task) → Some (Make a) ≡ found → found ≡ Some (Make b) → a ≡ b
+same_count a b found e f = ap (count_or a) (e ∙ f)
 
 module _ (form : Form) (opened now : Tables) (start : opened ≡ opening form) (from to : Input) (sunk sinks : Output) where
   serves : (result : Result (Unit {0}) ProcessError) → Ran (messages_of form.framing) device opened now from to sunk sinks (2 ^ 64 - 1) result → Serves form from to sunk sinks result
@@ -51,3 +55,23 @@ module _ (form : Form) (opened now : Tables) (start : opened ≡ opening form) (
 -- no device, for want of memory
 pub unserved : (form : Form) (from : Input) (sunk said told : Output) → Reports said told (line_of NoMemory) → Ends form from from sunk sunk said told 11
 unserved form from sunk said told reports = record { result = Err NoMemory; is = refl; served = inr (refl, refl); tells = reports }
+
+-- with status 0 the summary was appended
+pub made_whole : (count : ℕ) (from to : Input) (sunk sinks said told : Output) (status : ℕ) → Makes count from to sunk sinks said told status → status ≡ 0 → IsTrue sunk.told → bytes_appended sunk sinks ≡ summary count
+made_whole count from to sunk sinks said told status m done is_told = by_result m.result m.is m.sums
+  where
+    by_result : (result : Result (Unit {0}) ProcessError) → ending_of result ≡ Some status → SumsUp count sunk sinks result → bytes_appended sunk sinks ≡ summary count
+    by_result (Ok all) is sums = sums.1 is_told
+    by_result (Err WriteFault) is sums = let e : 4 ≡ status = cc in absurd (omega (arith, e, done))
+    by_result (Err NoMemory) is sums = let e : 11 ≡ status = cc in absurd (omega (arith, e, done))
+    by_result (Err other) is sums = absurd sums
+
+-- where the sink had no fault, the status is 0 or that of want of memory
+pub made_unless : (count : ℕ) (from to : Input) (sunk sinks said told : Output) (status : ℕ) → Makes count from to sunk sinks said told status → (Rose sunk.faults sinks.faults → ⊥) → (status ≡ 0) ⊎ (status ≡ 11)
+made_unless count from to sunk sinks said told status m calm = by_result m.result m.is m.sums
+  where
+    by_result : (result : Result (Unit {0}) ProcessError) → ending_of result ≡ Some status → SumsUp count sunk sinks result → (status ≡ 0) ⊎ (status ≡ 11)
+    by_result (Ok all) is sums = inl (cc)
+    by_result (Err WriteFault) is sums = absurd (calm sums.1)
+    by_result (Err NoMemory) is sums = inr (cc)
+    by_result (Err other) is sums = absurd sums

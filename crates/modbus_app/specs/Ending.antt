@@ -5,6 +5,7 @@ use Rattle.modbus_server.specs.declared.error.ProcessError.{ProcessError}
 use Rattle.modbus_server.specs.declared.error.ProcessError.TheVariants.{NoMemory}
 use Rattle.modbus_app.specs.declared.words.Form.{Form}
 use Rattle.modbus_app.specs.Device.{Serves}
+use Rattle.modbus_app.specs.Make.{SumsUp}
 use Rattle.modbus_app.specs.Status.{ending_of, line_of, usage_line, Reports}
 
 -- the words are no form: nothing was read or written, and the line was told
@@ -28,4 +29,12 @@ pub record Ends (form : Form) (from to : Input) (sunk sinks said told : Output) 
   pub result : Result (Unit {0}) ProcessError
   pub is : ending_of result ≡ Some status
   pub served : Serves form from to sunk sinks result ⊎ IsUnserved from to sunk sinks result
+  pub tells : TellsResult said told result
+
+-- So many requests were made and served, and nothing was read.
+pub record Makes (count : ℕ) (from to : Input) (sunk sinks said told : Output) (status : ℕ) : Type 0 where
+  pub result : Result (Unit {0}) ProcessError
+  pub is : ending_of result ≡ Some status
+  pub unread : to ≡ from
+  pub sums : SumsUp count sunk sinks result
   pub tells : TellsResult said told result

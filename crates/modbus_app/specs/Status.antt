@@ -6,6 +6,10 @@ use Rattle.modbus_frame.specs.declared.fault.Reason.{Reason}
 use Rattle.modbus_frame.specs.declared.fault.Reason.TheVariants as reason
 use Rattle.modbus_server.specs.declared.error.ProcessError.{ProcessError}
 use Rattle.modbus_server.specs.declared.error.ProcessError.TheVariants.{ReadFault, WriteFault, TooManyRetries, BytesRemaining, InvalidRequest, ResponseTooLong, TurnLimit, InvalidLength, InvalidProtocol, NoMemory}
+use Rattle.modbus_server.specs.declared.error.ServeError.{ServeError}
+use Rattle.modbus_server.specs.declared.error.ServeError.TheVariants as serve
+use Rattle.modbus_server.specs.declared.error.ServeError.TheVariants.{AcceptFault, Connect, SpawnFault}
+use Rattle.modbus_store.specs.declared.table.PassesOut.{PassesOut}
 
 -- a response that is too long has none, since the device gives no such response
 abbrev pub status_of : ProcessError → Option ℕ
@@ -52,6 +56,19 @@ line_of InvalidLength = codes "modbus: invalid length\n"
 line_of (InvalidProtocol protocol) = codes "modbus: invalid protocol " ++ decimal protocol ++ codes "\n"
 line_of NoMemory = codes "modbus: no memory\n"
 line_of (ResponseTooLong size) = []
+
+-- the status of a listener that does not go on; its hook refuses a connection only where no pass is left
+abbrev pub listener_status_of : ServeError PassesOut → ℕ
+listener_status_of AcceptFault = 12
+listener_status_of SpawnFault = 13
+listener_status_of (Connect none_left) = 14
+listener_status_of serve.NoMemory = 11
+
+abbrev pub listener_line_of : ServeError PassesOut → List ℕ
+listener_line_of AcceptFault = codes "modbus: accept fault\n"
+listener_line_of SpawnFault = codes "modbus: spawn fault\n"
+listener_line_of (Connect none_left) = codes "modbus: passes out\n"
+listener_line_of serve.NoMemory = line_of NoMemory
 
 -- A line was written, or a front of it where the sink failed. What stood there before stays.
 pub record Reports (said told : Output) (line : List ℕ) : Type 0 where

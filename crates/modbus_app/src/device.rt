@@ -1,10 +1,11 @@
 //! The device that the program serves.
-ghost use Rattle.std.specs.Prelude.{◌≡◌, ◌≤◌, IfOk};
+ghost use Rattle.std.specs.Prelude.{◌≡◌, ◌≤◌, false, IfOk};
+ghost use Rattle.modbus_store.specs.Passes.{opened};
 ghost use Rattle.modbus_app.specs.Device.{entries_by, third, odd, same, down, seeded_tables, broadcasts_of, opening};
 
-use crate::words::{Form, Framing};
+use crate::words::{DEFAULT_SIZE, Form, Framing};
 use modbus_frame::{Coil, Word};
-use modbus_store::{RegisterStore, Sizes, StoreError};
+use modbus_store::{RegisterStore, Sizes, StoreError, StorePass, StoreTable};
 use std::alloc::{AllocError, Global};
 
 #[tactic(auto, unfolding(crate::specs::Device::entries_by))]
@@ -105,4 +106,22 @@ pub fn open(alloc: Global, form: Form) -> Result<RegisterStore, StoreError>
         input_registers: form.size,
     };
     RegisterStore::new(alloc, sizes, broadcast)
+}
+
+/// The device that all connections to a listener share, as it begins, and its first pass. No record of its calls is kept, so it does not
+/// grow.
+pub fn open_shared(alloc: Global, framing: Framing) -> Result<(StoreTable, StorePass), StoreError>
+    ensures table { IfOk result (λ r. r.0.opening ≡ record { tables = opening (record { framing = framing; size = 1024; seeded = false }); recorded = false }) }
+    ensures pass { IfOk result (λ r. r.1 ≡ opened r.0.table r.0.opening) }
+{
+    let form = Form {
+        framing,
+        size: DEFAULT_SIZE,
+        seeded: false,
+    };
+    let store = open(alloc, form)?;
+    match StoreTable::open_unrecorded(alloc, store) {
+        Ok(opened) => Ok(opened),
+        Err(_) => Err(StoreError::NoMemory),
+    }
 }

@@ -1,13 +1,21 @@
-//! The program: a Modbus server over its standard streams.
+//! The program: a Modbus server over its standard streams, or over TCP.
 #![tactic(auto)]
 
 mod device;
+mod laws;
+mod listen;
+#[cfg(test)]
+mod listen_tests;
+mod make;
+mod port;
 mod run;
+mod services;
 mod status;
 #[cfg(test)]
 mod tests;
 mod words;
 
+use crate::listen::listening;
 use modbus_link::{ReadSource, WriteSink};
 use modbus_server::ProcessError;
 use std::alloc::AllocError;
@@ -35,6 +43,9 @@ fn main(rt: HostRuntime) -> ExitCode {
         status::report_fault(&mut errors, ProcessError::NoMemory);
         return ExitCode::from(status::NO_MEMORY);
     };
+    if let Some((framing, port)) = listening(&words) {
+        return ExitCode::from(port::serve(&rt, rt.alloc(), framing, port, &mut errors));
+    }
     let status = run::run(
         rt.alloc(),
         &words,

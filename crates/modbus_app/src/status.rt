@@ -2,19 +2,35 @@
 ghost use Rattle.std.specs.Prelude.{◌≡◌, ◌≢◌, ℕ, ◌+◌, ◌≤◌, ◌++◌, length, Some};
 ghost use Rattle.arrayvec.specs.ArrayString.{array_string_len};
 ghost use Rattle.modbus_server.specs.declared.error.ProcessError.TheVariants.{ResponseTooLong, InvalidProtocol};
-ghost use Rattle.modbus_app.specs.Status.{status_of, line_of, usage_line, Reports};
+ghost use Rattle.modbus_app.specs.Status.{status_of, line_of, usage_line, listener_status_of, listener_line_of, Reports};
 
 use arrayvec::ArrayString;
 use itoa::Buffer;
 use modbus_frame::Reason;
 use modbus_link::{Sink, write_all};
-use modbus_server::ProcessError;
+use modbus_server::{ProcessError, ServeError};
+use modbus_store::PassesOut;
 
 /// The status of a usage fault.
 pub const USAGE: u8 = 2;
 
 /// The status of want of memory.
 pub const NO_MEMORY: u8 = 11;
+
+/// The status of a listener whose acceptor failed.
+pub const ACCEPT_FAULT: u8 = 12;
+
+/// The status of a listener whose spawner failed.
+pub const SPAWN_FAULT: u8 = 13;
+
+/// The status of a listener whose store has no number left for another pass.
+pub const PASSES_OUT: u8 = 14;
+
+/// The status of a program that the system refuses a listener.
+pub const BIND_FAULT: u8 = 15;
+
+/// The line of a program that the system refuses a listener.
+pub const BIND_LINE: &str = "modbus: bind fault\n";
 
 /// The line of a usage fault.
 pub const USAGE_LINE: &str =
@@ -103,6 +119,30 @@ fn line(error: ProcessError) -> &'static str
         ProcessError::InvalidProtocol(_) => unreachable!(),
         ProcessError::NoMemory => "modbus: no memory\n",
         ProcessError::ResponseTooLong(_) => "",
+    }
+}
+
+/// The status of a listener that does not go on.
+pub fn listener_status(error: ServeError<PassesOut>) -> u8
+    ensures { result ≡ listener_status_of error }
+{
+    match error {
+        ServeError::AcceptFault => ACCEPT_FAULT,
+        ServeError::SpawnFault => SPAWN_FAULT,
+        ServeError::Connect(_) => PASSES_OUT,
+        ServeError::NoMemory => NO_MEMORY,
+    }
+}
+
+/// The line of a listener that does not go on.
+pub fn listener_line(error: ServeError<PassesOut>) -> &'static str
+    ensures { result.now ≡ listener_line_of error }
+{
+    match error {
+        ServeError::AcceptFault => "modbus: accept fault\n",
+        ServeError::SpawnFault => "modbus: spawn fault\n",
+        ServeError::Connect(_) => "modbus: passes out\n",
+        ServeError::NoMemory => line(ProcessError::NoMemory),
     }
 }
 

@@ -381,3 +381,43 @@ fn adus_with_faults_have_their_status(rt: HostRuntime) -> Result<(), Fail> {
     assert_eq!(rt; status, 2);
     Ok(())
 }
+
+/// The words give the status 0, this output and no text, over a source that would fail.
+fn expect_made(rt: &impl Abort, alloc: Global, count: &str, output: &[u8]) -> Result<(), Fail> {
+    let (status, sink, errors) = ran(alloc, &["make", count], b"", &[], &[0], &[])?;
+    assert_eq!(rt; status, 0);
+    assert_eq!(rt; sink.bytes(), output);
+    assert_eq!(rt; errors.bytes(), b"".as_slice());
+    Ok(())
+}
+
+#[test]
+fn requests_are_made_and_summed_up(rt: HostRuntime) -> Result<(), Fail> {
+    let alloc = rt.alloc();
+    expect_made(&rt, alloc, "1", b"requests 1\nbytes 6\nsum 220\n")?;
+    expect_made(&rt, alloc, "3", b"requests 3\nbytes 20\nsum 1235\n")?;
+    expect_made(&rt, alloc, "0000003", b"requests 3\nbytes 20\nsum 1235\n")?;
+    for count in ["0", "1000001", "", "00000003", "3x"] {
+        let (status, sink, _errors) = ran(alloc, &["make", count], b"", &[], &[], &[])?;
+        assert_eq!(rt; status, 2);
+        assert_eq!(rt; sink.bytes(), b"".as_slice());
+    }
+    let (status, _sink, _errors) = ran(alloc, &["make"], b"", &[], &[], &[])?;
+    assert_eq!(rt; status, 2);
+
+    // A sink that fails has a front of the summary.
+    let (status, sink, errors) = ran(alloc, &["make", "3"], b"", &[], &[], &[0])?;
+    assert_eq!(rt; status, 4);
+    assert_eq!(rt; sink.bytes(), b"".as_slice());
+    assert_eq!(rt; errors.bytes(), b"modbus: write fault\n".as_slice());
+    Ok(())
+}
+
+#[test]
+fn the_same_number_gives_the_same_lines(rt: HostRuntime) -> Result<(), Fail> {
+    let alloc = rt.alloc();
+    // The numbers are those of a program in Python that follows the table of the generator and the standard alone.
+    let lines = b"requests 100000\nbytes 1113898\nsum 96318855\n".as_slice();
+    expect_made(&rt, alloc, "100000", lines)?;
+    expect_made(&rt, alloc, "100000", lines)
+}

@@ -1,10 +1,10 @@
 //! The words of the command line.
-ghost use Rattle.std.specs.Prelude.{◌≡◌, ◌≤◌, [], ◌∷◌, length, IfSome, Some, None, if◌then◌else◌};
-ghost use Rattle.modbus_app.specs.Words.{are_digits, number, size_named, framing_of_word, form_with, form_of, asked};
+ghost use Rattle.std.specs.Prelude.{◌≡◌, ◌≤◌, [], ◌∷◌, length, map, IfSome, Some, None, if◌then◌else◌, string_bytes};
+ghost use Rattle.modbus_app.specs.Words.{are_digits, number, size_named, count_named, framing_of_word, form_with, form_of, make_of, task_of, asked, IsWithinLimits};
 
 /// The number that these digits show; `None` where there is another byte.
-fn number_of(text: &[u8]) -> Option<u32>
-    requires { length text.now ≤ 5 }
+pub fn number_of(text: &[u8]) -> Option<u32>
+    requires { length text.now ≤ 7 }
     ensures { result ≡ (if are_digits text.now then Some (number text.now) else None) }
 {
     let mut value: u32 = 0;
@@ -32,6 +32,21 @@ pub fn table_size(word: &str) -> Option<u32>
     }
 }
 
+/// How many requests a word asks for: one to seven digits, of a value from 1 to 1,000,000.
+fn request_count(word: &str) -> Option<u32>
+    ensures exact { result ≡ count_named word.now }
+    ensures most { IfSome result (λ count. count ≤ 1000000) }
+{
+    let text = word.as_bytes();
+    if text.len() > 7 {
+        return None;
+    }
+    match number_of(text) {
+        Some(count) if count >= 1 && count <= 1_000_000 => Some(count),
+        _ => None,
+    }
+}
+
 /// What frames the requests.
 #[derive(Clone, Copy, Debug, PartialEq, Eq)]
 pub enum Framing {
@@ -41,7 +56,7 @@ pub enum Framing {
     Tcp,
 }
 
-/// What the program serves: which framing, how many entries each table has, and whether they are seeded.
+/// A device that the program serves: which framing, how many entries each table has, and whether they are seeded.
 #[derive(Clone, Copy, Debug, PartialEq, Eq)]
 pub struct Form {
     /// What frames the requests.
@@ -52,8 +67,17 @@ pub struct Form {
     pub seeded: bool,
 }
 
+/// What the program does.
+#[derive(Clone, Copy, Debug, PartialEq, Eq)]
+pub enum Task {
+    /// It serves a device.
+    Serve(Form),
+    /// It makes so many requests, serves them, and sums up the replies.
+    Make(u32),
+}
+
 /// The entries of a table where no size is given.
-const DEFAULT_SIZE: u32 = 1024;
+pub const DEFAULT_SIZE: u32 = 1024;
 
 /// The framing that a word names.
 fn framing_named(word: &str) -> Option<Framing>
@@ -108,9 +132,9 @@ fn three_words(word: &str, size: &str, last: &str) -> Option<Form>
     form_with(Some(Framing::Rtu), table_size(size), true)
 }
 
-/// What the words ask for: `rtu`, `rtu size`, `rtu size seeded`, `tcp` or `tcp size`; `None` where they are no such form.
-pub fn read_words(words: &[String]) -> Option<Form>
-    ensures exact { result ≡ asked words.now }
+/// The device that the words ask for: `rtu`, `rtu size`, `rtu size seeded`, `tcp` or `tcp size`; `None` where they are no such form.
+fn device_form(words: &[String]) -> Option<Form>
+    ensures exact { result ≡ form_of (map string_bytes words.now) }
     ensures size { IfSome result (λ form. form.size ≤ 0x10000) }
 {
     match words {
@@ -118,5 +142,30 @@ pub fn read_words(words: &[String]) -> Option<Form>
         [word, size] => two_words(word.as_str(), size.as_str()),
         [word, size, last] => three_words(word.as_str(), size.as_str(), last.as_str()),
         _ => None,
+    }
+}
+
+/// How many requests the words ask for, by `make n`; `None` where they are no such form.
+fn make_form(words: &[String]) -> Option<u32>
+    ensures exact { result ≡ make_of (map string_bytes words.now) }
+    ensures most { IfSome result (λ count. count ≤ 1000000) }
+{
+    match words {
+        [word, count] if word.as_str() == "make" => request_count(count.as_str()),
+        _ => None,
+    }
+}
+
+/// What the words ask for: a device to serve, or requests to make; `None` where they are no form.
+pub fn read_words(words: &[String]) -> Option<Task>
+    ensures exact { result ≡ asked words.now }
+    ensures size { IfSome result IsWithinLimits }
+{
+    if let Some(count) = make_form(words) {
+        return Some(Task::Make(count));
+    }
+    match device_form(words) {
+        Some(form) => Some(Task::Serve(form)),
+        None => None,
     }
 }

@@ -2,6 +2,7 @@
 use Rattle.std.specs.Prelude.{◌≡◌, ◌≢◌, ℕ, List, [], ◌∷◌, ◌++◌, map, All}
 use Rattle.modbus_server.specs.declared.error.ProcessError.{ProcessError}
 use Rattle.modbus_server.specs.declared.error.ProcessError.TheVariants.{InvalidLength}
+use Rattle.modbus_pdu.specs.declared.limits.TheConstants.{MAX_PDU}
 use Rattle.modbus_server.specs.Framing.{Framing}
 
 abbrev pub bytes_of : List (ℕ × List ℕ) → List ℕ
@@ -48,4 +49,6 @@ singles = record {
   room = λ held. 16;
   most = 16;
   HasRoom = IsSixteen;
+  ReadsTakeMemory = Unit {0};
+  reply_room = MAX_PDU;
 }

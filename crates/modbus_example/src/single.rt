@@ -5,8 +5,8 @@ ghost use Rattle.modbus_example.specs.Single.{singles};
 
 use bytes::BytesMut;
 use modbus_frame::{EncodeError, ExceptionResponse, Response, SlaveId};
-use modbus_pdu::{encode_response_result_pdu, response_result_pdu_size};
-use modbus_server::{Framing, Front, ProcessError};
+use modbus_pdu::{MAX_PDU, encode_response_result_pdu, response_result_pdu_size};
+use modbus_server::{Framing, Front, MAX_ROOM, ProcessError};
 use std::alloc::{AllocError, Global};
 
 /// How many bytes a read has room for.
@@ -45,6 +45,10 @@ impl Framing for Singles {
         header
     }
 
+    fn reply_room() -> usize {
+        MAX_PDU
+    }
+
     fn encode_answer(
         alloc: Global,
         _header: SlaveId,
@@ -70,7 +74,7 @@ impl Framing for Singles {
         self.bytes.is_empty()
     }
 
-    fn front(&self) -> Result<Front<'_, SlaveId>, Zero> {
+    fn front<'a>(&'a self, _seam: &'a mut [u8; MAX_ROOM]) -> Result<Front<'a, SlaveId>, Zero> {
         let held = self.bytes.as_slice();
         if held.is_empty() {
             return Ok(Front::Waiting { dropped: 0 });

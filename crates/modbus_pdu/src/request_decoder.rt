@@ -34,6 +34,7 @@ use std::borrow::CowSlice;
 /// - `InvalidFunction`: this function code is 0x80 or above.
 ///
 /// Want of memory comes only where the PDU is a request that carries a list. The function code of a request is below 0x80.
+#[inline(always)]
 #[tactic(auto, using(crate::proofs::First::no_byte, crate::proofs::First::by_first))]
 pub fn decode_request(alloc: Global, pdu: &[u8]) -> Result<Request<'static>, PduError>
     ensures value { Decodes meaning result (request_of pdu.now) }
@@ -47,6 +48,7 @@ pub fn decode_request(alloc: Global, pdu: &[u8]) -> Result<Request<'static>, Pdu
 }
 
 /// The request that the function code asks for.
+#[inline(always)]
 #[tactic(auto, unfolding(crate::specs::RequestOf::asked_by))]
 fn request_by_code(
     alloc: Global,
@@ -76,6 +78,10 @@ fn request_by_code(
             let (address, quantity) = two_words(cursor)?;
             Ok(Request::ReadInputRegisters(address, quantity))
         }
+        0x05 => {
+            let (address, coil) = single_coil(cursor)?;
+            Ok(Request::WriteSingleCoil(address, coil))
+        }
         0x06 => {
             let (address, word) = two_words(cursor)?;
             Ok(Request::WriteSingleRegister(address, word))
@@ -84,7 +90,7 @@ fn request_by_code(
     }
 }
 
-/// The request that a function code asks for which is not that of an address and a word.
+/// The request that a function code asks for which is not that of an address and a word or a coil.
 // A call of its own, so that the short requests don't pay for the fields of the long ones.
 #[inline(never)]
 #[tactic(auto, unfolding(crate::specs::RequestOf::asked_by, crate::specs::RequestOf::only_code_of))]
@@ -94,17 +100,13 @@ fn request_of_other_fields(
     cursor: Cursor<'_>,
 ) -> Result<Request<'static>, PduError>
     requires start { cursor.at ≡ 1 }
-    requires other { (code ≢ 0x01) × (code ≢ 0x02) × (code ≢ 0x03) × (code ≢ 0x04) × (code ≢ 0x06) }
+    requires other { (code ≢ 0x01) × (code ≢ 0x02) × (code ≢ 0x03) × (code ≢ 0x04) × (code ≢ 0x05) × (code ≢ 0x06) }
     ensures value { Decodes meaning result (asked_by code cursor.entry.bytes.now) }
     ensures memory { result ≡ Err PduError.NoMemory
         → IsOkAnd (asked_by code cursor.entry.bytes.now) CarriesList }
     ensures code { IfOk result (λ request. function_number (function_asked (meaning request)) < 0x80) }
 {
     match code {
-        0x05 => {
-            let (address, coil) = single_coil(cursor)?;
-            Ok(Request::WriteSingleCoil(address, coil))
-        }
         0x0F => {
             let (address, coils) = coils_written(alloc, cursor)?;
             Ok(Request::WriteMultipleCoils(address, CowSlice::Owned(coils.into_vec())))

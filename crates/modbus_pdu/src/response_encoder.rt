@@ -158,6 +158,7 @@ fn put_device_identification(buf: &mut BytesMut, found: &ReadDeviceIdentificatio
 }
 
 /// The PDU of the response, for which there is room.
+#[inline(always)]
 #[tactic(auto, using(crate::proofs::Sizes::sizes), unfolding(crate::specs::ResponsePdu::response_pdu))]
 fn put_response(buf: &mut BytesMut, response: &Response)
     requires fits { Fits (response_pdu response.now) }
@@ -216,6 +217,7 @@ fn put_response(buf: &mut BytesMut, response: &Response)
 ///
 /// The one error is want of memory, which leaves the bytes of the buffer as they were and comes only where the buffer had no room
 /// for the whole PDU. What memory it takes is of the buffer's own allocator.
+#[inline(always)]
 pub fn encode_response_pdu(
     _alloc: Global,
     buf: &mut BytesMut,
@@ -236,6 +238,7 @@ pub fn encode_response_pdu(
 ///
 /// The one error is want of memory, which leaves the bytes of the buffer as they were and comes only where the buffer had no room
 /// for the whole PDU. What memory it takes is of the buffer's own allocator.
+#[inline(always)]
 pub fn encode_response_result_pdu(
     alloc: Global,
     buf: &mut BytesMut,

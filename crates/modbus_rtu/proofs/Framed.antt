@@ -1,10 +1,15 @@
 -- Frames one after another are read as they are.
-use Rattle.std.proofs.Common.{◌≡◌, ℕ, ◌+◌, ◌-◌, ◌*◌, ◌/◌, ◌%◌, ◌≤◌, List, [], ◌∷◌, ◌++◌, map, length, take, drop, get_or, Some, Ok, refl, sym, ap, ◌∙◌, subst, arith, length-append, append_assoc}
+use Rattle.std.proofs.Common.{◌≡◌, inl, inr, ℕ, zero, suc, ◌+◌, ◌-◌, ◌*◌, ◌/◌, ◌%◌, ◌≤◌, List, [], ◌∷◌, ◌++◌, map, length, take, drop, get_or, Some, Ok, refl, sym, ap, ◌∙◌, subst, arith, length-append, append_assoc}
 use Rattle.std.specs.List.{AllByRecursion}
-use Rattle.std.proofs.lemmas.List.{take_at, drop_at, drop-drop, get_or-drop, get_or-append_right}
-use Rattle.modbus_rtu.specs.declared.verdict.Verdict.TheVariants.{Good}
+use Rattle.std.specs.Prelude.{Contains}
+use Rattle.std.proofs.lemmas.Bool.{cases_lt}
+use Rattle.std.proofs.lemmas.List.{take_at, drop_at, drop_all, drop-drop, get_or-drop, get_or-append_right}
+use Rattle.modbus_rtu.specs.declared.verdict.Verdict.{Verdict}
+use Rattle.modbus_rtu.specs.declared.verdict.Verdict.TheVariants.{Open, Bad, Good}
 use Rattle.modbus_rtu.specs.Checksum.{crc}
 use Rattle.modbus_rtu.specs.Frame.{frame, head, verdict, verdict_of}
+use Rattle.modbus_rtu.specs.Leftmost.{IsUncovered}
+use Rattle.modbus_rtu.specs.Quiet.{IsQuietLine}
 use Rattle.modbus_rtu.specs.Stands.{frame_at}
 use Rattle.modbus_rtu.specs.Framed.{HasHead, stream_of, IsWholeReading}
 use Rattle.modbus_rtu.proofs.Verdicts.{head-append, verdict-drop, verdict_of-nil}
@@ -51,11 +56,45 @@ frames_later : (bytes : List ℕ) (start : ℕ) (frames : List ℕ) → map (fra
 frames_later bytes start [] = refl
 frames_later bytes start (f ∷ frames) = let one = frame_at_later bytes start f in let rest = frames_later bytes start frames in cc
 
+-- no offset is of no use: none is bad and lies outside of these frames
+abbrev AreAllUsed : List ℕ → List ℕ → Type 0
+AreAllUsed bytes frames = (i : ℕ) → verdict bytes i ≡ Bad → IsUncovered bytes frames i → ⊥
+
 abbrev ReadsAll : List ℕ → List (ℕ × List ℕ) → Type 0
-ReadsAll bytes messages = (frames : List ℕ) × Reads bytes 0 frames (length bytes) × (map (frame_at bytes) frames ≡ messages)
+ReadsAll bytes messages = (frames : List ℕ) × Reads bytes 0 frames (length bytes) × (map (frame_at bytes) frames ≡ messages) × AreAllUsed bytes frames
+
+contains_shifted : (start : ℕ) (frames : List ℕ) (f : ℕ) → Contains frames f → Contains (map (λ g. start + g) frames) (start + f)
+contains_shifted start [] f (k, below, is) = absurd (omega (arith, below))
+contains_shifted start (g ∷ frames) f (zero, below, is) = (0, omega arith, ap (λ n. start + n) is)
+contains_shifted start (g ∷ frames) f (suc k, below, is) =
+    let later = contains_shifted start frames f (k, omega (arith, below), is) in
+    (suc later.0, omega (arith, later.1), later.2)
+
+module _ (bytes rest frames : List ℕ) (n : ℕ) (good : verdict bytes 0 ≡ Good n) (left : drop (n + 3) bytes ≡ rest) (used : AreAllUsed rest frames) where
+  abbrev all : List ℕ
+  all = 0 ∷ map (λ f. n + 3 + f) frames
+
+  later_same : (j : ℕ) → verdict bytes (n + 3 + j) ≡ verdict rest j
+  later_same j = sym (verdict-drop bytes (n + 3) j) ∙ ap (λ b. verdict b j) left
+
+  later_used : (j : ℕ) → verdict bytes (n + 3 + j) ≡ Bad → IsUncovered bytes all (n + 3 + j) → ⊥
+  later_used j bad free = used j (sym (later_same j) ∙ bad) (λ f within (m, here, above, inside).
+      let later = contains_shifted (n + 3) frames f within in
+      free (n + 3 + f) (suc later.0, omega (arith, later.1), later.2) (m, later_same f ∙ here, omega (arith, above), omega (arith, inside)))
+
+  used_by : (i : ℕ) → verdict bytes i ≡ Bad → IsUncovered bytes all i → ⊥
+  used_by zero bad free = good_bad good bad
+    where
+      good_bad : {v : Verdict} {m : ℕ} → v ≡ Good m → v ≡ Bad → ⊥
+      good_bad g b = cc
+  used_by (suc i) bad free = elim (cases_lt (suc i) (n + 3)) [
+    | inl inside ↦ free 0 (0, omega arith, refl) (n, good, omega arith, omega (arith, inside))
+    | inr past ↦ (let e : suc i ≡ n + 3 + (suc i - (n + 3)) = omega (arith, past) in
+        later_used (suc i - (n + 3)) (subst (λ k. verdict bytes k ≡ Bad) e bad) (subst (λ k. IsUncovered bytes all k) e free))
+  ]
 
 one_more : (slave : ℕ) (pdu rest : List ℕ) (messages : List (ℕ × List ℕ)) → HasHead (slave, pdu) → ReadsAll rest messages → ReadsAll (frame slave pdu ++ rest) ((slave, pdu) ∷ messages)
-one_more slave pdu rest messages has (frames, reads, are) =
+one_more slave pdu rest messages has (frames, reads, are, used) =
     let n = length pdu in
     let bytes = frame slave pdu ++ rest in
     let sum = crc (slave ∷ pdu) in
@@ -72,12 +111,26 @@ one_more slave pdu rest messages has (frames, reads, are) =
       0 ∷ map (λ f. n + 3 + f) frames,
       subst (λ s. Reads bytes 0 (0 ∷ map (λ f. n + 3 + f) frames) s) end (takes n good moved),
       cc (front, later),
+      used_by bytes rest frames n good left used,
     )
 
 all_read : (messages : List (ℕ × List ℕ)) → AllByRecursion HasHead messages → ReadsAll (stream_of messages) messages
-all_read [] has = ([], stops (omega arith) verdict_of-nil, refl)
+all_read [] has = ([], stops (omega arith) verdict_of-nil, refl, λ i bad free. open_bad (ap verdict_of (drop_all i [] (omega arith)) ∙ verdict_of-nil) bad)
+  where
+    open_bad : {v : Verdict} → v ≡ Open → v ≡ Bad → ⊥
+    open_bad o b = cc
 all_read (message ∷ messages) has = one_more message.0 message.1 (stream_of messages) messages has.0 (all_read messages has.1)
 
 -- Frames one after another, each of the length that its head says, are the leftmost frames, and the stop is the end.
 pub stream_read : (messages : List (ℕ × List ℕ)) → AllByRecursion HasHead messages → IsWholeReading (stream_of messages) messages
 stream_read messages has = let r = all_read messages has in (r.0, leftmost_from_reads (stream_of messages) r.1, sym r.2)
+
+-- So they are a quiet line.
+pub stream_quiet : (messages : List (ℕ × List ℕ)) → AllByRecursion HasHead messages → IsQuietLine (stream_of messages) messages
+stream_quiet messages has =
+    let r = all_read messages has in record {
+      frames = r.0;
+      reading = leftmost_from_reads (stream_of messages) r.1;
+      few = λ k all. (let first = all k (omega arith) (omega arith) in r.3 k first.0 first.1);
+      are = sym r.2;
+    }

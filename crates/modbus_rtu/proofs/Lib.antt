@@ -11,10 +11,11 @@ pub mod Fronts
 pub mod Steps
 pub mod Standing
 pub mod Piece
-pub mod Spans
 pub mod Finding
 pub mod Carrying
 pub mod Framed
+pub mod RequestFrames
 pub mod Quiet
 pub mod Objects
 pub mod Responses
+pub mod TwoPieces

@@ -1,6 +1,6 @@
 //! The codecs of the two ends of a serial line: a server reads requests and writes responses, a client the other way round
 //! (MODBUS over Serial Line V1.02, section 2.5.1).
-ghost use Rattle.std.specs.Prelude.{◌≡◌, ◌<◌, Ok, None, length, IfOk};
+ghost use Rattle.std.specs.Prelude.{◌≡◌, ◌<◌, Ok, Err, None, length, IfOk};
 ghost use Rattle.std.specs.Result.{ForErr};
 ghost use Rattle.modbus_frame.specs.Codes.{function_number};
 ghost use Rattle.modbus_frame.specs.Meaning.{meaning};
@@ -124,8 +124,8 @@ impl ServerCodec {
     /// exception is below 0x80.
     ///
     /// # Errors
-    /// `TooLong` with the size of the PDU in bytes, exactly where that is above 253. `NoMemory` where memory is refused. The bytes
-    /// of the buffer are then as they were.
+    /// `TooLong` with the size of the PDU in bytes, exactly where that is above 253. `NoMemory` where memory is refused, only where the
+    /// buffer had no room for the whole frame. The bytes of the buffer are then as they were.
     pub fn encode(
         &mut self,
         alloc: Global,
@@ -134,6 +134,7 @@ impl ServerCodec {
     ) -> Result<(), EncodeError>
         requires { ForErr adu.pdu.0 (λ refusal. function_number refusal.function < 0x80) }
         ensures encodes { Encodes (frame adu.hdr.slave_id (response_result_pdu adu.pdu.0)) (response_result_pdu adu.pdu.0) buf.old.items result buf.new.items }
+        ensures memory { result ≡ Err EncodeError.NoMemory → buf.old.spare < length (frame adu.hdr.slave_id (response_result_pdu adu.pdu.0)) }
         ensures kept { self.new ≡ self.old }
     {
         encode_response_frame(alloc, adu.hdr.slave_id, &adu.pdu.0, buf)

@@ -1,5 +1,5 @@
 //! The encoders of frames: the slave address, the PDU, and the checksum of both (MODBUS over Serial Line V1.02, section 2.5.1).
-ghost use Rattle.std.specs.Prelude.{◌≡◌, ◌%◌, ◌/◌, ◌<◌, ◌≤◌, [], ◌∷◌, ◌++◌, length, take, drop, OnOk, OnErr};
+ghost use Rattle.std.specs.Prelude.{◌≡◌, ◌+◌, ◌%◌, ◌/◌, ◌<◌, ◌≤◌, [], ◌∷◌, ◌++◌, length, take, drop, Err, OnOk, OnErr};
 ghost use Rattle.std.specs.Result.{ForErr};
 ghost use Rattle.modbus_frame.specs.Codes.{function_number};
 ghost use Rattle.modbus_frame.specs.Meaning.{meaning};
@@ -23,7 +23,8 @@ use std::alloc::Global;
 fn put_checksum(buf: &mut BytesMut, start: usize)
     requires start { start ≤ length buf.old.items }
     requires room { 2 ≤ buf.old.spare }
-    ensures { buf.new.items ≡ buf.old.items ++ crc (drop start buf.old.items) % 256 ∷ crc (drop start buf.old.items) / 256 ∷ [] }
+    ensures items { buf.new.items ≡ buf.old.items ++ crc (drop start buf.old.items) % 256 ∷ crc (drop start buf.old.items) / 256 ∷ [] }
+    ensures spare { buf.new.spare + 2 ≡ buf.old.spare }
 {
     let sum = calc_crc(&buf.as_slice()[start..]);
     buf.extend_reserved(&sum.to_le_bytes());
@@ -60,8 +61,8 @@ pub fn encode_request_frame(
 /// Appends the frame of a response or an exception: its slave address, its PDU, and the checksum of both. The function of an exception is below 0x80.
 ///
 /// # Errors
-/// `TooLong` with the size of the PDU in bytes, exactly where that is above 253. `NoMemory` where memory is refused. The bytes of
-/// the buffer are then as they were.
+/// `TooLong` with the size of the PDU in bytes, exactly where that is above 253. `NoMemory` where memory is refused, only where the buffer
+/// had no room for the whole frame. The bytes of the buffer are then as they were.
 #[tactic(auto, unfolding(crate::specs::Frame::frame))]
 pub fn encode_response_frame(
     alloc: Global,
@@ -70,7 +71,11 @@ pub fn encode_response_frame(
     buf: &mut BytesMut,
 ) -> Result<(), EncodeError>
     requires { ForErr answer.now (λ refusal. function_number refusal.function < 0x80) }
-    ensures { Encodes (frame slave (response_result_pdu answer.now)) (response_result_pdu answer.now) buf.old.items result buf.new.items }
+    ensures encodes { Encodes (frame slave (response_result_pdu answer.now)) (response_result_pdu answer.now) buf.old.items result buf.new.items }
+    ensures memory { result ≡ Err EncodeError.NoMemory → buf.old.spare < length (frame slave (response_result_pdu answer.now)) }
+
+    // All in all the buffer has as much room as it had.
+    ensures room { length buf.old.items + buf.old.spare ≤ length buf.new.items + buf.new.spare }
 {
     let pdu_len = response_result_pdu_size(answer)?;
     // One growth for the whole frame.

@@ -1,7 +1,8 @@
 //! What stands at the front of the bytes that a reader holds: the next frame, lent from where it lies.
+ghost use Rattle.std.specs.Prelude.{◌≡◌, ◌+◌, ◌≤◌, ◌++◌, length};
 ghost use Rattle.modbus_rtu.specs.Front.{Finds};
 
-use crate::length::OVERHEAD;
+use crate::length::{CAPACITY, OVERHEAD};
 use crate::search::{Next, next_frame};
 use modbus_frame::SlaveId;
 
@@ -26,6 +27,8 @@ pub enum Front<'a> {
 pub struct Crowd;
 
 /// Searches held bytes for the next frame of a request.
+// Inlined at both of its calls, the first of which is made for each request.
+#[inline(always)]
 pub(crate) fn find(held: &[u8]) -> Result<Front<'_>, Crowd>
     ensures { Finds held.now result }
 {
@@ -37,5 +40,40 @@ pub(crate) fn find(held: &[u8]) -> Result<Front<'_>, Crowd>
             pdu: &held[start + 1..][..pdu_len],
             end: start + pdu_len + OVERHEAD,
         }),
+    }
+}
+
+/// Copies two pieces of bytes one behind the other.
+fn join<'a>(first: &[u8], second: &[u8], seam: &'a mut [u8; CAPACITY]) -> &'a [u8]
+    requires { length first.now + length second.now ≤ CAPACITY }
+    ensures { result.now ≡ first.now ++ second.now }
+{
+    let end = first.len() + second.len();
+    let joined = &mut seam[..end];
+    joined[..first.len()].copy_from_slice(first);
+    joined[first.len()..].copy_from_slice(second);
+    joined
+}
+
+/// Searches held bytes that lie in two pieces for the next frame of a request. What stands in the first piece is lent from there. Where
+/// the search waits at its end, both are copied to `seam`, so that a frame that lies in both pieces is whole there.
+#[tactic(auto, using(crate::proofs::TwoPieces::frame_on))]
+pub(crate) fn find_in_two<'a>(
+    first: &'a [u8],
+    second: &'a [u8],
+    seam: &'a mut [u8; CAPACITY],
+) -> Result<Front<'a>, Crowd>
+    requires { length first.now + length second.now ≤ CAPACITY }
+    ensures { Finds (first.now ++ second.now) result }
+{
+    match find(first) {
+        Err(crowd) => Err(crowd),
+        Ok(Front::Frame { slave, pdu, end }) => Ok(Front::Frame { slave, pdu, end }),
+        Ok(Front::Waiting { dropped }) => {
+            if second.is_empty() {
+                return Ok(Front::Waiting { dropped });
+            }
+            find(join(first, second, seam))
+        }
     }
 }

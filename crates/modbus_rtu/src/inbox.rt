@@ -1,6 +1,6 @@
 //! The bytes that an RTU server read and did not use yet, and the frames that it takes from them.
 ghost use Rattle.std.specs.Prelude.{◌≡◌, ℕ, Ok, None, ◌+◌, ◌-◌, ◌<◌, ◌≤◌, ◌↔◌, List, [], ◌∷◌, ◌++◌, length, drop, IfOk, IfErr, IfNone, IfSome, OnErr, IsTrue};
-ghost use Rattle.modbus_link.specs.Outside.{Rose};
+ghost use Rattle.modbus_link.specs.Outside.{Rose, front_of};
 ghost use Rattle.modbus_link.specs.Reads.{ReadsPiece};
 ghost use Rattle.modbus_rtu.specs.declared.verdict.Verdict.TheVariants.{Open};
 ghost use Rattle.modbus_rtu.specs.declared.inbox.RtuError.TheVariants as errors;
@@ -10,11 +10,11 @@ ghost use Rattle.modbus_rtu.specs.Stands.{StandsFor, IsTakenNext};
 ghost use Rattle.modbus_rtu.specs.Front.{Finds, FindsIn};
 ghost use Rattle.modbus_rtu.specs.Inbox.{parts, TakesFrame, StandsAfter};
 
-use crate::front::{Crowd, Front, find};
+use crate::front::{Crowd, Front, find_in_two};
 use crate::length::{CAPACITY, MOST_PDU};
 use crate::search::TRIES;
-use crate::span::{make_room, put, read_behind};
 use arrayvec::ArrayVec;
+use circular_buffer::HeapCircularBuffer;
 use modbus_frame::{PduError, Reason, SlaveId};
 use modbus_link::{Failed, Source};
 use std::alloc::{AllocError, Global};
@@ -58,28 +58,25 @@ impl From<PduError> for RtuError {
 }
 
 /// The bytes that were read and not used yet, at most 268.
+///
+/// They lie in a ring, whose room is taken when the inbox is opened, so no byte is moved when others are taken off.
 #[derive(Drop)]
 pub struct Inbox {
-    // the room for all bytes; those from `start` to `end` are held
-    bytes: Vec<u8>,
-    start: usize,
-    end: usize,
+    ring: HeapCircularBuffer<u8>,
 }
 
 /// A contract sees the bytes that are held.
 impl Model for Inbox {
-    ghost use Rattle.std.specs.Prelude.{◌≡◌, ℕ, ◌≤◌, List, vec_len};
-    ghost use Rattle.std.specs.List.{slice_range};
+    ghost use Rattle.std.specs.Prelude.{◌≡◌, ℕ, ◌≤◌, List, length};
     ghost use Rattle.modbus_rtu.specs.declared.length.TheConstants.{CAPACITY};
 
     ghost Value = { List ℕ };
 
-    ghost view = { λ inbox. slice_range inbox.bytes.items inbox.start inbox.end };
+    ghost view = { λ inbox. inbox.ring.items };
 
     ghost invariant = { λ inbox. record {
-      room : vec_len inbox.bytes ≡ CAPACITY;
-      ordered : inbox.start ≤ inbox.end;
-      within : inbox.end ≤ CAPACITY;
+      room : inbox.ring.capacity ≡ CAPACITY;
+      within : length inbox.ring.items ≤ CAPACITY;
     } };
 }
 
@@ -94,6 +91,20 @@ fn copy_pdu(pdu: &[u8]) -> ArrayVec<u8, MOST_PDU>
     }
 }
 
+/// Makes one read of the source, and answers how many bytes it gave: a front of the buffer.
+///
+/// # Errors
+/// `Failed`, only where the source's count of faults rose.
+fn read_piece<S: Source>(source: &mut S, buffer: &mut [u8]) -> Result<usize, Failed>
+    requires { 0 < length buffer.old }
+    ensures within { IfOk result (λ count. count ≤ length buffer.new) }
+    ensures reads { ReadsPiece (S.input source.old) (S.input source.new) (length buffer.old) (front_of result buffer.new) result }
+    ensures cause { OnErr result (Rose (S.input source.old).faults (S.input source.new).faults) }
+    ensures sink { S.output source.new ≡ S.output source.old }
+{
+    source.read(buffer)
+}
+
 impl Inbox {
     /// An inbox that holds no byte. It takes the room for all bytes that it will ever hold.
     ///
@@ -103,9 +114,7 @@ impl Inbox {
         ensures { IfOk result (λ inbox. inbox ≡ []) }
     {
         Ok(Inbox {
-            bytes: vec![in alloc; 0; CAPACITY]?,
-            start: 0,
-            end: 0,
+            ring: HeapCircularBuffer::with_capacity(alloc, CAPACITY)?,
         })
     }
 
@@ -115,7 +124,7 @@ impl Inbox {
         ensures exact { result ≡ length self.now }
         ensures most { result ≤ CAPACITY }
     {
-        self.end - self.start
+        self.ring.len()
     }
 
     /// How many bytes fit behind those that are held: the room of the next read.
@@ -132,7 +141,7 @@ impl Inbox {
     pub fn is_empty(&self) -> bool
         ensures { IsTrue result ↔ (self.now ≡ []) }
     {
-        self.start == self.end
+        self.ring.is_empty()
     }
 
     /// Appends bytes for which there is room.
@@ -140,21 +149,17 @@ impl Inbox {
         requires { length self.old + length piece.now ≤ CAPACITY }
         ensures { self.new ≡ self.old ++ piece.now }
     {
-        let held = self.held();
-        self.start = make_room(&mut self.bytes, self.start, self.end, piece.len());
-        self.end = self.start + held;
-        put(&mut self.bytes, self.end, piece);
-        self.end += piece.len();
+        self.ring.extend_from_slice(piece);
     }
 
     /// Takes so many bytes off the front. No byte is moved.
     #[inline]
-    #[tactic(auto, using(crate::proofs::Spans::drop_span))]
     pub fn advance(&mut self, count: usize)
         requires { count ≤ length self.old }
         ensures { self.new ≡ drop count self.old }
     {
-        self.start += count;
+        let left = self.held() - count;
+        self.ring.truncate_front(left);
     }
 
     /// Reads from the source into a room of 268 bytes less those that are held, appends what it gave, and answers how many bytes that
@@ -175,27 +180,29 @@ impl Inbox {
         // Where nothing can be taken off, what the inbox stands for goes on by the piece that was read.
         ensures stands { (piece : List ℕ) → self.new ≡ self.old ++ piece → 0 < length piece → (bytes cuts : List ℕ) (taken : List (ℕ × List ℕ)) → StandsFor bytes cuts self.old taken → verdict self.old 0 ≡ Open → StandsFor (bytes ++ piece) (cuts ++ length (bytes ++ piece) ∷ []) self.new taken }
     {
-        let held = self.held();
-        self.start = make_room(&mut self.bytes, self.start, self.end, CAPACITY - held);
-        self.end = self.start + held;
-        let count = read_behind(source, &mut self.bytes, self.end)?;
-        self.end += count;
+        let mut buffer = [0; CAPACITY];
+        let room = self.room();
+        let count = read_piece(source, &mut buffer[..room])?;
+        self.append(&buffer[..count]);
         Ok(count)
     }
 
     /// What the search of the held bytes finds: the next frame, with its PDU lent from where it lies, or that bytes are waited for.
     /// Nothing is taken off: `advance` by `end`, by `dropped`, or by `TRIES` in a crowd does that.
     ///
+    /// A frame that lies at the end of the ring and goes on at its front is copied to `seam`, and its PDU is lent from there.
+    ///
     /// # Errors
     /// `Crowd` exactly where no frame stands at the first `TRIES` offsets.
-    pub fn front(&self) -> Result<Front<'_>, Crowd>
+    pub fn front<'a>(&'a self, seam: &'a mut [u8; CAPACITY]) -> Result<Front<'a>, Crowd>
         ensures finds { Finds self.now result }
         ensures most { length self.now ≤ CAPACITY }
 
         // In terms of all bytes that were given so far: which frame it is, and what the bytes behind it then stand for.
         ensures stands { (bytes cuts : List ℕ) (taken : List (ℕ × List ℕ)) → StandsFor bytes cuts self.now taken → FindsIn bytes cuts taken self.now result }
     {
-        find(&self.bytes[self.start..self.end])
+        let (first, second) = self.ring.as_slices();
+        find_in_two(first, second, seam)
     }
 
     /// The search, and what it takes off.
@@ -203,7 +210,8 @@ impl Inbox {
         ensures gives { TakesFrame self.old result self.new }
         ensures room { IfOk result (λ found. IfNone found (length self.new < CAPACITY)) }
     {
-        match self.front() {
+        let mut seam = [0; CAPACITY];
+        match self.front(&mut seam) {
             Err(Crowd) => {
                 self.advance(TRIES);
                 Err(RtuError::TooManyRetries)

@@ -1,11 +1,12 @@
 //! Laws on the frames in a list of bytes, about definitions alone. Each is proved by its contract, and its body is empty.
-ghost use Rattle.std.specs.Prelude.{◌≡◌, ◌≢◌, ◌↔◌, ℕ, ◌+◌, ◌-◌, ◌/◌, ◌%◌, ◌^◌, bit_xor, ◌<◌, ◌≤◌, All, Contains, List, [], ◌∷◌, ◌++◌, map, length, take, drop, slice_index};
+ghost use Rattle.std.specs.Prelude.{◌≡◌, ◌≢◌, ◌↔◌, ℕ, ◌+◌, ◌-◌, ◌/◌, ◌%◌, ◌^◌, bit_xor, ◌<◌, ◌≤◌, All, Contains, List, [], ◌∷◌, ◌++◌, map, length, take, drop, get_or, slice_index};
 ghost use Rattle.std.specs.List.{AllByRecursion};
 ghost use Rattle.modbus_rtu.specs.declared.verdict.Verdict.{Verdict};
 ghost use Rattle.modbus_rtu.specs.declared.verdict.Verdict.TheVariants.{Open, Bad, Good};
 ghost use Rattle.modbus_rtu.specs.declared.search.TheConstants.{TRIES};
 ghost use Rattle.modbus_rtu.specs.declared.search.Next.{Next};
 ghost use Rattle.modbus_rtu.specs.declared.search.Next.TheVariants.{Frame, Waiting, TooManyRetries};
+ghost use Rattle.modbus_rtu.specs.declared.crc_table.TheConstants.{EIGHT_BITS};
 ghost use Rattle.modbus_rtu.specs.Checksum.{shifts, with_byte};
 ghost use Rattle.modbus_rtu.specs.Frame.{frame, verdict};
 ghost use Rattle.modbus_rtu.specs.ResponseHead.{HasResponseHead, response_verdict};
@@ -14,12 +15,17 @@ ghost use Rattle.modbus_rtu.specs.Leftmost.{IsLeftmost, IsUncovered};
 ghost use Rattle.modbus_rtu.specs.Place.{frames_below};
 ghost use Rattle.modbus_rtu.specs.Stands.{StandsFor, IsTakenNext, IsUsedUp, IsFirstCrowd, HasCrowd, frame_at};
 ghost use Rattle.modbus_rtu.specs.Quiet.{IsQuietLine};
-ghost use Rattle.modbus_rtu.specs.Framed.{HasHead, stream_of, IsWholeReading};
+ghost use Rattle.modbus_frame.specs.Meaning.{Asked};
+ghost use Rattle.modbus_rtu.specs.Framed.{HasHead, IsModelledAsk, message_of, stream_of, IsWholeReading};
 
 /// The checksum goes by whole bytes: a byte's eight bit steps move the high half of the register down, and add what eight bit steps make
 /// of its low half and the byte (MODBUS over Serial Line V1.02, appendix B).
 pub fn crc_steps()
-    ensures { (register byte : ℕ) → byte < 2 ^ 8 → with_byte register byte ≡ bit_xor (register / 256) (shifts 8 (bit_xor register byte % 256)) }
+    ensures bits { (register byte : ℕ) → byte < 2 ^ 8 → with_byte register byte ≡ bit_xor (register / 256) (shifts 8 (bit_xor register byte % 256)) }
+
+    // The table has what eight bit steps make of each number of a byte, so one look into it is eight bit steps.
+    ensures entries { (low : ℕ) → low < 256 → get_or EIGHT_BITS low 0 ≡ shifts 8 low }
+    ensures table { (register byte : ℕ) → byte < 2 ^ 8 → with_byte register byte ≡ bit_xor (register / 256) (get_or EIGHT_BITS (bit_xor register byte % 256) 0) }
 {}
 
 /// A verdict good or bad is the same in every list that the bytes begin.
@@ -92,6 +98,16 @@ pub fn one_answer()
 pub fn frames_alone()
     ensures { (messages : List (ℕ × List ℕ)) → AllByRecursion HasHead messages → IsWholeReading (stream_of messages) messages }
 {}
+
+/// Frames of requests of modelled kinds, one after another, each for some slave, have exactly these as leftmost frames, with the stop at
+/// the end, and they are a quiet line: each offset is that of a frame or lies in one.
+pub fn request_frames()
+    ensures heads { (asked : ℕ × Asked) → IsModelledAsk asked.1 → HasHead (message_of asked) }
+    ensures alone { (asked : List (ℕ × Asked)) → AllByRecursion (λ one. IsModelledAsk one.1) asked → IsWholeReading (stream_of (map message_of asked)) (map message_of asked) }
+    ensures quiet { (asked : List (ℕ × Asked)) → AllByRecursion (λ one. IsModelledAsk one.1) asked → IsQuietLine (stream_of (map message_of asked)) (map message_of asked) }
+{
+    modbus_pdu::requests_have_sizes();
+}
 
 /// What a reader stands for, from its opening on over each search and each read.
 pub fn standing()

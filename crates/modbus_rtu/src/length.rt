@@ -3,6 +3,7 @@ ghost use Rattle.std.specs.Prelude.{◌≡◌, ℕ, ◌+◌, ◌<◌, ◌≤◌,
 ghost use Rattle.std.specs.Option.{option_map};
 ghost use Rattle.modbus_rtu.specs.Frame.{Head, head};
 
+use modbus_pdu::MAX_PDU;
 use std::error::Error;
 use std::fmt;
 
@@ -26,6 +27,9 @@ pub(crate) const OVERHEAD: usize = 3;
 
 /// The bytes of the longest request frame, which are the most that an inbox holds.
 pub const CAPACITY: usize = MOST_PDU + OVERHEAD;
+
+/// The bytes of the longest response frame, whose PDU has at most 253 (V1.1b3, section 4.1).
+pub const LONGEST_RESPONSE: usize = MAX_PDU + OVERHEAD;
 
 /// The MEI type of Read Device Identification.
 pub(crate) const MEI_DEVICE_IDENTIFICATION: u8 = 0x0E;

@@ -16,7 +16,6 @@ pub mod laws;
 mod length;
 mod response_length;
 mod search;
-mod span;
 mod verdict;
 
 pub use crate::codec::{ClientCodec, ServerCodec};
@@ -25,7 +24,9 @@ pub use crate::decoder::{Decoder, FrameDecoder, FrameFault, RequestDecoder, Resp
 pub use crate::encoder::{encode_request_frame, encode_response_frame};
 pub use crate::front::{Crowd, Front};
 pub use crate::inbox::{Inbox, RtuError, RtuFrame};
-pub use crate::length::{CAPACITY, LengthRule, MOST_PDU, NoLength, RequestRule, request_pdu_len};
+pub use crate::length::{
+    CAPACITY, LONGEST_RESPONSE, LengthRule, MOST_PDU, NoLength, RequestRule, request_pdu_len,
+};
 pub use crate::response_length::{ResponseRule, response_pdu_len};
 pub use crate::search::{Next, TRIES, next_frame, next_frame_by};
 pub use crate::verdict::{Verdict, judge, judge_by};

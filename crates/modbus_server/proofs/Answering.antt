@@ -1,5 +1,5 @@
 -- The exchange of one message.
-use Rattle.std.proofs.Common.{◌≢◌, ◌-◌, ◌^◌, min, ◌≡◌, ℕ, ◌+◌, List, [], ◌∷◌, length, refl, sym, ap, ◌∙◌, arith, Ok, Err, None, Some, Result, ◌++◌, inl, inr}
+use Rattle.std.proofs.Common.{◌≢◌, ◌-◌, ◌^◌, min, ◌≡◌, ℕ, ◌+◌, List, [], ◌∷◌, length, refl, sym, ap, ◌∙◌, arith, Ok, Err, None, Some, Result, ◌++◌}
 use Rattle.std.specs.Result.{IsOkAnd}
 use Rattle.modbus_frame.specs.Meaning.{Asked}
 use Rattle.modbus_frame.specs.declared.fault.Reason.{Reason}
@@ -30,8 +30,8 @@ pub exception_is : (code : ℕ) (e : ExceptionCode) → reply_pdu code (exceptio
 unfolding reply_pdu
 exception_is code e = refl
 
-pub is_request : (r : Result Asked Reason) (P : Asked → Type 0) → IsOkAnd r P → (request : Asked) × (r ≡ Ok request)
-is_request (Ok request) P h = (request, refl)
+pub is_request : (r : Result Asked Reason) (P : Asked → Type 0) → IsOkAnd r P → (request : Asked) × (r ≡ Ok request) × P request
+is_request (Ok request) P h = (request, refl, h)
 is_request (Err reason) P h = absurd h
 
 abbrev made_of : Result (Unit {0}) EncodeError → Result Answer AnswerError
@@ -59,26 +59,23 @@ module _ (F : Framing) where
         → request_of pdu ≡ Ok request → A.gives old (F.slave header) request outcome new → Answered F A (header, pdu) old new (exchange header request outcome)
     answered header pdu old new request outcome e step = record { asked = ap (λ r. (header, r)) e; step = step }
 
-    -- the reply of an exchange that is not silent was framed, or not
+    -- the reply of an exchange that is not silent was framed, or is too long
     pub framed_as : (message : Message F) (old new : S) (given : Result Response ExceptionResponse) (before after : List ℕ) (result : Result (Unit {0}) EncodeError)
-        → AsksAs F A message old (Ok (Some given)) new → Encodes (F.adu message.0 (response_result_pdu given)) (response_result_pdu given) before result after → before ≡ []
+        → AsksAs F A message old (Ok (Some given)) new → Encodes (F.adu message.0 (response_result_pdu given)) (response_result_pdu given) before result after → before ≡ [] → result ≢ Err encode.NoMemory
         → AnswersAs F A message old (made_of result) new after
-    framed_as message old new given before after (Ok done) (x, answer, some, is) encodes empty =
+    framed_as message old new given before after (Ok done) (x, answer, some, is) encodes empty there =
         let same = ap length is in
         let to : message.0 ≡ x.header = ap (λ (q : Question F). q.0) answer.asked in
         let made : after ≡ F.adu message.0 (response_result_pdu given) = encodes.ok ∙ ap (λ front. front ++ F.adu message.0 (response_result_pdu given)) empty in
         (x, answer, omega (arith, same, encodes.fits), some, made ∙ ap (λ h. F.adu h (response_result_pdu given)) to ∙ ap (F.adu x.header) (sym is) ∙ sym (framed_some x.header (code_of x.request) x.outcome some))
-    framed_as message old new given before after (Err (encode.TooLong size)) (x, answer, some, is) encodes empty =
+    framed_as message old new given before after (Err (encode.TooLong size)) (x, answer, some, is) encodes empty there =
         let same = ap length is in
         (x, answer, encodes.cause.1 ∙ ap (λ (n : ℕ). min n (2 ^ 64 - 1)) (sym same), omega (arith, encodes.cause))
-    framed_as message old new given before after (Err encode.NoMemory) (x, answer, some, is) encodes empty =
-        let same = ap length is in
-        (x.request, ap (λ (q : Question F). q.1) answer.asked, inr (inr (x, answer, omega (arith, same, encodes.cause))))
+    framed_as message old new given before after (Err encode.NoMemory) asks encodes empty there = absurd (there refl)
 
     pub not_asked : (message : Message F) (old new : S) (made : List ℕ) (error : AnswerError) → AsksAs F A message old (Err error) new → AnswersAs F A message old (Err error) new made
     not_asked message old new made (Refused reason) h = h
-    not_asked message old new made NoMemory (request, asked, inl same) = (request, asked, inl same)
-    not_asked message old new made NoMemory (request, asked, inr wanted) = (request, asked, inr (inl wanted))
+    not_asked message old new made NoMemory h = h
     not_asked message old new made (TooLong size) h = absurd h
 
     pub silent : (message : Message F) (old new : S) (made : List ℕ) → AsksAs F A message old (Ok None) new → made ≡ [] → AnswersAs F A message old (Ok Quiet) new made

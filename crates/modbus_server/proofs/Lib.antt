@@ -4,6 +4,7 @@ pub mod Moved
 pub mod Stepping
 pub mod OnePiece
 pub mod Running
+pub mod Polling
 pub mod Through
 pub mod Asked
 pub mod Completing
@@ -14,3 +15,6 @@ pub mod Contained
 pub mod RtuLine
 pub mod RtuFaults
 pub mod RtuOneFault
+pub mod Unspawned
+pub mod Rooms
+pub mod AtOpening

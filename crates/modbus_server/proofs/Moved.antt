@@ -15,14 +15,14 @@ keeps_more old now new w e f =
     f ∙ ap (λ (s : State). record s { waiting = w }) e ∙ ap (λ v. record old { waiting = v }) (sym (ap (λ (s : State). s.waiting) f))
 
 module _ (F : Framing) (a b : Input) (old new : State) where
-  pub reads_none : b ≡ a → new.is_open ≡ false → Reads F a b old new (Err NoMemory)
-  reads_none same closed = record {
+  pub reads_none : b ≡ a → new.is_open ≡ false → F.ReadsTakeMemory → Reads F a b old new (Err NoMemory)
+  reads_none same closed takes = record {
     fed = [];
     made = [];
     source = subst (Advances a) (sym same) (Advances-same a);
     read = λ told. bytes_read-none a b (ap (λ (i : Input). i.given) same);
     cuts = λ told. cuts_made-none a b (ap (λ (i : Input). i.cuts) same);
-    gives = (refl, refl, closed);
+    gives = (refl, refl, closed, takes);
     ended = λ told. tt;
     cause = λ e. cc;
   }

@@ -244,7 +244,7 @@ module _ (F : Framing) {S X : Type 0} (A : Answering S) (stops : X → ℕ) (loo
       made = [];
       sent = [];
       passes = passes_none a k;
-      served = wanting F A [] [] [] start start [] [] (opened F A start stands) (inr (inr refl));
+      served = wanting F A [] [] [] start start [] [] (opened F A start stands) start (inr (inr (refl, refl, refl)));
       rooms = tt;
       spends = omega arith;
       ended = λ told. tt;

@@ -1,5 +1,5 @@
 -- What a connection stands for, carried over a message, over what is written of a reply, and over what is fed.
-use Rattle.std.proofs.Common.{◌≡◌, ◌⊎◌, inl, inr, ℕ, List, [], ◌∷◌, ◌++◌, map, length, refl, sym, ap, ◌∙◌, subst, Result, Ok, Err, append-nil, append_assoc, arith}
+use Rattle.std.proofs.Common.{◌≡◌, inl, ℕ, List, [], ◌∷◌, ◌++◌, map, length, refl, sym, ap, ◌∙◌, subst, Result, Ok, Err, append-nil, append_assoc}
 use Rattle.std.proofs.lemmas.List.{map-append}
 use Rattle.std.proofs.lemmas.List.Elements.{All-append, All-cons, All-nil}
 use Rattle.std.proofs.lemmas.Grind.{flat_map-append}
@@ -16,8 +16,8 @@ use Rattle.modbus_service.specs.Outcome.{silence}
 use Rattle.modbus_server.specs.Framing.{Framing, Message}
 use Rattle.modbus_service.specs.Answering.{Answering}
 use Rattle.modbus_server.specs.Exchanges.{Exchange, GivesOutcome, Run, ReplyFits, reply_of, output, last_reply, asked_of, asks}
-use Rattle.modbus_server.specs.Answer.{Answered, Wanted, AnswersAs}
-use Rattle.modbus_server.specs.Serving.{Stands, NextIsRequest, NothingFails, Served, Halt, Halts, refused, too_long, Wanting}
+use Rattle.modbus_server.specs.Answer.{Answered, AnswersAs}
+use Rattle.modbus_server.specs.Serving.{Stands, NextIsRequest, Served, Halt, Halts, refused, too_long, NextTakesMemory, WantsMemory, Wanting}
 use Rattle.modbus_server.specs.Taking.{TakesAs, next_of}
 
 module _ (F : Framing) where
@@ -38,7 +38,7 @@ module _ (F : Framing) where
     run_more a (y ∷ ys) b x c (m, first, rest) step = (m, first, run_more m ys b x c rest step)
 
     -- before the first byte
-    pub opened : (start : S) → F.StandsFor [] [] [] [] → Stands F A [] [] [] start start [] [] []
+    abbrev pub opened : (start : S) → F.StandsFor [] [] [] [] → Stands F A [] [] [] start start [] [] []
     opened start stands = record { taken = []; stands = stands; asked = refl; run = refl; fit = All-nil (ReplyFits F); wrote = refl; late = ([], refl) }
 
     -- some of what waits is written
@@ -116,25 +116,9 @@ module _ (F : Framing) where
         halts = halts;
       }
 
-      -- memory is wanting after these exchanges, and the service stands where they or its own want of memory left it
-      wanting_at : (next : S) → (next ≡ now) ⊎ ((message : Message F) × F.IsNext bytes cuts s.taken message × Wanted F A message now next) → NothingFails F bytes cuts exchanges
-          → Wanting F A bytes cuts opening next written
-      wanting_at next left none = record {
-        held = held;
-        waiting = [];
-        exchanges = exchanges;
-        ends = now;
-        stood = s;
-        left = left;
-        before = exchanges;
-        last = [];
-        splits = sym (append-nil exchanges);
-        once = omega arith;
-        none_fails = none;
-      }
-
-      pub wanting : NothingFails F bytes cuts exchanges → Wanting F A bytes cuts opening now written
-      wanting none = wanting_at now (inl refl) none
+      -- memory is wanting after these exchanges
+      pub wanting : (next : S) → WantsMemory F A bytes cuts held s.taken now next → Wanting F A bytes cuts opening next written
+      wanting next cause = record { held = held; exchanges = exchanges; ends = now; stood = s; cause = cause }
 
       module _ {E : Type 0} (told : E → ProcessError) (message : Message F) (held' : List ℕ) (next : S) (made : List ℕ)
           (stands : F.StandsFor bytes cuts held' (s.taken ++ message ∷ [])) (is_next : F.IsNext bytes cuts s.taken message) where
@@ -154,24 +138,7 @@ module _ (F : Framing) where
         next_is request asked = (s.taken, message, is_next, s.asked, request, asked)
 
         wants : AnswersAs F A message now (Err fault.NoMemory) next made → TakesAs F A told bytes cuts held' opening next written made exchanges (Err NoMemory)
-        wants (request, asked, inl same) = (wanting_at next (inl same) (inl (next_is request asked)), next_is request asked)
-        wants (request, asked, inr (inl wanted)) = (wanting_at next (inr (message, is_next, wanted)) (inl (next_is request asked)), next_is request asked)
-        wants (request, asked, inr (inr (x, answered, fits))) = (
-          record {
-            held = held';
-            waiting = reply_of F x;
-            exchanges = exchanges ++ x ∷ [];
-            ends = next;
-            stood = answered_on message held' next x stands answered fits (reply_of F x) refl;
-            left = inl refl;
-            before = exchanges;
-            last = x ∷ [];
-            splits = refl;
-            once = omega arith;
-            none_fails = inl (next_is request asked);
-          },
-          next_is request asked,
-        )
+        wants (request, asked, wanted) = (wanting next (inl (message, is_next, (request, asked, wanted))), next_is request asked)
 
         pub takes_on : (result : Result Answer AnswerError) → AnswersAs F A message now result next made → TakesAs F A told bytes cuts held' opening next written made exchanges (next_of result)
         takes_on (Ok Framed) h = replied h
@@ -179,3 +146,19 @@ module _ (F : Framing) where
         takes_on (Err (fault.Refused reason)) h = refuses reason h
         takes_on (Err (fault.TooLong size)) h = overlong size h
         takes_on (Err fault.NoMemory) h = wants h
+
+    -- the answer to the next message wants memory only for that message
+    pub next_takes : (message : Message F) (old new : S) (made : List ℕ) (bytes cuts : List ℕ) (taken : List (Message F)) (result : Result Answer AnswerError)
+        → AnswersAs F A message old result new made → F.IsNext bytes cuts taken message → result ≡ Err fault.NoMemory → NextTakesMemory F A bytes cuts taken old new
+    next_takes message old new made bytes cuts taken (Ok answer) h is_next e = cc
+    next_takes message old new made bytes cuts taken (Err (fault.Refused reason)) h is_next e = cc
+    next_takes message old new made bytes cuts taken (Err (fault.TooLong size)) h is_next e = cc
+    next_takes message old new made bytes cuts taken (Err fault.NoMemory) h is_next e = (message, is_next, h)
+
+-- what a connection tells of want of memory is that of the answer
+pub told_memory : {E : Type 0} (result : Result Answer AnswerError) → next_of {E = E} result ≡ Err NoMemory → result ≡ Err fault.NoMemory
+told_memory (Ok Framed) e = cc
+told_memory (Ok Quiet) e = cc
+told_memory (Err (fault.Refused reason)) e = cc
+told_memory (Err (fault.TooLong size)) e = cc
+told_memory (Err fault.NoMemory) e = refl

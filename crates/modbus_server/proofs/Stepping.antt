@@ -1,5 +1,5 @@
 -- One step is what the connection takes, and what is moved between it and the outside.
-use Rattle.std.proofs.Common.{◌≡◌, ◌≢◌, ℕ, ◌<◌, List, [], ◌∷◌, ◌++◌, length, refl, sym, ap, ◌∙◌, subst, Ok, Err, Result, Bool, true, false, append-nil, length-append, inl, inr}
+use Rattle.std.proofs.Common.{◌≡◌, ◌≢◌, ◌⊎◌, ℕ, ◌<◌, List, [], ◌∷◌, ◌++◌, length, refl, sym, ap, ◌∙◌, subst, Ok, Err, Result, Bool, true, false, append-nil, length-append, inl, inr}
 use Rattle.std.proofs.lemmas.List.{take_at}
 use Rattle.modbus_link.specs.Outside.{Input, Output, Rose, shifted, RisesTo}
 use Rattle.modbus_link.specs.Passing.{Passes, Sends, rises_none, rises_one, passes_out, passes_in, passes_none}
@@ -8,14 +8,15 @@ use Rattle.modbus_server.specs.declared.error.ProcessError.{ProcessError}
 use Rattle.modbus_server.specs.declared.error.ProcessError.TheVariants.{ReadFault, WriteFault, TooManyRetries, BytesRemaining, InvalidRequest, ResponseTooLong, TurnLimit, InvalidLength, InvalidProtocol, NoMemory}
 use Rattle.modbus_server.specs.declared.error.NextError.{NextError}
 use Rattle.modbus_server.specs.declared.error.NextError.TheVariants as next
+use Rattle.modbus_server.specs.declared.error.Next.{Next}
 use Rattle.modbus_server.specs.declared.error.Next.TheVariants.{Reply, Waiting}
 use Rattle.modbus_server.specs.declared.error.Next.TheVariants as take
 use Rattle.modbus_server.specs.declared.error.Step.{Step}
 use Rattle.modbus_server.specs.declared.error.Step.TheVariants.{Answered, Silent, MoreRead, Hungry, Ended}
-use Rattle.modbus_server.specs.Framing.{Framing, IsOfFraming}
+use Rattle.modbus_server.specs.Framing.{Framing, Message, IsOfFraming}
 use Rattle.modbus_service.specs.Answering.{Answering}
 use Rattle.modbus_server.specs.Exchanges.{Exchange}
-use Rattle.modbus_server.specs.Serving.{Stands, AreAllAnswered, Served, remaining, broken, Wanting, EndsAs}
+use Rattle.modbus_server.specs.Serving.{Stands, AreAllAnswered, Served, remaining, broken, NextTakesMemory, Wanting, EndsAs}
 use Rattle.modbus_server.specs.State.{State}
 use Rattle.modbus_server.specs.Taking.{TakesAs, Took, told_next, IsToldWell}
 use Rattle.modbus_server.specs.Moving.{Writes, Reads, EndsInput}
@@ -65,19 +66,37 @@ module _ (F : Framing) {S : Type 0} (A : Answering S) where
   other_than told P a b d e f h (next.TooLong size) own = f size
   other_than told P a b d e f h next.NoMemory own = h
 
+  -- want of memory that is told is want of memory
+  abbrev of_step : ProcessError → Result Step ProcessError
+  of_step error = Err error
+
+  abbrev of_next : {E : Type 0} → NextError E → Result Next (NextError E)
+  of_next error = Err error
+
+  memory_told : {E : Type 0} (told : E → ProcessError) (error : NextError E) → IsToldWell told error → of_step (told_next told error) ≡ of_step NoMemory → of_next error ≡ of_next next.NoMemory
+  memory_told told next.NoMemory own e = refl
+  memory_told told (next.Broken fault) own e = absurd (of_framing (λ f. of_step f ≢ of_step NoMemory) (λ e. cc) (λ e. cc) (λ p e. cc) (told fault) own e)
+  memory_told told (next.Refused reason) own e = cc
+  memory_told told (next.TooLong size) own e = cc
+
   -- of all for which a connection that holds these bytes stands
   abbrev ForAll : List ℕ → S → (List ℕ → List ℕ → List ℕ → S → List (Exchange F) → Type 0) → Type 0
   ForAll held now P = (bytes cuts written : List ℕ) (opening : S) (exchanges : List (Exchange F)) → Stands F A bytes cuts held opening now written [] exchanges
       → P bytes cuts written opening exchanges
+
+  -- what a step says of want of memory
+  abbrev Memory : List ℕ → S → S → Result Step ProcessError → Type 0
+  Memory held before after result = result ≡ Err NoMemory → (bytes cuts : List ℕ) (taken : List (Message F)) → F.StandsFor bytes cuts held taken
+      → NextTakesMemory F A bytes cuts taken before after ⊎ (F.ReadsTakeMemory × (after ≡ before))
 
   module _ (old new : State) (before after : S) (a : Input) (k : Output) (may_read : Bool) where
     -- it neither reads nor writes
     still : (result : Result Step ProcessError)
         → ForAll old.held before (λ bytes cuts written opening exchanges. StepsAs F A bytes cuts new.held opening after written new.waiting exchanges result)
         → ForAll old.held before (λ bytes cuts written opening exchanges. ReadsLast F bytes cuts exchanges result)
-        → LeavesAs F.Waits F.most [] [] may_read old new before after result → EndsInput result a.left → (result ≡ Err ReadFault → ⊥) → (result ≡ Err WriteFault → ⊥)
+        → LeavesAs F.Waits F.most [] [] may_read old new before after result → Memory old.held before after result → EndsInput result a.left → (result ≡ Err ReadFault → ⊥) → (result ≡ Err WriteFault → ⊥)
         → Stepped F A old new before after a a k k may_read result
-    still result stands last leaves ended no_read_fault no_write_fault = record {
+    still result stands last leaves memory ended no_read_fault no_write_fault = record {
       fed = [];
       made = [];
       sent = [];
@@ -87,6 +106,7 @@ module _ (F : Framing) {S : Type 0} (A : Answering S) where
       last = last;
       rooms = λ bytes cuts written opening exchanges s. tt;
       leaves = leaves;
+      memory = memory;
       ended = λ t. ended;
       idle = λ e. refl;
       read_fault = λ e. absurd (no_read_fault e);
@@ -102,6 +122,7 @@ module _ (F : Framing) {S : Type 0} (A : Answering S) where
         (λ bytes cuts written opening exchanges s.
         last_told told bytes cuts new.held opening after written new.waiting exchanges error own (took.stands bytes cuts written opening exchanges s))
         (refl, took.goes_on, other_than told (EndsIfMay may_read) tt tt (λ p. tt) (λ r. tt) (λ n. tt) tt error own)
+        (λ e bytes cuts taken s. inl (took.memory (memory_told told error own e) bytes cuts taken s))
         (other_than told (λ e. EndsInput (Err e) a.left) tt tt (λ p. tt) (λ r. tt) (λ n. tt) tt error own)
         (λ e.
         let same : told_next told error ≡ ReadFault = cc in
@@ -116,7 +137,7 @@ module _ (F : Framing) {S : Type 0} (A : Answering S) where
         (λ bytes cuts written opening exchanges s.
         let h = took.stands bytes cuts written opening exchanges s in
         (h.0, subst (λ w. Stands F A bytes cuts new.held opening after written w (exchanges ++ h.0 ∷ [])) (sym took.keeps.1) h.1, h.2))
-        (λ bytes cuts written opening exchanges s. tt) (refl, took.keeps.0, took.keeps.1, took.goes_on) tt (λ e. cc) (λ e. cc)
+        (λ bytes cuts written opening exchanges s. tt) (refl, took.keeps.0, took.keeps.1, took.goes_on) (λ e. cc) tt (λ e. cc) (λ e. cc)
 
     pub stepped_hungry : {E : Type 0} (told : E → ProcessError) → Took F A told old new before after (Ok Waiting) → may_read ≡ false → Stepped F A old new before after a a k k may_read (Ok Hungry)
     stepped_hungry told took may =
@@ -125,7 +146,7 @@ module _ (F : Framing) {S : Type 0} (A : Answering S) where
         let h = took.stands bytes cuts written opening exchanges s in
         subst (λ w. (s : Stands F A bytes cuts new.held opening after written w exchanges) × F.IsAll bytes cuts new.held s.taken) (sym took.keeps.1) h)
         (λ bytes cuts written opening exchanges s. let h = took.stands bytes cuts written opening exchanges s in (h.0.taken, new.held, h.1, h.0.asked))
-        (refl, took.keeps.0, took.keeps.1, took.goes_on, may, took.keeps.2) tt (λ e. cc) (λ e. cc)
+        (refl, took.keeps.0, took.keeps.1, took.goes_on, may, took.keeps.2) (λ e. cc) tt (λ e. cc) (λ e. cc)
 
     -- where nothing was fed
     unfed : (P : List ℕ → List ℕ → List ℕ → Type 0) (bytes cuts written fed : List ℕ) (made : List (ℕ × ℕ)) → fed ≡ [] → made ≡ [] → P bytes cuts written
@@ -150,9 +171,9 @@ module _ (F : Framing) {S : Type 0} (A : Answering S) where
         writes_as : (result : Result Step ProcessError)
             → ForAll old.held before (λ bytes cuts written opening exchanges. StepsAs F A bytes cuts new.held opening after (written ++ sends.sent) new.waiting exchanges result)
             → ForAll old.held before (λ bytes cuts written opening exchanges. ReadsLast F bytes cuts exchanges result)
-            → LeavesAs F.Waits F.most [] [] may_read old new before after result → EndsInput result b.left → (result ≡ Err ReadFault → ⊥) → (result ≡ Err WriteFault → Rose k.faults m.faults)
+            → LeavesAs F.Waits F.most [] [] may_read old new before after result → result ≢ Err NoMemory → EndsInput result b.left → (result ≡ Err ReadFault → ⊥) → (result ≡ Err WriteFault → Rose k.faults m.faults)
             → Stepped F A old new before after a b k m may_read result
-        writes_as result stands last leaves ended no_read_fault cause = record {
+        writes_as result stands last leaves there ended no_read_fault cause = record {
           fed = [];
           made = [];
           sent = sends.sent;
@@ -163,6 +184,7 @@ module _ (F : Framing) {S : Type 0} (A : Answering S) where
           last = last;
           rooms = λ bytes cuts written opening exchanges s. tt;
           leaves = leaves;
+          memory = λ e. absurd (there e);
           ended = λ t. ended;
           idle = λ e. unread;
           read_fault = λ e. absurd (no_read_fault e);
@@ -177,13 +199,13 @@ module _ (F : Framing) {S : Type 0} (A : Answering S) where
             let h = took.stands bytes cuts written opening exchanges s in
             let w = wrote_reply bytes cuts written opening exchanges s in
             (w.0, subst (λ held. Stands F A bytes cuts held opening after (written ++ sends.sent) new.waiting (exchanges ++ w.0 ∷ [])) (sym writes.0) w.1, h.2))
-            (λ bytes cuts written opening exchanges s. tt) (refl, subst (λ h. length h < length old.held) (sym writes.0) took.keeps, writes.1, writes.2 ∙ took.goes_on) tt (λ e. cc) cause
+            (λ bytes cuts written opening exchanges s. tt) (refl, subst (λ h. length h < length old.held) (sym writes.0) took.keeps, writes.1, writes.2 ∙ took.goes_on) (λ e. cc) tt (λ e. cc) cause
         stepped_sent (Err WriteFault) writes cause =
             writes_as (Err WriteFault)
             (λ bytes cuts written opening exchanges s.
             let w = wrote_reply bytes cuts written opening exchanges s in
             record { held = mid.held; waiting = new.waiting; exchanges = exchanges ++ w.0 ∷ []; stood = w.1 })
-            (λ bytes cuts written opening exchanges s. tt) (refl, writes.1, tt) tt (λ e. cc) cause
+            (λ bytes cuts written opening exchanges s. tt) (refl, writes.1, tt) (λ e. cc) tt (λ e. cc) cause
         stepped_sent (Ok _) writes cause = absurd writes
         stepped_sent (Err _) writes cause = absurd writes
 
@@ -199,10 +221,11 @@ module _ (F : Framing) {S : Type 0} (A : Answering S) where
         served_all bytes cuts written opening exchanges s =
             let h = took.stands bytes cuts written opening exchanges s in halted F A bytes cuts mid.held opening after written exchanges h.0 (remaining mid.held) after (h.1, refl)
 
-        wanting_all : (bytes cuts written : List ℕ) (opening : S) (exchanges : List (Exchange F)) → Stands F A bytes cuts old.held opening before written [] exchanges → Wanting F A bytes cuts opening after written
-        wanting_all bytes cuts written opening exchanges s =
+        wanting_all : F.ReadsTakeMemory → (bytes cuts written : List ℕ) (opening : S) (exchanges : List (Exchange F)) → Stands F A bytes cuts old.held opening before written [] exchanges
+            → Wanting F A bytes cuts opening after written
+        wanting_all takes bytes cuts written opening exchanges s =
             let h = took.stands bytes cuts written opening exchanges s in
-            wanting F A bytes cuts mid.held opening after written exchanges h.0 (inr (inl (all_answered bytes cuts written opening exchanges s)))
+            wanting F A bytes cuts mid.held opening after written exchanges h.0 after (inr (inl (takes, h.1, refl)))
 
         passes_read : (result : Result Step ProcessError) (reads : Reads F a b mid new result) → RisesTo 0 reads.made (length reads.fed) → Passes a b k m reads.fed reads.made []
         passes_read result reads rises = passes_in a b k m reads.fed reads.made unsent reads.source reads.read reads.cuts rises
@@ -211,9 +234,9 @@ module _ (F : Framing) {S : Type 0} (A : Answering S) where
         reads_none : (result : Result Step ProcessError) (reads : Reads F a b mid new result) → reads.fed ≡ [] → reads.made ≡ []
             → ForAll old.held before (λ bytes cuts written opening exchanges. StepsAs F A bytes cuts new.held opening after written new.waiting exchanges result)
             → ForAll old.held before (λ bytes cuts written opening exchanges. ReadsLast F bytes cuts exchanges result)
-            → LeavesAs F.Waits F.most reads.fed reads.made may_read old new before after result → (result ≡ Err WriteFault → ⊥)
+            → LeavesAs F.Waits F.most reads.fed reads.made may_read old new before after result → Memory old.held before after result → (result ≡ Err WriteFault → ⊥)
             → Stepped F A old new before after a b k m may_read result
-        reads_none result reads none_fed none_made stands last leaves no_write_fault = record {
+        reads_none result reads none_fed none_made stands last leaves memory no_write_fault = record {
           fed = reads.fed;
           made = reads.made;
           sent = [];
@@ -224,6 +247,7 @@ module _ (F : Framing) {S : Type 0} (A : Answering S) where
           last = last;
           rooms = λ bytes cuts written opening exchanges s. no_rooms bytes reads.fed reads.made none_made;
           leaves = leaves;
+          memory = memory;
           ended = reads.ended;
           idle = idle_not;
           read_fault = reads.cause;
@@ -255,6 +279,7 @@ module _ (F : Framing) {S : Type 0} (A : Answering S) where
                   subst (λ (m : List (ℕ × ℕ)). HaveRooms F.HasRoom (bytes ++ fed) (length bytes) (shifted (length bytes) m)) (sym gives.1)
                   (subst (λ x. F.HasRoom x gives.0) (sym (take_at bytes fed (length bytes) refl)) g.0, tt);
               leaves = (ap length gives.1, gives.5, none, gives.4 ∙ took.goes_on, may, took.keeps.2);
+              memory = λ e. absurd cc;
               ended = reads.ended;
               idle = idle_not;
               read_fault = reads.cause;
@@ -269,18 +294,19 @@ module _ (F : Framing) {S : Type 0} (A : Answering S) where
             let h = took.stands bytes cuts written opening exchanges s in
             subst (λ held. (s : Stands F A bytes cuts held opening after written new.waiting exchanges) × F.IsAll bytes cuts held s.taken × (held ≡ [])) (sym gives.3)
             (subst (λ w. (s : Stands F A bytes cuts mid.held opening after written w exchanges) × F.IsAll bytes cuts mid.held s.taken × (mid.held ≡ [])) (sym none) (h.0, h.1, gives.2)))
-            all_answered (gives.1, empty, none, gives.5, may, took.keeps.2) (λ e. cc)
+            all_answered (gives.1, empty, none, gives.5, may, took.keeps.2) (λ e. cc) (λ e. cc)
         stepped_read (Err BytesRemaining) reads =
             let gives = reads.gives in
             reads_none (Err BytesRemaining) reads gives.0 gives.1
-            (λ bytes cuts written opening exchanges s. (mid.held, gives.2, served_all bytes cuts written opening exchanges s)) all_answered (gives.1, gives.3, may) (λ e. cc)
+            (λ bytes cuts written opening exchanges s. (mid.held, gives.2, served_all bytes cuts written opening exchanges s)) all_answered (gives.1, gives.3, may) (λ e. cc) (λ e. cc)
         stepped_read (Err ReadFault) reads =
             let gives = reads.gives in
             reads_none (Err ReadFault) reads gives.0 gives.1
-            (λ bytes cuts written opening exchanges s. (mid.held, served_all bytes cuts written opening exchanges s)) all_answered (gives.1, gives.2, may) (λ e. cc)
+            (λ bytes cuts written opening exchanges s. (mid.held, served_all bytes cuts written opening exchanges s)) all_answered (gives.1, gives.2, may) (λ e. cc) (λ e. cc)
         stepped_read (Err NoMemory) reads =
             let gives = reads.gives in
-            reads_none (Err NoMemory) reads gives.0 gives.1 wanting_all
-            (λ bytes cuts written opening exchanges s. inr (inl (all_answered bytes cuts written opening exchanges s))) (gives.1, gives.2, tt) (λ e. cc)
+            reads_none (Err NoMemory) reads gives.0 gives.1 (wanting_all gives.3)
+            (λ bytes cuts written opening exchanges s. inr (inl (all_answered bytes cuts written opening exchanges s))) (gives.1, gives.2, tt)
+            (λ e bytes cuts taken s. inr (gives.3, took.keeps.2)) (λ e. cc)
         stepped_read (Ok _) reads = absurd reads.gives
         stepped_read (Err _) reads = absurd reads.gives

@@ -21,6 +21,7 @@ stepped_through F A old new before after n m n' m' a b k l may_read result s = r
   last = s.last;
   rooms = s.rooms;
   leaves = s.leaves;
+  memory = s.memory;
   ended = s.ended;
   idle = λ e. ap bare_input (s.idle e);
   read_fault = s.read_fault;

@@ -4,7 +4,7 @@ use Rattle.modbus_frame.specs.Meaning.{Asked}
 use Rattle.modbus_frame.specs.declared.response.Response.{Response}
 use Rattle.modbus_frame.specs.declared.response.ExceptionResponse.{ExceptionResponse}
 use Rattle.modbus_pdu.specs.declared.limits.TheConstants.{MAX_PDU}
-use Rattle.modbus_pdu.specs.RequestOf.{request_of}
+use Rattle.modbus_pdu.specs.RequestOf.{request_of, CarriesList}
 use Rattle.modbus_pdu.specs.ResponsePdu.{response_result_pdu}
 use Rattle.modbus_server.specs.declared.error.AnswerError.{AnswerError}
 use Rattle.modbus_server.specs.declared.error.AnswerError.TheVariants.{Refused, TooLong, NoMemory}
@@ -20,11 +20,10 @@ pub record Answered (F : Framing) {S : Type 0} (A : Answering S) (message : Mess
   pub asked : asked_of F message ≡ asks F x
   pub step : GivesOutcome F A old x new
 
--- want of memory in the service, which was asked about a message, left it so
-pub record Wanted (F : Framing) {S : Type 0} (A : Answering S) (message : Message F) (old new : S) : Type 0 where
-  pub request : Asked
-  pub asked : request_of message.1 ≡ Ok request
-  pub step : A.wants old (F.slave message.0) request new
+-- Memory was wanting for a message: for its request, which carries a list, and the service was not asked; or in the service.
+abbrev pub WantsFor : (F : Framing) → {S : Type 0} → Answering S → Message F → S → S → Type 0
+WantsFor F A message old new =
+    (request : Asked) × (request_of message.1 ≡ Ok request) × ((CarriesList request × (new ≡ old)) ⊎ A.wants old (F.slave message.0) request new)
 
 -- the service gave an answer that is not silent, with this PDU, or was silent; or why there is none
 abbrev pub AsksAs : (F : Framing) → {S : Type 0} → Answering S → Message F → S → Result (Option (Result Response ExceptionResponse)) AnswerError → S → Type 0
@@ -32,11 +31,10 @@ AsksAs F A message old (Ok (Some reply)) new =
     (x : Exchange F) × Answered F A message old new x × (x.outcome ≢ silence) × (reply_pdu (code_of x.request) x.outcome ≡ response_result_pdu reply)
 AsksAs F A message old (Ok None) new = (x : Exchange F) × Answered F A message old new x × (x.outcome ≡ silence)
 AsksAs F A message old (Err (Refused reason)) new = (request_of message.1 ≡ Err reason) × (new ≡ old)
-AsksAs F A message old (Err NoMemory) new = (request : Asked) × (request_of message.1 ≡ Ok request) × ((new ≡ old) ⊎ Wanted F A message old new)
+AsksAs F A message old (Err NoMemory) new = WantsFor F A message old new
 AsksAs F A message old (Err (TooLong size)) new = ⊥
 
--- The reply is framed, there is none, or why there is no answer. Without memory the message is a request: the service was not asked,
--- or had no memory either, or its answer fits.
+-- The reply is framed, there is none, or why there is no answer. There is room for each reply.
 abbrev pub AnswersAs : (F : Framing) → {S : Type 0} → Answering S → Message F → S → Result Answer AnswerError → S → List ℕ → Type 0
 AnswersAs F A message old (Ok Framed) new made =
     (x : Exchange F) × Answered F A message old new x × ReplyFits F x × (x.outcome ≢ silence) × (made ≡ reply_of F x)
@@ -44,6 +42,4 @@ AnswersAs F A message old (Ok Quiet) new made = (x : Exchange F) × Answered F A
 AnswersAs F A message old (Err (Refused reason)) new made = (request_of message.1 ≡ Err reason) × (new ≡ old)
 AnswersAs F A message old (Err (TooLong size)) new made =
     (x : Exchange F) × Answered F A message old new x × (size ≡ told_reply_size F x) × (MAX_PDU < size)
-AnswersAs F A message old (Err NoMemory) new made =
-    (request : Asked) × (request_of message.1 ≡ Ok request)
-    × ((new ≡ old) ⊎ (Wanted F A message old new ⊎ ((x : Exchange F) × Answered F A message old new x × ReplyFits F x)))
+AnswersAs F A message old (Err NoMemory) new made = WantsFor F A message old new

@@ -30,6 +30,10 @@ pub record Framing : Type 1 where
   pub most : ℕ
   -- of bytes and the length of a room: a read that comes after these bytes has that room
   pub HasRoom : List ℕ → ℕ → Type 0
+  -- whether the room of a read may take memory
+  pub ReadsTakeMemory : Type 0
+  -- the room in a buffer that is enough for each answer
+  pub reply_room : ℕ
 
 abbrev pub Message : Framing → Type 0
 Message F = F.Header × List ℕ

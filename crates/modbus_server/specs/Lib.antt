@@ -7,6 +7,7 @@ pub mod Taking
 pub mod Moving
 pub mod Piece
 pub mod Stepping
+pub mod Polled
 pub mod Stopping
 pub mod Complete
 pub mod First
@@ -14,3 +15,5 @@ pub mod Tcp
 pub mod FirstAdu
 pub mod Rtu
 pub mod FirstFault
+pub mod Listening
+pub mod Memory

@@ -24,7 +24,7 @@ GivesAs F old new fed made (Ok Ended) = (fed ≡ []) × (made ≡ []) × (old.he
 GivesAs F old new fed made (Ok _) = ⊥
 GivesAs F old new fed made (Err BytesRemaining) = (fed ≡ []) × (made ≡ []) × (old.held ≢ []) × (new.is_open ≡ false)
 GivesAs F old new fed made (Err ReadFault) = (fed ≡ []) × (made ≡ []) × (new.is_open ≡ false)
-GivesAs F old new fed made (Err NoMemory) = (fed ≡ []) × (made ≡ []) × (new.is_open ≡ false)
+GivesAs F old new fed made (Err NoMemory) = (fed ≡ []) × (made ≡ []) × (new.is_open ≡ false) × F.ReadsTakeMemory
 GivesAs F old new fed made (Err _) = ⊥
 
 -- whether the input ended

@@ -1,7 +1,7 @@
 -- The frames of a serial line (MODBUS over Serial Line V1.02, section 2.5.1).
 use Rattle.std.specs.Prelude.{◌≡◌, ℕ, ◌+◌, ◌-◌, ◌<◌, List, length}
 use Rattle.modbus_rtu.specs.declared.verdict.Verdict.TheVariants.{Open}
-use Rattle.modbus_rtu.specs.declared.length.TheConstants.{CAPACITY}
+use Rattle.modbus_rtu.specs.declared.length.TheConstants.{CAPACITY, LONGEST_RESPONSE}
 use Rattle.modbus_rtu.specs.Frame.{frame, verdict}
 use Rattle.modbus_rtu.specs.Leftmost.{IsLeftmost}
 use Rattle.modbus_rtu.specs.Stands.{StandsFor, IsFirstCrowd, IsTakenNext, IsUsedUp}
@@ -38,4 +38,6 @@ rtu = record {
   room = λ held. CAPACITY - length held;
   most = CAPACITY;
   HasRoom = HasRoomLeft;
+  ReadsTakeMemory = ⊥;
+  reply_room = LONGEST_RESPONSE;
 }

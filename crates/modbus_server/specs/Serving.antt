@@ -1,5 +1,5 @@
 -- What a connection stands for over everything that it was fed, and how a run of it ends.
-use Rattle.std.specs.Prelude.{◌≡◌, ◌≢◌, ◌⊎◌, ℕ, ◌<◌, ◌≤◌, List, [], ◌∷◌, ◌++◌, length, map, All, Result, Ok, Err}
+use Rattle.std.specs.Prelude.{◌≡◌, ◌≢◌, ◌⊎◌, ℕ, ◌<◌, List, [], ◌∷◌, ◌++◌, map, All, Result, Ok, Err}
 use Rattle.modbus_frame.specs.Meaning.{Asked}
 use Rattle.modbus_frame.specs.declared.fault.Reason.{Reason}
 use Rattle.modbus_pdu.specs.declared.limits.TheConstants.{MAX_PDU}
@@ -9,7 +9,7 @@ use Rattle.modbus_server.specs.declared.error.ProcessError.TheVariants.{ReadFaul
 use Rattle.modbus_server.specs.Framing.{Framing, Message}
 use Rattle.modbus_service.specs.Answering.{Answering}
 use Rattle.modbus_server.specs.Exchanges.{Exchange, GivesOutcome, Run, ReplyFits, told_reply_size, output, last_reply, asked_of, asks}
-use Rattle.modbus_server.specs.Answer.{Wanted}
+use Rattle.modbus_server.specs.Answer.{WantsFor}
 
 -- these bytes are an end of those
 abbrev pub IsEndOf : List ℕ → List ℕ → Type 0
@@ -97,21 +97,23 @@ pub record Unwritten (F : Framing) {S : Type 0} (A : Answering S) (bytes cuts : 
 abbrev pub NothingFails : (F : Framing) → List ℕ → List ℕ → List (Exchange F) → Type 0
 NothingFails F bytes cuts exchanges = NextIsRequest F bytes cuts exchanges ⊎ (AreAllAnswered F bytes cuts exchanges ⊎ (bytes ≡ []))
 
--- Memory was wanting: the service answered the first messages, all of the output was written but a rest of the last reply. The service
--- stands where the run ends, or where its own want of memory for the next message left it. No fault and no refusal comes before what
--- memory was wanting for: a read, or the next message, which may be the last one that was answered.
+-- The message that comes after these took memory.
+abbrev pub NextTakesMemory : (F : Framing) → {S : Type 0} → Answering S → List ℕ → List ℕ → List (Message F) → S → S → Type 0
+NextTakesMemory F A bytes cuts taken old new = (message : Message F) × F.IsNext bytes cuts taken message × WantsFor F A message old new
+
+-- What memory was wanting for, after these messages: for the next one; or for the room of a read, after all of them; or nothing was fed.
+abbrev pub WantsMemory : (F : Framing) → {S : Type 0} → Answering S → List ℕ → List ℕ → List ℕ → List (Message F) → S → S → Type 0
+WantsMemory F A bytes cuts held taken old new =
+    NextTakesMemory F A bytes cuts taken old new ⊎ ((F.ReadsTakeMemory × F.IsAll bytes cuts held taken × (new ≡ old)) ⊎ ((bytes ≡ []) × (taken ≡ []) × (new ≡ old)))
+
+-- Memory was wanting: the service answered the first messages, and their replies were written whole. It stands where they left it, or
+-- where its own want of memory for the next message did. No fault and no refusal comes before what memory was wanting for.
 pub record Wanting (F : Framing) {S : Type 0} (A : Answering S) (bytes cuts : List ℕ) (opening now : S) (written : List ℕ) : Type 0 where
   pub held : List ℕ
-  pub waiting : List ℕ
   pub exchanges : List (Exchange F)
   pub ends : S
-  pub stood : Stands F A bytes cuts held opening ends written waiting exchanges
-  pub left : (now ≡ ends) ⊎ ((message : Message F) × F.IsNext bytes cuts stood.taken message × Wanted F A message ends now)
-  pub before : List (Exchange F)
-  pub last : List (Exchange F)
-  pub splits : exchanges ≡ before ++ last
-  pub once : length last ≤ 1
-  pub none_fails : NothingFails F bytes cuts before
+  pub stood : Stands F A bytes cuts held opening ends written [] exchanges
+  pub cause : WantsMemory F A bytes cuts held stood.taken ends now
 
 -- how a call ended, over all that was fed and written
 abbrev pub EndsAs : (F : Framing) → {S : Type 0} → Answering S → List ℕ → List ℕ → S → S → List ℕ → Result (Unit {0}) ProcessError → Type 0

@@ -1,5 +1,5 @@
 -- What the drivers of a connection promise.
-use Rattle.std.specs.Prelude.{◌≡◌, ◌≢◌, ℕ, ◌<◌, ◌≤◌, List, [], ◌∷◌, ◌++◌, length, IsTrue, Bool, true, false, Result, Ok, Err}
+use Rattle.std.specs.Prelude.{◌≡◌, ◌≢◌, ◌⊎◌, ℕ, ◌<◌, ◌≤◌, List, [], ◌∷◌, ◌++◌, length, IsTrue, Bool, true, false, Result, Ok, Err}
 use Rattle.modbus_link.specs.Outside.{Input, Output, Rose, shifted}
 use Rattle.modbus_link.specs.Passing.{Passes}
 use Rattle.modbus_link.specs.Reads.{totals, HaveRooms, Spending, all_turns, fewer_turns, some_turns, Spends}
@@ -8,10 +8,10 @@ use Rattle.modbus_server.specs.declared.error.ProcessError.TheVariants.{ReadFaul
 use Rattle.modbus_server.specs.declared.error.Step.{Step}
 use Rattle.modbus_server.specs.declared.error.Step.TheVariants.{Answered, Silent, MoreRead, Hungry, Ended}
 use Rattle.modbus_service.specs.Outcome.{silence}
-use Rattle.modbus_server.specs.Framing.{Framing}
+use Rattle.modbus_server.specs.Framing.{Framing, Message}
 use Rattle.modbus_service.specs.Answering.{Answering}
 use Rattle.modbus_server.specs.Exchanges.{Exchange}
-use Rattle.modbus_server.specs.Serving.{Stands, AreAllAnswered, NothingFails, EndsAs}
+use Rattle.modbus_server.specs.Serving.{Stands, AreAllAnswered, NothingFails, NextTakesMemory, EndsAs}
 use Rattle.modbus_server.specs.State.{State}
 use Rattle.modbus_server.specs.Moving.{EndsInput}
 
@@ -75,6 +75,9 @@ pub record Stepped (F : Framing) {S : Type 0} (A : Answering S) (old new : State
   pub rooms : (bytes cuts written : List ℕ) (opening : S) (exchanges : List (Exchange F)) → Stands F A bytes cuts old.held opening before written [] exchanges
       → HaveRooms F.HasRoom (bytes ++ fed) (length bytes) (shifted (length bytes) made)
   pub leaves : LeavesAs F.Waits F.most fed made may_read old new before after result
+  -- memory is wanting only for the next message, or for the room of a read
+  pub memory : result ≡ Err NoMemory → (bytes cuts : List ℕ) (taken : List (Message F)) → F.StandsFor bytes cuts old.held taken
+      → NextTakesMemory F A bytes cuts taken before after ⊎ (F.ReadsTakeMemory × (after ≡ before))
   pub ended : IsTrue from.told → EndsInput result to.left
   pub idle : may_read ≡ false → to ≡ from
   pub read_fault : result ≡ Err ReadFault → Rose from.faults to.faults

@@ -61,6 +61,10 @@ RanUntil F A stops looks before after from to sunk sinks turns start end (Ok Abo
 RanUntil F A stops looks before after from to sunk sinks turns start end (Ok Finished) = Unstopped F A looks before after from to sunk sinks turns start end (Ok tt)
 RanUntil F A stops looks before after from to sunk sinks turns start end (Err error) = Unstopped F A looks before after from to sunk sinks turns start end (Err error)
 
+-- what a look at a signal says that is never set
+abbrev pub never_set : Unit {0} → Bool → Unit {0} → Type 0
+never_set old answer new = answer ≡ false
+
 -- an answer as that of a call that is not stopped
 abbrev pub to_the_end : Result Terminated ProcessError → Result (Unit {0}) ProcessError
 to_the_end (Ok terminated) = Ok tt

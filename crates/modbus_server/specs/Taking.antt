@@ -16,7 +16,7 @@ use Rattle.modbus_service.specs.Outcome.{silence}
 use Rattle.modbus_server.specs.Framing.{Framing, Message, IsOfFraming}
 use Rattle.modbus_service.specs.Answering.{Answering}
 use Rattle.modbus_server.specs.Exchanges.{Exchange}
-use Rattle.modbus_server.specs.Serving.{Stands, NextIsRequest, Served, broken, refused, too_long, Wanting}
+use Rattle.modbus_server.specs.Serving.{Stands, NextIsRequest, Served, broken, refused, too_long, NextTakesMemory, Wanting}
 use Rattle.modbus_server.specs.State.{State}
 
 -- what stands at the front of the held bytes: the next message, which is taken off with all bytes before it; or these are all, and the
@@ -68,6 +68,9 @@ pub record Took (F : Framing) {S E : Type 0} (A : Answering S) (told : E → Pro
   pub stands : (bytes cuts written : List ℕ) (opening : S) (exchanges : List (Exchange F)) → Stands F A bytes cuts old.held opening before written [] exchanges
       → TakesAs F A told bytes cuts new.held opening after written new.waiting exchanges result
   pub keeps : KeepsAs F.Waits old.held new.held new.waiting before after result
+  -- memory is wanting only for the next message
+  pub memory : result ≡ Err NoMemory → (bytes cuts : List ℕ) (taken : List (Message F)) → F.StandsFor bytes cuts old.held taken
+      → NextTakesMemory F A bytes cuts taken before after
   -- it goes on until it tells an error
   pub goes_on : new.is_open ≡ is_ok result
 

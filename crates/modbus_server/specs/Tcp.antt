@@ -64,4 +64,6 @@ tcp = record {
   room = λ held. MAX_ROOM;
   most = 65808;
   HasRoom = HasWholeRoom;
+  ReadsTakeMemory = Unit {0};
+  reply_room = 260;
 }

@@ -1,5 +1,5 @@
 //! The answer to one message: its PDU is decoded, the service is asked, and the reply is framed.
-ghost use Rattle.std.specs.Prelude.{◌<◌, IfOk, IfSome, ◌≡◌, []};
+ghost use Rattle.std.specs.Prelude.{◌+◌, ◌<◌, ◌≤◌, IfOk, IfSome, ◌≡◌, [], length};
 ghost use Rattle.std.specs.Result.{ForErr};
 ghost use Rattle.modbus_frame.specs.Codes.{function_number};
 ghost use Rattle.modbus_server.specs.Answer.{AsksAs, AnswersAs};
@@ -40,7 +40,7 @@ fn ask<I: Framing, V: Answerer>(
     }
 }
 
-/// Asks the service what a message asks, and frames the reply into an empty buffer.
+/// Asks the service what a message asks, and frames the reply into an empty buffer that has room for it.
 pub(crate) fn answer<I: Framing, V: Answerer>(
     alloc: Global,
     service: &mut V,
@@ -48,8 +48,10 @@ pub(crate) fn answer<I: Framing, V: Answerer>(
     pdu: &[u8],
     reply: &mut BytesMut,
 ) -> Result<Answer, AnswerError>
-    requires { reply.old.items ≡ [] }
-    ensures { AnswersAs I.framing V.answering (I.header_of header, pdu.now) service.old result service.new reply.new.items }
+    requires empty { reply.old.items ≡ [] }
+    requires space { I.framing.reply_room ≤ reply.old.spare }
+    ensures answers { AnswersAs I.framing V.answering (I.header_of header, pdu.now) service.old result service.new reply.new.items }
+    ensures space { I.framing.reply_room ≤ length reply.new.items + reply.new.spare }
 {
     match ask::<I, V>(alloc, service, header, pdu) {
         Err(error) => Err(error),
@@ -57,7 +59,7 @@ pub(crate) fn answer<I: Framing, V: Answerer>(
         Ok(Some(answer)) => match I::encode_answer(alloc, header, &answer, reply) {
             Ok(()) => Ok(Answer::Framed),
             Err(EncodeError::TooLong(size)) => Err(AnswerError::TooLong(size)),
-            Err(EncodeError::NoMemory) => Err(AnswerError::NoMemory),
+            Err(EncodeError::NoMemory) => unreachable!(),
         },
     }
 }

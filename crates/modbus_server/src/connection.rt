@@ -1,8 +1,8 @@
 //! One connection of a server, whatever frames its messages. It does no IO: it is given bytes, and gives bytes.
-ghost use Rattle.std.specs.Prelude.{◌≡◌, ◌↔◌, ℕ, ◌<◌, ◌≤◌, List, [], false, length, drop, IsTrue, IfOk, OnOk};
+ghost use Rattle.std.specs.Prelude.{◌≡◌, ◌↔◌, ℕ, ◌+◌, ◌<◌, ◌≤◌, List, [], false, length, drop, IsTrue, Err, IfOk, OnOk, OnErr};
 ghost use Rattle.modbus_server.specs.Framing.{Message};
 ghost use Rattle.modbus_server.specs.Exchanges.{Exchange};
-ghost use Rattle.modbus_server.specs.Serving.{Stands};
+ghost use Rattle.modbus_server.specs.Serving.{Stands, NextTakesMemory};
 ghost use Rattle.modbus_server.specs.Taking.{TakesAs, KeepsAs, next_of, Took, Fed};
 
 use crate::answer::answer;
@@ -15,24 +15,30 @@ use std::marker::Model;
 
 /// The bytes of one connection that were fed and not used yet, and those of its last reply that were not written yet.
 ///
-/// It is open until it tells an error or the input ends. The space of the reply is used again for each reply.
+/// It is open until it tells an error or the input ends. The space of the reply is taken as it is opened, and is used again for each reply.
 #[derive(Drop)]
 pub struct Connection<I: Framing> {
     intake: I,
+    // where a message is copied together that does not lie in one piece
+    seam: [u8; MAX_ROOM],
+    // it has room for each reply
     reply: BytesMut,
     written: usize,
     is_open: bool,
 }
 
 impl<I: Framing> Model for Connection<I> {
-    ghost use Rattle.std.specs.Prelude.{◌≤◌, length, drop};
+    ghost use Rattle.std.specs.Prelude.{◌+◌, ◌≤◌, length, drop};
     ghost use Rattle.modbus_server.specs.State.{State};
 
     ghost Value = { State };
 
     ghost view = { λ c. record { held = I.held c.intake; waiting = drop c.written c.reply.items; free = I.free c.intake; is_open = c.is_open } };
 
-    ghost invariant = { λ c. c.written ≤ length c.reply.items };
+    ghost invariant = { λ c. record {
+      written : c.written ≤ length c.reply.items;
+      space : I.framing.reply_room ≤ length c.reply.items + c.reply.spare;
+    } };
 }
 
 /// What a connection did with a message that was answered so.
@@ -51,16 +57,21 @@ fn next_after<F>(answer: Result<Answer, AnswerError>) -> Result<Next, NextError<
 /// Takes the next message off, asks the service once and frames the reply into an empty buffer.
 fn take_next<I: Framing, V: Answerer>(
     intake: &mut I,
+    seam: &mut [u8; MAX_ROOM],
     reply: &mut BytesMut,
     alloc: Global,
     service: &mut V,
 ) -> Result<Next, NextError<I::Fault>>
-    requires { reply.old.items ≡ [] }
+    requires empty { reply.old.items ≡ [] }
+    requires space { I.framing.reply_room ≤ reply.old.spare }
     ensures stands { (bytes cuts written : List ℕ) (opening : V) (exchanges : List (Exchange I.framing)) → Stands I.framing V.answering bytes cuts (I.held intake.old) opening service.old written [] exchanges
         → TakesAs I.framing V.answering I.told bytes cuts (I.held intake.new) opening service.new written reply.new.items exchanges result }
     ensures keeps { KeepsAs I.framing.Waits (I.held intake.old) (I.held intake.new) reply.new.items service.old service.new result }
+    ensures memory { result ≡ Err NextError.NoMemory → (bytes cuts : List ℕ) (taken : List (Message I.framing)) → I.framing.StandsFor bytes cuts (I.held intake.old) taken
+        → NextTakesMemory I.framing V.answering bytes cuts taken service.old service.new }
+    ensures space { I.framing.reply_room ≤ length reply.new.items + reply.new.spare }
 {
-    match intake.front() {
+    match intake.front(seam) {
         Err(fault) => Err(NextError::Broken(fault)),
         Ok(Front::Waiting { dropped }) => {
             intake.advance(dropped);
@@ -87,7 +98,8 @@ impl<I: Framing> Connection<I> {
     {
         Ok(Connection {
             intake: I::open(alloc)?,
-            reply: BytesMut::new(alloc),
+            seam: [0; MAX_ROOM],
+            reply: BytesMut::with_capacity(alloc, I::reply_room())?,
             written: 0,
             is_open: true,
         })
@@ -103,7 +115,8 @@ impl<I: Framing> Connection<I> {
     /// Takes the next message off the held bytes, asks the service once and keeps the bytes of the reply.
     ///
     /// # Errors
-    /// The fault that comes next, after the replies to all messages before it.
+    /// The fault that comes next, after the replies to all messages before it. `NoMemory` only where the request carries a list, or in the
+    /// service: framing a reply takes none.
     pub fn next<V: Answerer>(
         &mut self,
         alloc: Global,
@@ -115,7 +128,13 @@ impl<I: Framing> Connection<I> {
     {
         self.reply.clear();
         self.written = 0;
-        let result = take_next(&mut self.intake, &mut self.reply, alloc, service);
+        let result = take_next(
+            &mut self.intake,
+            &mut self.seam,
+            &mut self.reply,
+            alloc,
+            service,
+        );
         self.is_open = result.is_ok();
         result
     }
@@ -151,11 +170,12 @@ impl<I: Framing> Connection<I> {
     /// Makes the room of the next read.
     ///
     /// # Errors
-    /// `AllocError` where memory is refused.
+    /// `AllocError` where memory is refused, only for a framing whose reads may take memory.
     pub fn make_room(&mut self, alloc: Global) -> Result<(), AllocError>
         requires { I.framing.Waits self.old.held }
         ensures keeps { self.new ≡ record self.old { free = self.new.free } }
         ensures room { OnOk result (I.framing.room self.old.held ≤ self.new.free) }
+        ensures memory { OnErr result I.framing.ReadsTakeMemory }
     {
         self.intake.make_room(alloc)
     }

@@ -95,3 +95,16 @@ pub enum Step {
     /// The input ended with nothing held.
     Ended,
 }
+
+/// Why a listener does not go on.
+#[derive(Clone, Copy, Debug, PartialEq, Eq, Drop)]
+pub enum ServeError<E> {
+    /// The acceptor failed.
+    AcceptFault,
+    /// The hook answered this error to a connection.
+    Connect(E),
+    /// The spawner failed.
+    SpawnFault,
+    /// Memory was refused.
+    NoMemory,
+}

@@ -1,7 +1,7 @@
 //! What a connection needs of its framing: which messages stand in the bytes that it was fed, and how answers are framed.
 //!
 //! RTU frames and Modbus TCP are framings; another crate can add its own.
-ghost use Rattle.std.specs.Prelude.{◌≡◌, ◌↔◌, ℕ, ◌<◌, ◌≤◌, ◌++◌, ◌∷◌, List, [], length, drop, IsTrue, IfOk, OnOk};
+ghost use Rattle.std.specs.Prelude.{◌≡◌, ◌↔◌, ℕ, ◌+◌, ◌<◌, ◌≤◌, ◌++◌, ◌∷◌, List, [], length, drop, IsTrue, Err, IfOk, OnOk, OnErr};
 ghost use Rattle.std.specs.Result.{ForErr};
 ghost use Rattle.modbus_frame.specs.Codes.{function_number};
 ghost use Rattle.modbus_pdu.specs.Coding.{Encodes};
@@ -60,11 +60,15 @@ pub trait Framing: Drop {
     fn slave(header: Self::Header) -> SlaveId
         ensures { result ≡ framing.slave (header_of header) };
 
+    /// How many bytes of room in a buffer are enough for each answer.
+    fn reply_room() -> usize
+        ensures { result ≡ framing.reply_room };
+
     /// Appends the bytes of an answer to a message, under the message's own header. The function of an exception is below 0x80.
     ///
     /// # Errors
-    /// `TooLong` with the size of the answer's PDU in bytes, exactly where that is above 253; `NoMemory` where memory is refused. The
-    /// buffer is then as it was.
+    /// `TooLong` with the size of the answer's PDU in bytes, exactly where that is above 253; `NoMemory` where memory is refused, only
+    /// where the buffer has less than `reply_room` bytes of room. The buffer is then as it was.
     fn encode_answer(
         alloc: Global,
         header: Self::Header,
@@ -72,7 +76,11 @@ pub trait Framing: Drop {
         reply: &mut BytesMut,
     ) -> Result<(), EncodeError>
         requires { ForErr answer.now (λ refusal. function_number refusal.function < 0x80) }
-        ensures { Encodes (framing.adu (header_of header) (response_result_pdu answer.now)) (response_result_pdu answer.now) reply.old.items result reply.new.items };
+        ensures encodes { Encodes (framing.adu (header_of header) (response_result_pdu answer.now)) (response_result_pdu answer.now) reply.old.items result reply.new.items }
+        ensures memory { result ≡ Err EncodeError.NoMemory → reply.old.spare < framing.reply_room }
+
+        // All in all the buffer has as much room as it had.
+        ensures room { length reply.old.items + reply.old.spare ≤ length reply.new.items + reply.new.spare };
 
     /// One that holds no byte.
     ///
@@ -86,11 +94,14 @@ pub trait Framing: Drop {
     fn is_empty(&self) -> bool
         ensures { IsTrue result ↔ (held self.now ≡ []) };
 
-    /// What stands at the front of the held bytes. It takes no memory.
+    /// What stands at the front of the held bytes. It takes no memory. A message that does not lie in one piece may be copied to `seam`.
     ///
     /// # Errors
     /// The fault that stands there.
-    fn front(&self) -> Result<Front<'_, Self::Header>, Self::Fault>
+    fn front<'a>(
+        &'a self,
+        seam: &'a mut [u8; MAX_ROOM],
+    ) -> Result<Front<'a, Self::Header>, Self::Fault>
         ensures finds { (bytes cuts : List ℕ) (taken : List (Message framing)) → framing.StandsFor bytes cuts (held self.now) taken
             → FindsNext framing header_of told bytes cuts taken (held self.now) result }
         ensures within { IsFrontWithin framing.Waits (held self.now) result };
@@ -112,11 +123,12 @@ pub trait Framing: Drop {
     /// Makes the room of the next read.
     ///
     /// # Errors
-    /// `AllocError` where memory is refused; the same bytes are held.
+    /// `AllocError` where memory is refused, only for a framing whose reads may take memory; the same bytes are held.
     fn make_room(&mut self, alloc: Global) -> Result<(), AllocError>
         requires { framing.Waits (held self.old) }
         ensures held { held self.new ≡ held self.old }
-        ensures room { OnOk result (framing.room (held self.old) ≤ free self.new) };
+        ensures room { OnOk result (framing.room (held self.old) ≤ free self.new) }
+        ensures memory { OnErr result framing.ReadsTakeMemory };
 
     /// Appends bytes for which there is room. It takes no memory.
     fn append(&mut self, piece: &[u8])

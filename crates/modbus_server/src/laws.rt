@@ -1,16 +1,26 @@
 //! Laws on the definitions alone.
 
-ghost use Rattle.std.specs.Prelude.{◌≡◌, ℕ, List};
+ghost use Rattle.std.specs.Prelude.{◌≡◌, ℕ, List, [], All, Result, Err};
+ghost use Rattle.modbus_link.specs.Outside.{Input, Output};
 ghost use Rattle.modbus_rtu.specs.Leftmost.{IsLeftmost};
+ghost use Rattle.modbus_rtu.specs.Stands.{frame_at};
+ghost use Rattle.modbus_server.specs.declared.error.ProcessError.TheVariants as errors;
 ghost use Rattle.modbus_tcp.specs.Stream.{Rest, IsSplit};
 ghost use Rattle.modbus_frame.specs.declared.tcp.Header.{Header};
+ghost use Rattle.modbus_server.specs.declared.error.ProcessError.{ProcessError};
+ghost use Rattle.modbus_server.specs.State.{State};
 ghost use Rattle.modbus_server.specs.Exchanges.{Exchange, Run};
 ghost use Rattle.modbus_server.specs.Serving.{Served, Halt, remaining, all_asked};
 ghost use Rattle.modbus_server.specs.FirstFault.{HasFault, IsFirstFault};
 ghost use Rattle.modbus_server.specs.FirstAdu.{HasAduFault, IsFirstAduFault};
+ghost use Rattle.modbus_server.specs.Memory.{TakesNone};
+ghost use Rattle.modbus_server.specs.Stepping.{Ran};
 ghost use Rattle.modbus_server.specs.Rtu.{rtu};
 ghost use Rattle.modbus_server.specs.Tcp.{tcp};
+ghost use Rattle.modbus_server.specs.Complete.{Completes};
+ghost use Rattle.modbus_server.specs.Polled.{PollStands};
 
+use crate::framing::Framing;
 use modbus_service::Answerer;
 
 /// What a call over RTU frames names is what fails first in what it read, by offset, in the very run that it made; it names nothing
@@ -58,4 +68,26 @@ pub fn one_failing_adu()
         → IsFirstAduFault adus kind all fault → IsFirstAduFault adus kind all other → fault ≡ other }
     ensures none { (adus : List (Header × List ℕ)) (kind : Rest) (left : List ℕ) (all : List (Exchange tcp)) (place : ℕ) (fault : Halt)
         → IsFirstAduFault adus kind all (remaining left) → HasAduFault adus kind all place fault → ⊥ }
+{}
+
+/// A polled server that was just opened stands for no bytes, with all of its turns left.
+pub fn polled_servers_begin<I: Framing, V: Answerer>()
+    ensures { (turns : ℕ) (start : V) (state : State) → state.held ≡ [] → state.waiting ≡ [] → I.framing.StandsFor [] [] [] []
+        → PollStands I.framing V.answering turns [] [] [] start start state turns }
+{}
+
+/// Every call over RTU frames that runs to its end, a polled one too, serves a clean line to its end.
+pub fn clean_lines_are_served<V: Answerer>()
+    ensures { (before after : V) (from to : Input) (sunk sinks : Output) (turns : ℕ) (result : Result (Unit {0}) ProcessError)
+        → Ran rtu V.answering before after from to sunk sinks turns result → Completes rtu V.answering before from to sunk sinks turns result }
+{
+    modbus_rtu::laws::quiet_lines();
+}
+
+/// Where no delivered frame takes memory, it is wanting only as a connection is opened: nothing was read then, and nothing written. A
+/// frame takes none where its request carries no list, and the service wants none for it.
+pub fn memory_at_the_opening<V: Answerer>()
+    ensures { (before after : V) (from to : Input) (sunk sinks : Output) (turns : ℕ) (ran : Ran rtu V.answering before after from to sunk sinks turns (Err errors.NoMemory))
+        (frames : List ℕ) (stop : ℕ) → IsLeftmost ran.fed frames stop → All (λ f. TakesNone rtu V.answering (frame_at ran.fed f)) frames
+        → (ran.fed ≡ []) × (ran.sent ≡ []) × (after ≡ before) }
 {}

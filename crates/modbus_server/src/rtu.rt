@@ -9,19 +9,22 @@ ghost use Rattle.modbus_server.specs.Stopping.{RanUntil, to_the_end};
 ghost use Rattle.modbus_server.specs.Rtu.{rtu};
 
 use crate::error::ProcessError;
-use crate::framing::{Framing, Front};
+use crate::framing::{Framing, Front, MAX_ROOM};
 use crate::rtu_over_tcp::process_link;
 use crate::serving::serve_until;
 use bytes::BytesMut;
 use modbus_frame::{EncodeError, ExceptionResponse, Response, SlaveId, Terminated};
 use modbus_link::{Link, Stop};
-use modbus_rtu::{Crowd, Inbox, encode_response_frame};
+use modbus_rtu::{Crowd, Inbox, LONGEST_RESPONSE, encode_response_frame};
 use modbus_service::Answerer;
 use std::alloc::{AllocError, Global};
 use std::marker::Model;
 
 /// A connection of RTU frames: the bytes that were fed and not used yet, taken step by step as frames.
 pub type Connection = crate::connection::Connection<Inbox>;
+
+/// A server of RTU frames over a link that may not be ready.
+pub type PolledProcess = crate::polled::PolledProcess<Inbox>;
 
 impl Framing for Inbox {
     type Header = SlaveId;
@@ -46,6 +49,10 @@ impl Framing for Inbox {
         header
     }
 
+    fn reply_room() -> usize {
+        LONGEST_RESPONSE
+    }
+
     fn encode_answer(
         alloc: Global,
         header: SlaveId,
@@ -64,8 +71,8 @@ impl Framing for Inbox {
         self.is_empty()
     }
 
-    fn front(&self) -> Result<Front<'_, SlaveId>, Crowd> {
-        match self.front() {
+    fn front<'a>(&'a self, seam: &'a mut [u8; MAX_ROOM]) -> Result<Front<'a, SlaveId>, Crowd> {
+        match self.front(seam) {
             Ok(modbus_rtu::Front::Frame { slave, pdu, end }) => Ok(Front::Message {
                 header: slave,
                 pdu,

@@ -1,7 +1,7 @@
 //! Steps one after another until the input of a connection ends or a signal says to stop, whatever frames its messages.
 ghost use Rattle.std.specs.Prelude.{◌≡◌, [], IsTrue};
 ghost use Rattle.modbus_server.specs.Stepping.{Ran};
-ghost use Rattle.modbus_server.specs.Stopping.{RanUntil};
+ghost use Rattle.modbus_server.specs.Stopping.{RanUntil, never_set};
 
 use crate::connection::Connection;
 use crate::error::{ProcessError, Step};
@@ -10,13 +10,23 @@ use modbus_frame::Terminated;
 use modbus_link::{Both, Sink, Source, Stop};
 use modbus_service::Answerer;
 use std::alloc::Global;
+use std::marker::Model;
 
 /// A signal that is never set.
 #[derive(Drop)]
-struct Never;
+pub(crate) struct Never;
+
+/// A contract sees that it has no state.
+impl Model for Never {
+    ghost Value = { Unit {0} };
+
+    ghost view = { λ it. tt };
+}
 
 impl Stop for Never {
     ghost stops = { λ it. 0 };
+
+    ghost looks = { never_set };
 
     fn is_set(&mut self) -> bool {
         false

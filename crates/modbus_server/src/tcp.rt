@@ -1,23 +1,37 @@
 //! Serving Modbus TCP (MODBUS Messaging on TCP/IP V1.0b, section 3.1): a connection takes ADUs with an MBAP header step by step, and
 //! `process` serves a stream of them until its input ends.
-ghost use Rattle.std.specs.Prelude.{◌≡◌};
+ghost use Rattle.std.specs.Prelude.{◌≡◌, ◌-◌, ◌^◌};
 ghost use Rattle.modbus_server.specs.Complete.{Completes};
 ghost use Rattle.modbus_server.specs.Stepping.{Ran};
+ghost use Rattle.modbus_server.specs.Stopping.{RanUntil, to_the_end};
 ghost use Rattle.modbus_server.specs.Tcp.{tcp, told_fault};
 
 use crate::error::ProcessError;
 use crate::framing::{Framing, Front, MAX_ROOM};
+pub use crate::listener::accept_tcp_connection;
 use crate::serving::{serve, serve_link};
 use bytes::BytesMut;
 use modbus_frame::tcp::Header;
-use modbus_frame::{EncodeError, ExceptionResponse, Response, SlaveId};
-use modbus_link::{Sink, Source};
+use modbus_frame::{EncodeError, ExceptionResponse, Response, SlaveId, Terminated};
+use modbus_link::{Link, Sink, Source, Stop};
 use modbus_service::Answerer;
 use modbus_tcp::{HeaderFault, encode_response_adu};
 use std::alloc::{AllocError, Global};
 
 /// A connection of Modbus TCP: the bytes that were fed and not used yet, taken step by step as ADUs.
 pub type Connection = crate::connection::Connection<AduBuffer>;
+
+/// A server of ADUs over a link that may not be ready.
+pub type PolledProcess = crate::polled::PolledProcess<AduBuffer>;
+
+/// One connection of Modbus TCP as work that can be handed over.
+pub type ConnectionWorker<L, V, H, X> = crate::worker::ConnectionWorker<AduBuffer, L, V, H, X>;
+
+/// A listener of Modbus TCP.
+pub type Server<A> = crate::listener::Server<AduBuffer, A>;
+
+/// The bytes of the longest ADU of a response, whose PDU has at most 253 (MODBUS Messaging on TCP/IP V1.0b, section 3.1.3).
+const LONGEST_RESPONSE: usize = 260;
 
 /// The bytes that were fed and not used yet: less than an ADU, once all whole ones are taken off.
 #[derive(Drop)]
@@ -51,6 +65,10 @@ impl Framing for AduBuffer {
         header.unit_id
     }
 
+    fn reply_room() -> usize {
+        LONGEST_RESPONSE
+    }
+
     fn encode_answer(
         alloc: Global,
         header: Header,
@@ -70,7 +88,10 @@ impl Framing for AduBuffer {
         self.bytes.is_empty()
     }
 
-    fn front(&self) -> Result<Front<'_, Header>, HeaderFault> {
+    fn front<'a>(
+        &'a self,
+        _seam: &'a mut [u8; MAX_ROOM],
+    ) -> Result<Front<'a, Header>, HeaderFault> {
         match modbus_tcp::front(self.bytes.as_slice()) {
             Ok(modbus_tcp::Front::Adu { header, pdu, end }) => {
                 Ok(Front::Message { header, pdu, end })
@@ -131,9 +152,10 @@ pub fn process_link<L: Source + Sink, V: Answerer>(
 /// - `InvalidRequest`: the PDU of an ADU is refused for this reason.
 /// - `ResponseTooLong`: the service answered a response whose PDU has this many bytes, more than 253.
 /// - `TurnLimit`: `turns` reads gave bytes, and all that they allow was answered.
-/// - `NoMemory`: memory was refused.
+/// - `NoMemory`: memory was refused: as the connection was opened, for a read, for a request that carries a list, or in the service. A
+///   reply takes none.
 ///
-/// After an error other than `WriteFault` and `NoMemory` the replies to all ADUs before the failing place were written whole.
+/// After an error other than `WriteFault` the replies to all ADUs before the failing place were written whole.
 pub fn process<S: Source, K: Sink, V: Answerer>(
     alloc: Global,
     source: &mut S,
@@ -148,4 +170,25 @@ pub fn process<S: Source, K: Sink, V: Answerer>(
     modbus_tcp::laws::adus_come_first();
     modbus_tcp::laws::adu_stays();
     serve::<AduBuffer, S, K, V>(alloc, source, sink, service, turns)
+}
+
+impl<L: Link, V: Answerer, H: Fn(ProcessError), X: Stop> ConnectionWorker<L, V, H, X> {
+    /// Serves the worker's link with its service until its input ends, which is `Finished`, or until its signal is set, which is
+    /// `Aborted`. It does what `process` does, with the link as source and sink, and lets as many reads give bytes as a `u64` counts.
+    ///
+    /// The signal is looked at before each step: before each request that is answered, and before each read. What has begun is done, so
+    /// no reply is cut short by a stop, and a read that waits is not woken.
+    ///
+    /// # Errors
+    /// Those of `process`, with the same causes, where no look said that the signal is set.
+    pub fn work(&mut self) -> Result<Terminated, ProcessError>
+        ensures ran { RanUntil tcp V.answering X.stops X.looks self.old.service self.new.service (L.input self.old.link) (L.input self.new.link) (L.output self.old.link) (L.output self.new.link) (2 ^ 64 - 1) self.old.signal self.new.signal result }
+        ensures complete { Completes tcp V.answering self.old.service (L.input self.old.link) (L.input self.new.link) (L.output self.old.link) (L.output self.new.link) (2 ^ 64 - 1) (to_the_end result) }
+        ensures hook { self.new.on_process_error ≡ self.old.on_process_error }
+    {
+        modbus_tcp::laws::one_splitting();
+        modbus_tcp::laws::adus_come_first();
+        modbus_tcp::laws::adu_stays();
+        self.serve()
+    }
 }

@@ -75,7 +75,7 @@ pub trait Service {
 impl<V: Service> Answerer for V {
     ghost answering = { steady V.answers V.takes_memory };
 
-    #[inline]
+    #[inline(always)]
     fn ask(
         &mut self,
         alloc: Global,

@@ -15,8 +15,8 @@ pub record Shared : Type 0 where
   pub table : TableId
   pub opening : Opening
 
--- a pass: the table that it is of and how that began, its number, the calls that it has seen, those that it made, and the number last loaded
--- of passes drawn
+-- a pass: the table that it is of and how that began, its number, the calls that it has seen, those that it made, and the number last
+-- loaded of passes drawn
 pub record Pass : Type 0 where
   pub table : TableId
   pub opening : Opening
@@ -28,7 +28,8 @@ pub record Pass : Type 0 where
 abbrev pub IsPassOf : Shared → Pass → Type 0
 IsPassOf shared pass = (pass.table ≡ shared.table) × (pass.opening ≡ shared.opening)
 
--- What a pass has seen is legal from the opening tables, and has exactly the calls that the pass made, each once and in order, of its number.
+-- What a pass has seen is legal from the opening tables, and has of its number exactly the calls that the pass made, each once and in
+-- order.
 pub record IsInLine (pass : Pass) : Type 0 where
   pub legal : IsLegal pass.opening.tables pass.seen
   pub own : calls_by pass.number pass.seen ≡ pass.mine
@@ -37,8 +38,8 @@ pub record IsInLine (pass : Pass) : Type 0 where
 abbrev pub opened : TableId → Opening → Pass
 opened table opening = record { table = table; opening = opening; number = 0; seen = []; mine = []; drawn = 0 }
 
--- One call with its outcome: the pass has then seen what it had seen, calls of others, and this call. So the answer is that of a store of one
--- caller at this place of the one history.
+-- One call with its outcome: the pass has then seen what it had seen, calls of others, and this call. So the answer is that of a store of
+-- one caller at this place of the one history.
 pub record Calls (old : Pass) (slave : ℕ) (asked : Asked) (outcome : Outcome) (new : Pass) : Type 0 where
   pub others : List Call
   pub seen : new.seen ≡ (old.seen ++ others) ++ call old.number slave asked outcome ∷ []

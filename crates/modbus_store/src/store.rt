@@ -181,6 +181,7 @@ impl RegisterStore {
 
 impl RegisterStore {
     /// Answers a request, whatever its slave.
+    #[inline(always)]
     #[tactic(auto, unfolding(crate::specs::Step::step_of))]
     fn answer(&mut self, alloc: Global, request: Request<'_>) -> Result<Response, ServiceError>
         ensures answers { Answers self.old (meaning request.entry) result self.new }
@@ -256,6 +257,7 @@ impl RegisterStore {
     /// An exception, after which no table has changed: `IllegalFunction` where the store has no such function, `IllegalDataValue`
     /// where a count is out of its bounds, `IllegalDataAddress` where a range is not inside a table (section 7). `NoMemory` where
     /// memory was refused for what is read; the store is then as it was.
+    #[inline(always)]
     #[tactic(auto, unfolding(crate::specs::Step::store_step))]
     pub fn apply(
         &mut self,
@@ -281,6 +283,7 @@ impl Service for RegisterStore {
 
     ghost takes_memory = { TakesMemory };
 
+    #[inline(always)]
     fn call(
         &mut self,
         alloc: Global,

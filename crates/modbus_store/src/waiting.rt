@@ -3,7 +3,8 @@
 //! Both are words of which the rule of the lock says nothing. A word is odd once a pass that may sleep on it has marked it; who wakes the
 //! sleepers makes it even. A pass marks, looks again and only then sleeps; who ends its turn first lets the next one in and then looks for
 //! a mark: so a look that came too early has its mark seen, and no wake is lost. At the gate passes wait that have no ticket yet, so that
-//! the turn seldom goes to a sleeping thread. No clause says that a turn comes.
+//! the turn seldom goes to a sleeping thread; who was woken there comes next, and one is woken at each so many turns. No clause says that a
+//! turn comes.
 ghost use Rattle.std.specs.Prelude.{◌≡◌, ◌<◌, ◌≤◌};
 ghost use Rattle.modbus_store.specs.Turns.{IsDesk};
 

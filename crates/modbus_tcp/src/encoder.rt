@@ -1,5 +1,5 @@
 //! ADUs, written as an MBAP header and a PDU (MODBUS Messaging on TCP/IP V1.0b, section 3.1).
-ghost use Rattle.std.specs.Prelude.{◌≡◌, ◌+◌, ◌<◌, ◌≤◌, [], ◌∷◌, ◌++◌};
+ghost use Rattle.std.specs.Prelude.{◌≡◌, ◌+◌, ◌<◌, ◌≤◌, [], ◌∷◌, ◌++◌, length, Err};
 ghost use Rattle.std.specs.Result.{ForErr};
 ghost use Rattle.modbus_frame.specs.Codes.{function_number};
 ghost use Rattle.modbus_frame.specs.Meaning.{meaning};
@@ -60,8 +60,8 @@ pub fn encode_request_adu(
 /// (section 3.1). The function of an exception is below 0x80.
 ///
 /// # Errors
-/// `TooLong` with the size of the PDU in bytes, exactly where that is above 253. `NoMemory` where memory is refused. The bytes of the
-/// buffer are then as they were.
+/// `TooLong` with the size of the PDU in bytes, exactly where that is above 253. `NoMemory` where memory is refused, only where the
+/// buffer had no room for the whole ADU. The bytes of the buffer are then as they were.
 #[tactic(auto, unfolding(crate::specs::Adu::adu_of))]
 pub fn encode_response_adu(
     alloc: Global,
@@ -70,7 +70,11 @@ pub fn encode_response_adu(
     buf: &mut BytesMut,
 ) -> Result<(), EncodeError>
     requires { ForErr answer.now (λ refusal. function_number refusal.function < 0x80) }
-    ensures { Encodes (adu_of header (response_result_pdu answer.now)) (response_result_pdu answer.now) buf.old.items result buf.new.items }
+    ensures encodes { Encodes (adu_of header (response_result_pdu answer.now)) (response_result_pdu answer.now) buf.old.items result buf.new.items }
+    ensures memory { result ≡ Err EncodeError.NoMemory → buf.old.spare < length (adu_of header (response_result_pdu answer.now)) }
+
+    // All in all the buffer has as much room as it had.
+    ensures room { length buf.old.items + buf.old.spare ≤ length buf.new.items + buf.new.spare }
 {
     let pdu_len = response_result_pdu_size(answer)?;
     // One growth for the whole ADU.

@@ -1,6 +1,6 @@
 //! The inbox of a server, which reads a source.
 use modbus_link::{Failed, MemorySource};
-use modbus_rtu::{Crowd, Front, Inbox, RtuError};
+use modbus_rtu::{CAPACITY, Crowd, Front, Inbox, RtuError};
 use std::test::Fail;
 
 #[test]
@@ -72,14 +72,35 @@ fn a_frame_is_lent_from_where_it_lies(rt: HostRuntime) -> Result<(), Fail> {
         pdu: &bytes[2..7],
         end: 9,
     };
-    assert_eq!(rt; inbox.front(), Ok(found));
+    let mut seam = [0; CAPACITY];
+    assert_eq!(rt; inbox.front(&mut seam), Ok(found));
     inbox.advance(9);
-    assert_eq!(rt; inbox.front(), Ok(Front::Waiting { dropped: 0 }));
+    assert_eq!(rt; inbox.front(&mut seam), Ok(Front::Waiting { dropped: 0 }));
 
-    // What is held is moved to the front only here.
+    // What is held goes on at the front of the ring only here.
     inbox.append(&[0x7F; 267]);
     assert_eq!(rt; inbox.room(), 0);
     inbox.advance(1);
-    assert_eq!(rt; inbox.front(), Err(Crowd));
+    assert_eq!(rt; inbox.front(&mut seam), Err(Crowd));
+    Ok(())
+}
+
+#[test]
+fn a_frame_on_both_sides_of_the_wrap_is_whole(rt: HostRuntime) -> Result<(), Fail> {
+    let frame = [0x01, 0x03, 0x00, 0x00, 0x00, 0x01, 0x84, 0x0A];
+    let mut seam = [0; CAPACITY];
+    for before in 1..frame.len() {
+        // So many bytes of the frame lie at the end of the ring.
+        let mut inbox = Inbox::open(rt.alloc())?;
+        inbox.append(&[0x7F; CAPACITY][before..]);
+        inbox.advance(CAPACITY - before);
+        inbox.append(&frame);
+        let found = Front::Frame {
+            slave: 0x01,
+            pdu: &frame[1..6],
+            end: 8,
+        };
+        assert_eq!(rt; inbox.front(&mut seam), Ok(found));
+    }
     Ok(())
 }

@@ -44,7 +44,7 @@ returns-in-Err-Exception-clause-asks g c =
 pub returns-in-Err-NoMemory-clause-asks : goal.returns-in-Err-NoMemory-clause-asks
 returns-in-Err-NoMemory-clause-asks g c =
     let some = is_request (request_of c.args.pdu.now) CarriesList ((rw c.in-Err-NoMemory.field-0-is at c.in-Err-NoMemory.ensures.memory) refl) in
-    (some.0, some.1, inl refl)
+    (some.0, some.1, inl (some.2, refl))
 
 pub returns-in-Err-NoMemory-ask-clause-asks : goal.returns-in-Err-NoMemory-ask-clause-asks
 returns-in-Err-NoMemory-ask-clause-asks g c =
@@ -53,4 +53,4 @@ returns-in-Err-NoMemory-ask-clause-asks g c =
     let e : request_of message.1 ≡ Ok (meaning c.in-Ok.request) = c.in-Ok.ensures.value in
     let step : g.V.Answerer.answering.wants c.args.service.now (F.slave message.0) (meaning c.in-Ok.request) c.ask.new.self =
     subst (λ n. g.V.Answerer.answering.wants c.args.service.now n (meaning c.in-Ok.request) c.ask.new.self) c.slave-slave.ensures (rw c.in-Err-NoMemory-ask.field-0-is at c.in-Err-NoMemory-ask.ensures) in
-    (meaning c.in-Ok.request, e, inr (record { request = meaning c.in-Ok.request; asked = e; step = step }))
+    (meaning c.in-Ok.request, e, inr step)

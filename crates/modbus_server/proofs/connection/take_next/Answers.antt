@@ -1,6 +1,6 @@
-use Rattle.std.proofs.Common.{[], ◌∷◌, ◌++◌, drop, subst, sym, List, ℕ}
+use Rattle.std.proofs.Common.{[], ◌∷◌, ◌++◌, drop, subst, sym, ◌∙◌, List, ℕ}
 use Rattle.modbus_server.specs.Serving.{Stands}
-use Rattle.modbus_server.proofs.Standing.{kept, takes_on}
+use Rattle.modbus_server.proofs.Standing.{kept, takes_on, next_takes, told_memory}
 use Rattle.modbus_server.proofs.connection.take_next.Goals as goal
 
 pub returns-in-Ok-Waiting-clause-stands : goal.returns-in-Ok-Waiting-clause-stands
@@ -16,4 +16,10 @@ returns-in-Ok-Message-clause-stands g c = λ bytes cuts written opening exchange
     let F = g.I.Framing.framing in
     rw c.next_after.ensures (takes_on F g.V.Answerer.answering bytes cuts (g.I.Framing.held c.args.intake.now) opening c.args.service.now written exchanges s g.I.Framing.told
     (g.I.Framing.header_of c.in-Ok-Message.header, c.in-Ok-Message.pdu.now) (g.I.Framing.held c.advance-in-Ok-Message.new.self) c.answer-answer.new.service c.answer-answer.new.reply.items
-    (subst (λ (held : List ℕ). F.StandsFor bytes cuts held (s.taken ++ (g.I.Framing.header_of c.in-Ok-Message.header, c.in-Ok-Message.pdu.now) ∷ [])) (sym c.advance-in-Ok-Message.ensures) after.0) after.1 c.answer-answer.result c.answer-answer.ensures)
+    (subst (λ (held : List ℕ). F.StandsFor bytes cuts held (s.taken ++ (g.I.Framing.header_of c.in-Ok-Message.header, c.in-Ok-Message.pdu.now) ∷ [])) (sym c.advance-in-Ok-Message.ensures) after.0) after.1 c.answer-answer.result c.answer-answer.ensures.answers)
+
+pub returns-in-Ok-Message-clause-memory : goal.returns-in-Ok-Message-clause-memory
+returns-in-Ok-Message-clause-memory g c = λ e bytes cuts taken s.
+    let after = (rw c.in-Ok-Message.field-0-is at c.in-Ok-Message.ensures.finds) bytes cuts taken s in
+    next_takes g.I.Framing.framing g.V.Answerer.answering (g.I.Framing.header_of c.in-Ok-Message.header, c.in-Ok-Message.pdu.now) c.args.service.now c.answer-answer.new.service
+    c.answer-answer.new.reply.items bytes cuts taken c.answer-answer.result c.answer-answer.ensures.answers after.1 (told_memory c.answer-answer.result (sym c.next_after.ensures ∙ e))

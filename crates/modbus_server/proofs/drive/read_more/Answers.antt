@@ -3,7 +3,7 @@ use Rattle.modbus_server.proofs.Moved.{reads_none, reads_fault, reads_some}
 use Rattle.modbus_server.proofs.drive.read_more.Goals as goal
 
 pub returns-then-is_err-clause-reads : goal.returns-then-is_err-clause-reads
-returns-then-is_err-clause-reads g c = reads_none g.I.Framing.framing _ _ _ _ refl (search rules)
+returns-then-is_err-clause-reads g c = reads_none g.I.Framing.framing _ _ _ _ refl (search rules) (search rules)
 
 pub returns-in-Err-clause-reads : goal.returns-in-Err-clause-reads
 returns-in-Err-clause-reads g c = reads_fault g.I.Framing.framing _ _ _ _ _ _ _ c.read.ensures.source c.in-Err.ensures.told c.in-Err.ensures.cause (search rules)

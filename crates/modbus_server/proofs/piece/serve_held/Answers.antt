@@ -1,4 +1,4 @@
-use Rattle.std.proofs.Common.{rules, ◌≡◌, [], IsTrue, refl}
+use Rattle.std.proofs.Common.{rules, ◌≡◌, refl}
 use Rattle.modbus_server.proofs.OnePiece.{going, silent_on, replied_on, unkept, refused_at, over, cut_off}
 use Rattle.modbus_server.proofs.piece.serve_held.Goals as goal
 

@@ -5,5 +5,5 @@ use Rattle.modbus_rtu.proofs.inbox.Inbox.front.Goals as goal
 
 pub returns-clause-stands : goal.returns-clause-stands
 returns-clause-stands c =
-    let finds : Finds c.args.self.now c.find.result = search rules in
-    finds_in c.args.self.now c.find.result finds
+    let finds : Finds c.args.self.now c.find_in_two.result = search rules in
+    finds_in c.args.self.now c.find_in_two.result finds

@@ -1,0 +1,10 @@
+use Rattle.std.proofs.Common.{false, ap, ◌∙◌}
+use Rattle.modbus_store.specs.Tables.{Tables}
+use Rattle.modbus_store.specs.Views.{Opening}
+use Rattle.modbus_app.proofs.device.open_shared.Goals as goal
+
+abbrev unrecorded : Tables → Opening
+unrecorded tables = record { tables = tables; recorded = false }
+
+pub returns-in-Ok-clause-table : goal.returns-in-Ok-clause-table
+returns-in-Ok-clause-table c = c.in-Ok.ensures.table ∙ ap unrecorded c.in_ok-store.ensures

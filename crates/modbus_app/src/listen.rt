@@ -1,0 +1,188 @@
+//! Listening: the words that ask for it, and serving all connections over one shared store.
+ghost use Rattle.std.specs.Prelude.{◌≡◌, ◌≢◌, [], ◌∷◌, length};
+ghost use Rattle.modbus_app.specs.declared.words.Framing.TheVariants.{Rtu, Tcp};
+ghost use Rattle.modbus_app.specs.Listen.{framing_to_listen, port_named, listener_with, listener_of, listened, SplitsFor, parts_with, Counted, ServesLinks, Listened};
+
+use crate::services::Services;
+use crate::status::{listener_line, listener_status, report};
+use crate::words::{Framing, number_of};
+use modbus_link::{Acceptor, FlagStop, Link, Sink, Spawner};
+use modbus_rtu::Inbox;
+use modbus_server::tcp::AduBuffer;
+use modbus_server::{
+    ConnectionWorker, ProcessError, ServeError, rtu_over_tcp, serve_acceptor, tcp,
+};
+use modbus_store::PassesOut;
+use std::alloc::Global;
+use std::net::SocketAddr;
+use std::sync::Wait;
+
+/// The framing of the listener that a word names.
+fn framing_to_listen(word: &str) -> Option<Framing>
+    ensures { result ≡ framing_to_listen word.now }
+{
+    if word == "listen-rtu" {
+        return Some(Framing::Rtu);
+    }
+    if word == "listen-tcp" {
+        return Some(Framing::Tcp);
+    }
+    None
+}
+
+/// The port that a word shows: one to five digits, of a value up to 65535.
+fn port_named(word: &str) -> Option<u16>
+    ensures { result ≡ port_named word.now }
+{
+    let text = word.as_bytes();
+    if text.is_empty() || text.len() > 5 {
+        return None;
+    }
+    match number_of(text) {
+        Some(port) if port <= 0xFFFF => Some(port as u16),
+        _ => None,
+    }
+}
+
+/// The framing and the port, where both are there.
+fn listener_with(framing: Option<Framing>, port: Option<u16>) -> Option<(Framing, u16)>
+    ensures { result ≡ listener_with framing port }
+{
+    match (framing, port) {
+        (Some(framing), Some(port)) => Some((framing, port)),
+        _ => None,
+    }
+}
+
+/// What the words ask to listen for: `listen-rtu port` or `listen-tcp port`, with one to five digits of a value up to 65535; `None` where
+/// they are no such form. It takes no memory.
+pub fn listening(words: &[String]) -> Option<(Framing, u16)>
+    ensures { result ≡ listened words.now }
+{
+    match words {
+        [word, port] => listener_with(framing_to_listen(word.as_str()), port_named(port.as_str())),
+        _ => None,
+    }
+}
+
+/// Serves each link that the acceptor gives in this framing, and answers why it does not go on.
+fn serve_links<I, R, A, S, P, H>(
+    rt: &R,
+    alloc: Global,
+    acceptor: &mut A,
+    spawner: &mut P,
+    services: &mut S,
+    on_process_error: H,
+) -> ServeError<PassesOut>
+where
+    I: modbus_server::Framing,
+    R: Wait,
+    A: Acceptor,
+    A::Link: Link + Send + Drop,
+    S: Services,
+    S::Service: Send + Drop,
+    H: Fn(ProcessError) + Copy + Send,
+    P: Spawner<ConnectionWorker<I, A::Link, S::Service, H, FlagStop>>,
+    requires error_hook { H.IsAlwaysCallable on_process_error }
+    requires can { P.can_start spawner.old }
+    ensures can { P.can_start spawner.new }
+    ensures serves { ServesLinks (parts_with S.pass_of A.accepts P.starts) on_process_error
+        (record { acceptor = acceptor.old; hook = S.pass services.old; spawner = spawner.old })
+        (record { acceptor = acceptor.new; hook = S.pass services.new; spawner = spawner.new })
+        (record { given = A.given acceptor.old; accept_faults = A.faults acceptor.old; started = P.started spawner.old; spawn_faults = P.faults spawner.old })
+        (record { given = A.given acceptor.new; accept_faults = A.faults acceptor.new; started = P.started spawner.new; spawn_faults = P.faults spawner.new })
+        result }
+{
+    let mut hook = |link: A::Link, _address: SocketAddr| -> Result<
+        Option<(S::Service, A::Link)>,
+        PassesOut,
+    >
+        ensures splits { SplitsFor S.pass_of (S.pass services.entry.now) link result (S.pass services.exit.now) }
+        ensures same { services.exit.ghost_name ≡ services.entry.ghost_name }
+    {
+        let service = services.open()?;
+        Ok(Some((service, link)))
+    };
+    let outcome = serve_acceptor::<I, R, A, S::Service, A::Link, PassesOut, _, H, P>(
+        rt,
+        alloc,
+        acceptor,
+        &mut hook,
+        on_process_error,
+        spawner,
+    );
+    match outcome {
+        Err(error) => error,
+        Ok(()) => unreachable!(),
+    }
+}
+
+/// Serves each link that the acceptor gives, all over one shared store, and answers a status once it does not go on. A line of text on
+/// `errors` tells the status; where that fails, the line is cut short and the status stays.
+///
+/// Each link has a service with a pass of its own, which was split off as the link came, and a worker of its own: of `rtu_over_tcp` or of
+/// `tcp`, by the framing. No link is rejected. The error of a single connection goes to `on_process_error`.
+///
+/// | Status | When |
+/// |---|---|
+/// | 11 | memory was refused |
+/// | 12 | the acceptor failed: its count of faults rose |
+/// | 13 | the spawner failed: its count of faults rose |
+/// | 14 | all 2^32 numbers of passes were drawn |
+pub fn run_listen<R, A, S, P, H, E>(
+    rt: &R,
+    alloc: Global,
+    framing: Framing,
+    acceptor: &mut A,
+    spawner: &mut P,
+    services: &mut S,
+    on_process_error: H,
+    errors: &mut E,
+) -> u8
+where
+    R: Wait,
+    A: Acceptor,
+    A::Link: Link + Send + Drop,
+    S: Services,
+    S::Service: Send + Drop,
+    H: Fn(ProcessError) + Copy + Send,
+    P: Spawner<rtu_over_tcp::ConnectionWorker<A::Link, S::Service, H, FlagStop>>
+        + Spawner<tcp::ConnectionWorker<A::Link, S::Service, H, FlagStop>>,
+    E: Sink,
+    requires error_hook { H.IsAlwaysCallable on_process_error }
+    requires can_rtu { P.Spawner-1.can_start spawner.old }
+    requires can_tcp { P.Spawner-2.can_start spawner.old }
+    ensures rtu { framing ≡ Rtu → Listened (parts_with S.pass_of A.accepts P.Spawner-1.starts) on_process_error
+        (record { acceptor = acceptor.old; hook = S.pass services.old; spawner = spawner.old })
+        (record { acceptor = acceptor.new; hook = S.pass services.new; spawner = spawner.new })
+        (record { given = A.given acceptor.old; accept_faults = A.faults acceptor.old; started = P.Spawner-1.started spawner.old; spawn_faults = P.Spawner-1.faults spawner.old })
+        (record { given = A.given acceptor.new; accept_faults = A.faults acceptor.new; started = P.Spawner-1.started spawner.new; spawn_faults = P.Spawner-1.faults spawner.new })
+        (E.output errors.old) (E.output errors.new) result }
+    ensures tcp { framing ≡ Tcp → Listened (parts_with S.pass_of A.accepts P.Spawner-2.starts) on_process_error
+        (record { acceptor = acceptor.old; hook = S.pass services.old; spawner = spawner.old })
+        (record { acceptor = acceptor.new; hook = S.pass services.new; spawner = spawner.new })
+        (record { given = A.given acceptor.old; accept_faults = A.faults acceptor.old; started = P.Spawner-2.started spawner.old; spawn_faults = P.Spawner-2.faults spawner.old })
+        (record { given = A.given acceptor.new; accept_faults = A.faults acceptor.new; started = P.Spawner-2.started spawner.new; spawn_faults = P.Spawner-2.faults spawner.new })
+        (E.output errors.old) (E.output errors.new) result }
+{
+    let error = match framing {
+        Framing::Rtu => serve_links::<Inbox, R, A, S, P, H>(
+            rt,
+            alloc,
+            acceptor,
+            spawner,
+            services,
+            on_process_error,
+        ),
+        Framing::Tcp => serve_links::<AduBuffer, R, A, S, P, H>(
+            rt,
+            alloc,
+            acceptor,
+            spawner,
+            services,
+            on_process_error,
+        ),
+    };
+    report(errors, listener_line(error));
+    listener_status(error)
+}

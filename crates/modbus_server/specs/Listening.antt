@@ -1,0 +1,106 @@
+-- What a listener does with the links that it is given.
+use Rattle.std.specs.Prelude.{◌≡◌, ◌⊎◌, ℕ, zero, suc, ◌+◌, ◌-◌, ◌^◌, ◌<◌, Bool, true, false, Option, Some, None, Result, Ok, Err}
+use Rattle.std.specs.declared.net.SocketAddr.{SocketAddr}
+use Rattle.modbus_frame.specs.declared.server.Terminated.{Terminated}
+use Rattle.modbus_frame.specs.declared.server.Terminated.TheVariants.{Finished, Aborted}
+use Rattle.modbus_link.specs.declared.outside.Failed.{Failed}
+use Rattle.modbus_server.specs.declared.error.ServeError.{ServeError}
+use Rattle.modbus_server.specs.declared.error.ServeError.TheVariants.{AcceptFault, Connect, SpawnFault, NoMemory}
+
+-- what a worker of one connection has
+pub record WorkerState (L V H X : Type 0) : Type 0 where
+  pub link : L
+  pub service : V
+  pub on_process_error : H
+  pub signal : X
+
+-- What takes part in an accept loop, each by the relation that it states: an acceptor of links of type K, a hook that makes of each a
+-- link of type L and a service or rejects it, and a spawner of workers. The signal of a worker counts its stops.
+pub record Parts (A C P K L V E H : Type 0) : Type 1 where
+  pub accepts : A → Result (K × SocketAddr) Failed → A → Type 0
+  pub connects : C → K → SocketAddr → Result (Option (V × L)) E → C → Type 0
+  pub starts : P → WorkerState L V H ℕ → Result (Unit {0}) Failed → P → Type 0
+
+-- the acceptor, the hook and the spawner, as they are at one time
+pub record Listener (A C P : Type 0) : Type 0 where
+  pub acceptor : A
+  pub hook : C
+  pub spawner : P
+
+-- the worker of a connection that the hook took, with a signal that has said nothing yet
+abbrev pub worker_of : {L V H : Type 0} → V × L → H → WorkerState L V H ℕ
+worker_of taken on_process_error = record { link = taken.1; service = taken.0; on_process_error = on_process_error; signal = 0 }
+
+-- the acceptor gave a link, and the hook was called once, with this link and its address, and answered so
+pub record Connected {A C P K L V E H : Type 0} (parts : Parts A C P K L V E H) (old new : Listener A C P) (answer : Result (Option (V × L)) E) : Type 0 where
+  pub link : K
+  pub address : SocketAddr
+  pub accepted : parts.accepts old.acceptor (Ok (link, address)) new.acceptor
+  pub answered : parts.connects old.hook link address answer new.hook
+
+-- a worker was started for a connection that the hook took, and none for one that it rejected
+abbrev pub StartedFor : {A C P K L V E H : Type 0} → Parts A C P K L V E H → H → Option (V × L) → P → P → Type 0
+StartedFor parts on_error None old new = new ≡ old
+StartedFor parts on_error (Some taken) old new = parts.starts old (worker_of taken on_error) (Ok tt) new
+
+-- one accept, and what followed it, by its answer
+abbrev pub AcceptsOne : {A C P K L V E H : Type 0} → Parts A C P K L V E H → H → Listener A C P → Listener A C P → Result (Unit {0}) (ServeError E) → Type 0
+AcceptsOne {L = L} {V = V} parts on_error old new (Ok done) = (answer : Option (V × L)) × Connected parts old new (Ok answer) × StartedFor parts on_error answer old.spawner new.spawner
+AcceptsOne parts on_error old new (Err AcceptFault) =
+    (failed : Failed) × parts.accepts old.acceptor (Err failed) new.acceptor × (new.hook ≡ old.hook) × (new.spawner ≡ old.spawner)
+AcceptsOne parts on_error old new (Err (Connect error)) = Connected parts old new (Err error) × (new.spawner ≡ old.spawner)
+AcceptsOne {L = L} {V = V} parts on_error old new (Err SpawnFault) = (taken : V × L) × Connected parts old new (Ok (Some taken))
+    × ((failed : Failed) × parts.starts old.spawner (worker_of taken on_error) (Err failed) new.spawner)
+AcceptsOne {L = L} {V = V} parts on_error old new (Err NoMemory) = (taken : V × L) × Connected parts old new (Ok (Some taken)) × (new.spawner ≡ old.spawner)
+
+-- so many accepts that went well, one after another, each after a look at the signal, which said that it is not set
+abbrev pub AcceptsMany : {A C P X K L V E H : Type 0} → Parts A C P K L V E H → (X → Bool → X → Type 0) → H → ℕ → Listener A C P → X → Listener A C P → X → Type 0
+AcceptsMany parts looks on_error zero old start new now = (new ≡ old) × (now ≡ start)
+AcceptsMany {A} {C} {P} {X} parts looks on_error (suc count) old start new now = (last : Listener A C P) × (before : X)
+    × AcceptsMany parts looks on_error count old start last before × looks before false now × AcceptsOne parts on_error last new (Ok tt)
+
+-- how an accept loop ended, by its answer: a look said that the signal is set, or an accept did not go well
+abbrev pub AcceptsLast : {A C P X K L V E H : Type 0} → Parts A C P K L V E H → (X → Bool → X → Type 0) → H → Listener A C P → X → Listener A C P → X → Result Terminated (ServeError E) → Type 0
+AcceptsLast parts looks on_error old before new now (Ok Finished) = ⊥
+AcceptsLast parts looks on_error old before new now (Ok Aborted) = looks before true now × (new ≡ old)
+AcceptsLast parts looks on_error old before new now (Err error) = looks before false now × AcceptsOne parts on_error old new (Err error)
+
+-- What an accept loop did: accepts that went well, and then the end. Without memory for the flag of its workers it did nothing.
+abbrev pub Accepts : {A C P X K L V E H : Type 0} → Parts A C P K L V E H → (X → Bool → X → Type 0) → H → Listener A C P → X → Listener A C P → X → Result Terminated (ServeError E) → Type 0
+Accepts {A} {C} {P} {X} parts looks on_error old start new end result =
+    ((count : ℕ) × (last : Listener A C P) × (before : X) × AcceptsMany parts looks on_error count old start last before × AcceptsLast parts looks on_error last before new end result)
+    ⊎ ((result ≡ Err NoMemory) × (new ≡ old) × (end ≡ start))
+
+-- an acceptor and a hook, where nothing is said of what starts workers: it has no state then
+abbrev pub unspawned : {A C K L V E H : Type 0} → (A → Result (K × SocketAddr) Failed → A → Type 0) → (C → K → SocketAddr → Result (Option (V × L)) E → C → Type 0) → Parts A C (Unit {0}) K L V E H
+unspawned accepts connects = record { accepts = accepts; connects = connects; starts = λ _ _ _ _. Unit {0} }
+
+abbrev pub without_spawner : {A C : Type 0} → A → C → Listener A C (Unit {0})
+without_spawner acceptor hook = record { acceptor = acceptor; hook = hook; spawner = tt }
+
+-- a count that has not come to its last number
+abbrev pub Exact : ℕ → Type 0
+Exact count = count < 2 ^ 64 - 1
+
+-- how many workers were started, by the answer and the number of links that were given
+abbrev pub Balances : {T E : Type 0} → Result T (ServeError E) → ℕ → ℕ → Type 0
+Balances (Ok _) given started = given ≡ started
+Balances (Err AcceptFault) given started = given ≡ started
+Balances (Err (Connect _)) given started = given ≡ started + 1
+Balances (Err SpawnFault) given started = given ≡ started + 1
+Balances (Err NoMemory) given started = (given ≡ started) ⊎ (given ≡ started + 1)
+
+-- a hook, by its calls, that never rejects a connection
+abbrev pub NeverRejects : {C K L V E : Type 0} → (C → K → SocketAddr → Result (Option (V × L)) E → C → Type 0) → Type 0
+NeverRejects {C} {K} connects = (state after : C) (link : K) (address : SocketAddr) → connects state link address (Ok None) after → ⊥
+
+-- an answer of a call that is not stopped, as one of a call that may be
+abbrev pub as_stopped : {E : Type 0} → Result (Unit {0}) (ServeError E) → Result Terminated (ServeError E)
+as_stopped (Ok done) = Ok Finished
+as_stopped (Err error) = Err error
+
+-- a service that a maker answered, with the link that it is for
+abbrev pub made_for : {V L E : Type 0} → L → Result (Option V) E → Result (Option (V × L)) E
+made_for link (Ok None) = Ok None
+made_for link (Ok (Some service)) = Ok (Some (service, link))
+made_for link (Err error) = Err error

@@ -1,0 +1,102 @@
+//! One connection as work that can be handed over, whatever frames its messages.
+ghost use Rattle.std.specs.Prelude.{◌≡◌, ◌-◌, ◌^◌};
+ghost use Rattle.modbus_server.specs.Stopping.{RanUntil};
+
+use crate::error::ProcessError;
+use crate::framing::Framing;
+use crate::serving::serve_until;
+use modbus_frame::Terminated;
+use modbus_link::{Link, Stop, Worker};
+use modbus_service::Answerer;
+use std::alloc::Global;
+use std::marker::{Model, PhantomData};
+
+/// The link of one connection, the service that answers it, a hook for its error and a signal to stop.
+///
+/// It keeps the allocator that its connection takes memory of.
+#[derive(Drop)]
+pub struct ConnectionWorker<I, L, V, H, X> {
+    alloc: Global,
+    link: L,
+    service: V,
+    on_process_error: H,
+    abort_signal: X,
+    framing: PhantomData<I>,
+}
+
+/// A contract sees the link, the service, the hook and the signal.
+impl<I, L, V, H, X> Model for ConnectionWorker<I, L, V, H, X> {
+    ghost use Rattle.modbus_server.specs.Listening.{WorkerState};
+
+    ghost Value = { WorkerState L V H X };
+
+    ghost view = { λ worker. record {
+      link = worker.link;
+      service = worker.service;
+      on_process_error = worker.on_process_error;
+      signal = worker.abort_signal;
+    } };
+}
+
+impl<I: Framing, L: Link, V: Answerer, H: Fn(ProcessError), X: Stop> ConnectionWorker<
+    I,
+    L,
+    V,
+    H,
+    X,
+> {
+    /// A worker that has done nothing. It takes no memory.
+    pub fn new(
+        alloc: Global,
+        link: L,
+        service: V,
+        on_process_error: H,
+        abort_signal: X,
+    ) -> ConnectionWorker<I, L, V, H, X>
+        ensures { result ≡ record { link = link; service = service; on_process_error = on_process_error; signal = abort_signal } }
+    {
+        ConnectionWorker {
+            alloc,
+            link,
+            service,
+            on_process_error,
+            abort_signal,
+            framing: PhantomData,
+        }
+    }
+
+    /// Serves the link until its input ends, which is `Finished`, or until the signal is set, which is `Aborted`. It does what
+    /// `rtu::Server::serve_until` does, with this framing, and is the `work` of RTU and of Modbus TCP.
+    ///
+    /// # Errors
+    /// Those of a step, where no look said that the signal is set.
+    pub fn serve(&mut self) -> Result<Terminated, ProcessError>
+        ensures ran { RanUntil I.framing V.answering X.stops X.looks self.old.service self.new.service (L.input self.old.link) (L.input self.new.link) (L.output self.old.link) (L.output self.new.link) (2 ^ 64 - 1) self.old.signal self.new.signal result }
+        ensures hook { self.new.on_process_error ≡ self.old.on_process_error }
+    {
+        serve_until::<I, L, V, X>(
+            self.alloc,
+            &mut self.link,
+            &mut self.service,
+            &mut self.abort_signal,
+            u64::MAX,
+        )
+    }
+}
+
+impl<
+    I: Framing,
+    L: Link + Drop,
+    V: Answerer + Drop,
+    H: Fn(ProcessError) + Copy,
+    X: Stop + Drop,
+> Worker for ConnectionWorker<I, L, V, H, X> {
+    ghost ready = { λ worker. H.IsAlwaysCallable worker.on_process_error };
+
+    /// Serves the link as `work` does, once, and hands its error to the hook.
+    fn run(mut self) {
+        if let Err(error) = self.serve() {
+            (self.on_process_error)(error);
+        }
+    }
+}
