@@ -1,5 +1,6 @@
 pub mod Turning
 pub mod Receiving
+pub mod Polling
 pub mod Asking
 pub mod Searching
 pub mod Looking

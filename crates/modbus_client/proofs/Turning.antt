@@ -72,7 +72,7 @@ fed_goes (Some (Err NoMemory)) left late = tt
 fed_no_fault : (answer : Option Answer) → IsOfBytesIfSome answer → answer ≡ Some (Err (Transport transport.ReadFault)) → ⊥
 fed_no_fault answer late e = subst IsOfBytesIfSome e late
 
-none_left : (xs ys : List ℕ) → xs ++ ys ≡ [] → ys ≡ []
+pub none_left : (xs ys : List ℕ) → xs ++ ys ≡ [] → ys ≡ []
 none_left [] ys e = e
 none_left (x ∷ xs) ys e = cc
 
@@ -89,6 +89,7 @@ module _ {H : Type 0} (P : Protocol H) (a b : Input) (k m : Output) (old new : C
     spends = spends;
     same = same_call old new n e;
     unwritten = ap (λ (s : CallState). s.unwritten) e;
+    reads = let same' : new.reads ≡ old.reads = ap (λ (s : CallState). s.reads) e in omega arith;
     stands = ends;
     ended = ended;
     read_fault = λ is. fault cc;
@@ -161,6 +162,7 @@ module _ {H : Type 0} (P : Protocol H) (a b : Input) (k m : Output) (old new : C
           turns = fed.same.turns ∙ ap (λ (s : CallState). s.turns) e;
         };
         unwritten = fed.unwritten ∙ ap (λ (s : CallState). s.unwritten) e;
+        reads = let before : mid.reads ≡ old.reads = ap (λ (s : CallState). s.reads) e in let more = fed.reads in omega arith;
         stands = λ written bytes cuts s.
             let s' : CallStands P written bytes cuts mid = subst (CallStands P written bytes cuts) (sym e) (record { wrote = s.wrote; first = s.first; finds = s.finds; counted = s.counted }) in
             subst (λ (n : ℕ). TurnsAs P written (bytes ++ piece) (cuts ++ n ∷ []) new answer) (length-append bytes piece)

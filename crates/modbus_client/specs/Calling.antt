@@ -1,5 +1,5 @@
 -- What a call of a client does, whatever its protocol.
-use Rattle.std.specs.Prelude.{◌≡◌, ◌≢◌, ◌↔◌, ◌⊎◌, ℕ, ◌<◌, false, List, [], ◌∷◌, ◌++◌, length, IsTrue, Option, Some, None, Result, Ok, Err, IfErr}
+use Rattle.std.specs.Prelude.{◌≡◌, ◌≢◌, ◌↔◌, ◌⊎◌, ℕ, ◌+◌, ◌<◌, false, List, [], ◌∷◌, ◌++◌, length, IsTrue, Option, Some, None, Result, Ok, Err, IfErr}
 use Rattle.modbus_link.specs.Outside.{Input, Output, Rose, shifted}
 use Rattle.modbus_link.specs.Passing.{Passes}
 use Rattle.modbus_link.specs.Reads.{totals, HaveRooms, Spending, all_turns, fewer_turns, some_turns, Spends}
@@ -94,6 +94,7 @@ pub record Turned {H : Type 0} (P : Protocol H) (from to : Input) (sunk sinks : 
   pub spends : TurnSpends answer (length made)
   pub same : IsSameCall old new
   pub unwritten : new.unwritten ≡ old.unwritten
+  pub reads : new.reads ≡ old.reads + length made
   pub stands : (written bytes cuts : List ℕ) → CallStands P written bytes cuts old
       → TurnsAs P written (bytes ++ fed) (cuts ++ totals (shifted (length bytes) made)) new answer
   pub ended : IsTrue from.told → TurnEnds answer to.left
@@ -105,18 +106,6 @@ IsOfReply (Err (Transport transport.NotConnected)) = ⊥
 IsOfReply (Err (Transport (transport.RequestTooLong size))) = ⊥
 IsOfReply (Err (Transport transport.WriteFault)) = ⊥
 IsOfReply _ = Unit {0}
-
--- Waiting for the reply, over every link: these bytes were fed in these reads, nothing was written, and the call ended so.
-pub record Received {H : Type 0} (P : Protocol H) (from to : Input) (sunk sinks : Output) (asked : HeaderSeen) (function : FunctionCode) (turns : ℕ) (held : List ℕ) (answer : Answer) : Type 0 where
-  pub fed : List ℕ
-  pub made : List (ℕ × ℕ)
-  pub passes : Passes from to sunk sinks fed made []
-  pub late : IsOfReply answer
-  pub ends : CallEndsAs P asked function fed (totals made) held answer
-  pub ended : IsTrue from.told → CallEndsRead answer to.left
-  pub spends : Spends (call_spending answer) (length made) turns
-  pub rooms : HaveRooms HasRoom fed 0 made
-  pub read_fault : answer ≡ Err (Transport transport.ReadFault) → Rose from.faults to.faults
 
 -- What a connected client does with a link to ask this under this header, by its answer and by what it then holds. It holds for every
 -- link: `fed` are the bytes that it read, `made` the cuts and rooms of the reads that gave them, and `sent` the bytes that it wrote.

@@ -4,6 +4,7 @@ pub mod Call
 pub mod Sending
 pub mod State
 pub mod Calling
+pub mod Polled
 pub mod Ending
 pub mod Search
 pub mod Rtu

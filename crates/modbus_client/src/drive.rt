@@ -1,110 +1,122 @@
-//! The blocking driver of a call over a link.
-ghost use Rattle.std.specs.Prelude.{◌≡◌, ◌<◌, [], IfOk, OnOk, OnErr};
+//! The driver of a call over a link that may not be ready. A link that blocks is always ready, so the blocking calls stand on it.
+ghost use Rattle.std.specs.Prelude.{◌≡◌, ◌<◌, ◌≤◌, [], OnErr};
+ghost use Rattle.modbus_link.specs.declared.polled.Polled.TheVariants.{Pending};
 ghost use Rattle.modbus_link.specs.Outside.{Rose};
 ghost use Rattle.modbus_link.specs.Passing.{Sends};
+ghost use Rattle.modbus_link.specs.Polled.{Waited};
 ghost use Rattle.modbus_frame.specs.Meaning.{meaning};
-ghost use Rattle.modbus_client.specs.Call.{CallStands, IsCallFor};
-ghost use Rattle.modbus_client.specs.Calling.{Sent, Turned, Received, Exchanged};
+ghost use Rattle.modbus_client.specs.Calling.{Sent, Exchanged};
+ghost use Rattle.modbus_client.specs.Polled.{IsFlushed, TurnsTo, CallPolled, Opens};
 
 use crate::call::{Call, ROOM};
 use crate::protocol::Protocol;
 use bytes::BytesMut;
 use modbus_frame::{EncodeError, Error, Request, Response, Result, TransportError};
-use modbus_link::{Failed, Sink, Source};
+use modbus_link::{Failed, Polled, PolledLink, Sink, Source};
 use std::alloc::Global;
 use std::mem::replace;
 
-/// Writes all of the request that was not written yet, in as many writes as it takes.
-fn flush<P: Protocol, L: Sink>(call: &mut Call<P>, link: &mut L) -> std::result::Result<(), Failed>
+/// Writes what was not written yet of the request, as far as the link is ready.
+fn flush<P: Protocol, L: PolledLink>(
+    call: &mut Call<P>,
+    link: &mut L,
+) -> std::result::Result<Polled<()>, Failed>
     ensures source { L.input link.new ≡ L.input link.old }
     ensures keeps { call.new ≡ record call.old { unwritten = call.new.unwritten } }
     ensures sends { Sends (L.output link.old) (L.output link.new) call.old.unwritten call.new.unwritten }
-    ensures all { OnOk result (call.new.unwritten ≡ []) }
+    ensures all { IsFlushed call.new.unwritten result }
     ensures cause { OnErr result (Rose (L.output link.old).faults (L.output link.new).faults) }
+    ensures waited { Waited result (L.not_ready link.old) (L.not_ready link.new) }
+    ensures later { L.not_ready link.old ≤ L.not_ready link.new }
 {
     while !call.to_write().is_empty() {
-        let count = link.write(call.to_write())?;
-        call.wrote(count);
+        match link.poll_write(call.to_write())? {
+            Polled::Pending => return Ok(Polled::Pending),
+            Polled::Ready(count) => call.wrote(count),
+        }
     }
-    Ok(())
+    Ok(Polled::Ready(()))
 }
 
-/// Reads once, and feeds what the read gave; `None` where the call waits for more.
-fn turn<P: Protocol, L: Source>(
+/// Reads once, where the link is ready, and feeds what the read gave; `None` where the call waits for more.
+fn turn<P: Protocol, L: PolledLink>(
     call: &mut Call<P>,
     alloc: Global,
     link: &mut L,
-) -> Option<Result<Response>>
+) -> Polled<Option<Result<Response>>>
     requires written { call.old.unwritten ≡ [] }
     requires may_read { call.old.reads < call.old.turns }
-    ensures { Turned P.protocol (L.input link.old) (L.input link.new) (L.output link.old) (L.output link.new) call.old call.new result }
+    ensures turned { TurnsTo P.protocol (L.input link.old) (L.input link.new) (L.output link.old) (L.output link.new) call.old call.new result }
+    ensures waited { result ≡ Pending → Rose (L.not_ready link.old) (L.not_ready link.new) }
+    ensures later { L.not_ready link.old ≤ L.not_ready link.new }
 {
     // Memory comes first, so that no byte is read that can't be kept.
     if call.make_room().is_err() {
-        return Some(Err(Error::NoMemory));
+        return Polled::Ready(Some(Err(Error::NoMemory)));
     }
     let mut room = [0; ROOM];
-    match link.read(&mut room) {
-        Err(Failed) => Some(Err(Error::Transport(TransportError::ReadFault))),
-        Ok(count) => {
+    match link.poll_read(&mut room) {
+        Err(Failed) => Polled::Ready(Some(Err(Error::Transport(TransportError::ReadFault)))),
+        Ok(Polled::Pending) => Polled::Pending,
+        Ok(Polled::Ready(count)) => {
             if count == 0 {
-                Some(Err(Error::Transport(call.end())))
+                Polled::Ready(Some(Err(Error::Transport(call.end()))))
             } else {
-                call.feed(alloc, &room[..count])
+                Polled::Ready(call.feed(alloc, &room[..count]))
             }
         }
     }
 }
 
-/// Waits for the reply to a request that was written.
-fn receive<P: Protocol, L: Source>(
+/// Writes what was not written yet of the request, and then waits for the reply, as far as the link is ready.
+pub(crate) fn poll<P: Protocol, L: PolledLink>(
     call: &mut Call<P>,
     alloc: Global,
     link: &mut L,
-) -> Result<Response>
-    requires written { call.old.unwritten ≡ [] }
-    requires stands { CallStands P.protocol call.old.request [] [] call.old }
-    ensures { Received P.protocol (L.input link.old) (L.input link.new) (L.output link.old) (L.output link.new) call.old.asked call.old.function call.old.turns call.new.held result }
+) -> Polled<Result<Response>>
+    ensures { CallPolled P.protocol (L.input link.old) (L.input link.new) (L.output link.old) (L.output link.new) (L.not_ready link.old) (L.not_ready link.new) call.old call.new result }
 {
+    match flush(call, link) {
+        Err(Failed) => {
+            return Polled::Ready(Err(Error::Transport(TransportError::WriteFault)));
+        }
+        Ok(Polled::Pending) => return Polled::Pending,
+        Ok(Polled::Ready(())) => {}
+    }
     'turns: while call.may_read() {
-        if let Some(answer) = turn(call, alloc, link) {
-            return answer;
+        match turn(call, alloc, link) {
+            Polled::Pending => return Polled::Pending,
+            Polled::Ready(Some(answer)) => return Polled::Ready(answer),
+            Polled::Ready(None) => {}
         }
     }
-    Err(Error::Transport(TransportError::TurnLimit))
+    Polled::Ready(Err(Error::Transport(TransportError::TurnLimit)))
 }
 
-/// Opens a call and writes its request.
-fn ask<P: Protocol, L: Sink>(
+/// Opens a call, which holds its bytes in `space`.
+///
+/// # Errors
+/// `RequestTooLong` with the size of the PDU in bytes, exactly where that is above 253. `NoMemory` where memory is refused.
+pub(crate) fn open<P: Protocol>(
     alloc: Global,
-    link: &mut L,
     header: P::Header,
     request: &Request<'_>,
     turns: u64,
-    held: &mut BytesMut,
+    space: BytesMut,
 ) -> std::result::Result<Call<P>, Error>
-    ensures sent { Sent P.protocol (L.input link.old) (L.input link.new) (L.output link.old) (L.output link.new) header (meaning request.now) held.new.items result }
-    ensures asks { IfOk result (λ call. IsCallFor P.protocol header (meaning request.now) turns call) }
-    ensures written { IfOk result (λ call. call.unwritten ≡ []) }
-    ensures stands { IfOk result (λ call. CallStands P.protocol call.request [] [] call) }
-    ensures empty { IfOk result (λ call. call.held ≡ []) }
+    ensures { Opens P.protocol header (meaning request.now) turns result }
 {
-    let space = replace(held, BytesMut::new(alloc));
-    let mut call = match Call::<P>::open(alloc, header, request, turns, space) {
-        Ok(call) => call,
+    match Call::<P>::open(alloc, header, request, turns, space) {
+        Ok(call) => Ok(call),
         Err(EncodeError::TooLong(size)) => {
-            return Err(Error::Transport(TransportError::RequestTooLong(size)));
+            Err(Error::Transport(TransportError::RequestTooLong(size)))
         }
-        Err(EncodeError::NoMemory) => return Err(Error::NoMemory),
-    };
-    match flush(&mut call, link) {
-        Ok(()) => Ok(call),
-        Err(Failed) => Err(Error::Transport(TransportError::WriteFault)),
+        Err(EncodeError::NoMemory) => Err(Error::NoMemory),
     }
 }
 
 /// Writes a request, and waits for no reply.
-pub(crate) fn send<P: Protocol, L: Sink>(
+pub(crate) fn send<P: Protocol, L: Source + Sink>(
     alloc: Global,
     link: &mut L,
     header: P::Header,
@@ -113,11 +125,19 @@ pub(crate) fn send<P: Protocol, L: Sink>(
 ) -> std::result::Result<(), Error>
     ensures { Sent P.protocol (L.input link.old) (L.input link.new) (L.output link.old) (L.output link.new) header (meaning request.now) held.new.items result }
 {
-    match ask::<P, L>(alloc, link, header, request, 0, held) {
+    let space = replace(held, BytesMut::new(alloc));
+    match open::<P>(alloc, header, request, 0, space) {
         Err(error) => Err(error),
         Ok(call) => {
-            *held = call.into_held();
-            Ok(())
+            let mut call = call;
+            match flush(&mut call, link) {
+                Ok(Polled::Ready(())) => {
+                    *held = call.into_held();
+                    Ok(())
+                }
+                Ok(Polled::Pending) => unreachable!(),
+                Err(Failed) => Err(Error::Transport(TransportError::WriteFault)),
+            }
         }
     }
 }
@@ -133,13 +153,17 @@ pub(crate) fn exchange<P: Protocol, L: Source + Sink>(
 ) -> Result<Response>
     ensures { Exchanged P.protocol (L.input link.old) (L.input link.new) (L.output link.old) (L.output link.new) header (meaning request.now) turns held.new.items result }
 {
-    match ask::<P, L>(alloc, link, header, request, turns, held) {
+    let space = replace(held, BytesMut::new(alloc));
+    match open::<P>(alloc, header, request, turns, space) {
         Err(error) => Err(error),
         Ok(call) => {
             let mut call = call;
-            let answer = receive(&mut call, alloc, link);
+            let answer = poll(&mut call, alloc, link);
             *held = call.into_held();
-            answer
+            match answer {
+                Polled::Ready(answer) => answer,
+                Polled::Pending => unreachable!(),
+            }
         }
     }
 }

@@ -11,6 +11,7 @@ ghost use Rattle.modbus_client.specs.Matching.{Answer};
 ghost use Rattle.modbus_client.specs.Search as search;
 ghost use Rattle.modbus_client.specs.Call.{CallState, CallStands};
 ghost use Rattle.modbus_client.specs.Calling.{Exchanged};
+ghost use Rattle.modbus_client.specs.Polled.{AnswersAlone};
 ghost use Rattle.modbus_client.specs.Exactly.{IsToldOf, TellsWaiting};
 ghost use Rattle.modbus_client.specs.Exchange.{ExchangesLocally};
 ghost use Rattle.modbus_client.specs.Back.{ComesBack};
@@ -33,6 +34,14 @@ pub fn searches_are_told<P: Protocol>()
         (r : Exchanged P.protocol from to sunk sinks header asked turns held answer) → P.protocol.Finds r.fed (totals r.made) (waiting kept)
         → Fits (request_pdu asked) → (Rose from.faults to.faults → ⊥) → (Rose sunk.faults sinks.faults → ⊥)
         → TellsWaiting kept (length r.made) turns to.left answer }
+{
+    P::laws();
+}
+
+/// Every connected call, a polled one too, gives the result of a message alone that belongs to its request.
+pub fn messages_alone_are_answered<P: Protocol>()
+    ensures { (from to : Input) (sunk sinks : Output) (header : P.Header) (asked : Asked) (turns : ℕ) (held : List ℕ) (answer : Answer)
+        → Exchanged P.protocol from to sunk sinks header asked turns held answer → AnswersAlone P.protocol from to sunk sinks header asked turns answer }
 {
     P::laws();
 }

@@ -1,7 +1,8 @@
 //! Modbus clients: a client sends a request over its link and waits for the reply, whatever pieces its bytes come in.
 //!
 //! A `Call` is a machine without IO: it has the bytes of a request to be written, and is fed the bytes that come. The clients of a
-//! serial line and of TCP drive it over a link, with blocking reads and writes. Every `Client` has the typed calls of `Reader` and
+//! serial line and of TCP drive it over a link, with blocking reads and writes, and a `PolledCall` drives it over one that may not be
+//! ready. Every `Client` has the typed calls of `Reader` and
 //! `Writer`, also a caller's own one; a `Context` is any of them behind a box.
 #![tactic(auto)]
 
@@ -13,6 +14,7 @@ mod drive;
 pub mod laws;
 mod local;
 mod matching;
+mod polled;
 pub mod prelude;
 mod protocol;
 mod reader;
@@ -26,6 +28,7 @@ pub use crate::caller::TURNS;
 pub use crate::client::Client;
 pub use crate::context::Context;
 pub use crate::local::exchange;
+pub use crate::polled::PolledCall;
 pub use crate::protocol::{LookError, Protocol, Reply};
 pub use crate::reader::Reader;
 pub use crate::writer::Writer;

@@ -4,6 +4,7 @@ ghost use Rattle.modbus_frame.specs.Meaning.{meaning};
 ghost use Rattle.modbus_client.specs.Rtu.{rtu_protocol};
 ghost use Rattle.modbus_client.specs.State.{attached};
 ghost use Rattle.modbus_client.specs.Calling.{Called, SentAlone, IsComplete};
+ghost use Rattle.modbus_client.specs.Polled.{OpensPolled};
 ghost use Rattle.modbus_client.specs.Ending.{Disconnected, Limited};
 
 use crate::caller::Caller;
@@ -76,6 +77,28 @@ impl Protocol for Frames {
     fn laws() {
         modbus_rtu::laws::responses_by_front();
         modbus_rtu::laws::responses_in_pieces();
+    }
+}
+
+/// A call of a slave over a link that may not be ready.
+pub type PolledCall = crate::polled::PolledCall<Frames>;
+
+impl PolledCall {
+    /// A call that asks a slave this request, with at most `turns` reads that give bytes. It keeps the allocator, and has written nothing
+    /// yet.
+    ///
+    /// # Errors
+    /// `RequestTooLong` with the size of the PDU in bytes, exactly where that is above 253. `NoMemory` where memory is refused.
+    pub fn new(
+        alloc: Global,
+        slave: Slave,
+        request: Request<'_>,
+        turns: u64,
+    ) -> std::result::Result<PolledCall, Error>
+        ensures { OpensPolled rtu_protocol (record { slave_id = slave.0 }) (meaning request.entry) turns result }
+    {
+        let header = Header { slave_id: slave.0 };
+        PolledCall::open(alloc, header, &request, turns)
     }
 }
 

@@ -4,6 +4,7 @@ ghost use Rattle.modbus_frame.specs.Meaning.{meaning};
 ghost use Rattle.modbus_client.specs.Tcp.{tcp_protocol};
 ghost use Rattle.modbus_client.specs.State.{attached};
 ghost use Rattle.modbus_client.specs.Calling.{IsComplete};
+ghost use Rattle.modbus_client.specs.Polled.{OpensPolled};
 ghost use Rattle.modbus_client.specs.TcpClient.{TcpCalled, TcpDisconnected, TcpLimited, next_header};
 ghost use Rattle.modbus_client.specs.Connecting.{Connects};
 
@@ -12,7 +13,7 @@ use crate::protocol::{LookError, Protocol, Reply};
 use bytes::BytesMut;
 use modbus_frame::tcp::Header;
 use modbus_frame::{
-    ConnectFault, EncodeError, HeaderSeen, Request, Response, Result, ShutdownFault, Slave,
+    ConnectFault, EncodeError, Error, HeaderSeen, Request, Response, Result, ShutdownFault, Slave,
     SlaveContext, TransportError,
 };
 use modbus_link::{Connector, Failed, Link};
@@ -79,6 +80,27 @@ impl Protocol for Adus {
         modbus_tcp::laws::one_front();
         modbus_tcp::laws::adu_stays();
         modbus_tcp::laws::adus_go_on();
+    }
+}
+
+/// A call of a device behind a TCP link that may not be ready.
+pub type PolledCall = crate::polled::PolledCall<Adus>;
+
+impl PolledCall {
+    /// A call that asks this request under a header, with at most `turns` reads that give bytes. It keeps the allocator, and has written
+    /// nothing yet.
+    ///
+    /// # Errors
+    /// `RequestTooLong` with the size of the PDU in bytes, exactly where that is above 253. `NoMemory` where memory is refused.
+    pub fn new(
+        alloc: Global,
+        header: Header,
+        request: Request<'_>,
+        turns: u64,
+    ) -> std::result::Result<PolledCall, Error>
+        ensures { OpensPolled tcp_protocol header (meaning request.entry) turns result }
+    {
+        PolledCall::open(alloc, header, &request, turns)
     }
 }
 

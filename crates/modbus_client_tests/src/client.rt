@@ -1,6 +1,7 @@
 //! Calls over links in memory.
 
 mod connections;
+mod polled;
 mod rtu_calls;
 mod searches;
 mod tcp_calls;

@@ -1,0 +1,9 @@
+use Rattle.std.proofs.Common.{◌-◌}
+use Rattle.modbus_client.proofs.Polling.{PollGoing}
+use Rattle.modbus_client.proofs.drive.poll.Given as goal
+
+abbrev pub invariant-turns : goal.invariant-turns
+invariant-turns g l = PollGoing g.P.Protocol.protocol (g.L.Ends.input l.fn.link) (g.L.Ends.input l.link) (g.L.Ends.output l.fn.link) (g.L.Ends.output l.link) (g.L.PolledLink.not_ready l.fn.link) (g.L.PolledLink.not_ready l.link) l.fn.call l.call
+
+abbrev pub decreases-turns : goal.decreases-turns
+decreases-turns g l = l.call.turns - l.call.reads

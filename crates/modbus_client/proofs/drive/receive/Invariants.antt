@@ -1,9 +1,0 @@
-use Rattle.std.proofs.Common.{◌-◌}
-use Rattle.modbus_client.proofs.Receiving.{Going}
-use Rattle.modbus_client.proofs.drive.receive.Given as goal
-
-abbrev pub invariant-turns : goal.invariant-turns
-invariant-turns g l = Going g.P.Protocol.protocol (g.L.Ends.input l.fn.link) (g.L.Ends.input l.link) (g.L.Ends.output l.fn.link) (g.L.Ends.output l.link) l.fn.call l.call
-
-abbrev pub decreases-turns : goal.decreases-turns
-decreases-turns g l = l.call.turns - l.call.reads

@@ -1,0 +1,81 @@
+//! One call over a link that may not be ready, which goes on where it stopped.
+ghost use Rattle.std.specs.Prelude.{◌≡◌, IsTrue};
+ghost use Rattle.modbus_link.specs.Polled.{is_pending};
+ghost use Rattle.modbus_frame.specs.Meaning.{meaning};
+ghost use Rattle.modbus_client.specs.Polled.{CallPolled, AsksWhole, OpensPolled};
+
+use crate::call::Call;
+use crate::drive::{open, poll};
+use crate::protocol::Protocol;
+use bytes::BytesMut;
+use modbus_frame::{Error, Request, Response, Result};
+use modbus_link::{Polled, PolledLink};
+use std::alloc::Global;
+use std::marker::Model;
+
+/// A call of one protocol over a link that may not be ready. It keeps what it needs between two polls: the bytes of the request that were
+/// not written, those that were read and not used, and how many reads gave bytes.
+#[derive(Drop)]
+pub struct PolledCall<P: Protocol> {
+    call: Call<P>,
+    is_open: bool,
+    alloc: Global,
+}
+
+impl<P: Protocol> Model for PolledCall<P> {
+    ghost use Rattle.modbus_client.specs.Polled.{PolledState};
+
+    ghost Value = { PolledState };
+
+    ghost view = { λ polled. record { call = polled.call; is_open = polled.is_open } };
+}
+
+impl<P: Protocol> PolledCall<P> {
+    /// A call of this request under this header, with at most `turns` reads that give bytes.
+    ///
+    /// # Errors
+    /// Those of a call that is opened.
+    pub(crate) fn open(
+        alloc: Global,
+        header: P::Header,
+        request: &Request<'_>,
+        turns: u64,
+    ) -> std::result::Result<PolledCall<P>, Error>
+        ensures { OpensPolled P.protocol header (meaning request.now) turns result }
+    {
+        match open::<P>(alloc, header, request, turns, BytesMut::new(alloc)) {
+            Err(error) => Err(error),
+            Ok(call) => Ok(PolledCall {
+                call,
+                is_open: true,
+                alloc,
+            }),
+        }
+    }
+
+    /// Whether it goes on: no poll answered `Ready`.
+    pub fn is_open(&self) -> bool
+        ensures { result ≡ self.now.is_open }
+    {
+        self.is_open
+    }
+
+    /// Writes the request and waits for the reply, as far as the link is ready. It reads only once the request is written whole, and each
+    /// read has room for `ROOM` bytes.
+    ///
+    /// `Pending` comes only where the link was not ready, and then the next poll goes on from there. `Ready` is the answer of a connected
+    /// client's `call`, with the same causes over all polls.
+    ///
+    /// # Errors
+    /// Those of `call` but `NotConnected` and `RequestTooLong`; `ReadFault` and `WriteFault` only where the link's count rose in this poll.
+    pub fn poll<L: PolledLink>(&mut self, link: &mut L) -> Polled<Result<Response>>
+        requires { IsTrue self.old.is_open }
+        ensures polled { CallPolled P.protocol (L.input link.old) (L.input link.new) (L.output link.old) (L.output link.new) (L.not_ready link.old) (L.not_ready link.new) self.old.call self.new.call result }
+        ensures asked { AsksWhole P.protocol (L.input link.old) (L.input link.new) (L.output link.old) (L.output link.new) self.old.call self.new.call result }
+        ensures open { self.new.is_open ≡ is_pending result }
+    {
+        let answer = poll(&mut self.call, self.alloc, link);
+        self.is_open = answer.is_pending();
+        answer
+    }
+}
