@@ -4,7 +4,7 @@
 usage: bench/instructions.py
 
 It serves 1,000 and 100,000 requests over standard input and output under callgrind, and prints the difference a request: for RTU frames and
-for Modbus TCP, and the ten functions that cost most. Then it serves frames of kinds that carry no list (05, 06) under memcheck, and prints
+for Modbus TCP, and the ten functions that cost most. Then it does the same for `make`, which makes its requests itself. Last it serves frames of kinds that carry no list (05, 06) under memcheck, and prints
 the allocations a request. The requests are those of bench/rtu.py, from a fixed seed. It is no test; it needs Python 3.9 and valgrind.
 """
 
@@ -43,14 +43,14 @@ def single_writes(count):
         yield body + rtu.crc(body).to_bytes(2, "little")
 
 
-def serve(tool, word, requests):
-    """The text that a tool of valgrind tells of serving these requests."""
+def serve(tool, words, requests):
+    """The text that a tool of valgrind tells of the program with these words over these requests."""
     with tempfile.TemporaryFile() as line:
         for request in requests:
             line.write(request)
         line.seek(0)
         done = subprocess.run(
-            ["valgrind", *tool, rtu.PROGRAM, word], stdin=line, stdout=subprocess.DEVNULL, stderr=subprocess.PIPE, check=True
+            ["valgrind", *tool, rtu.PROGRAM, *words], stdin=line, stdout=subprocess.DEVNULL, stderr=subprocess.PIPE, check=True
         )
     return done.stderr.decode()
 
@@ -59,17 +59,27 @@ def number(pattern, text):
     return int(re.search(pattern, text).group(1).replace(",", ""))
 
 
-def instructions(word, requests, profile):
-    text = serve(["--tool=callgrind", f"--callgrind-out-file={profile}"], word, requests)
+def instructions(words, requests, profile):
+    text = serve(["--tool=callgrind", f"--callgrind-out-file={profile}"], words, requests)
     return number(r"Collected : (\d+)", text)
 
 
-def costs(word, make):
+def fed(word, make):
+    """The program serves so many requests of its standard input."""
+    return lambda count: ([word], make(count))
+
+
+def made(count):
+    """The program makes so many requests."""
+    return (["make", str(count)], ())
+
+
+def costs(word, run):
     """Prints the instructions a request, and where they go."""
     with tempfile.TemporaryDirectory() as folder:
         profile = os.path.join(folder, "profile")
-        few = instructions(word, make(FEW), profile)
-        many = instructions(word, make(MANY), profile)
+        few = instructions(*run(FEW), profile)
+        many = instructions(*run(MANY), profile)
         print(f"{word}: {(many - few) / (MANY - FEW):.0f} instructions a request")
         listing = subprocess.run(["callgrind_annotate", profile], stdout=subprocess.PIPE, check=True).stdout.decode()
     rows = [row for row in listing.splitlines() if re.match(r"\s*[\d,]+ \(\s*[\d.]+%\)\s+\S*:", row)]
@@ -80,16 +90,17 @@ def costs(word, make):
 
 
 def allocations():
-    few = number(r"total heap usage: ([\d,]+) allocs", serve([], "rtu", single_writes(FEW)))
-    many = number(r"total heap usage: ([\d,]+) allocs", serve([], "rtu", single_writes(10 * FEW)))
+    few = number(r"total heap usage: ([\d,]+) allocs", serve([], ["rtu"], single_writes(FEW)))
+    many = number(r"total heap usage: ([\d,]+) allocs", serve([], ["rtu"], single_writes(10 * FEW)))
     print(f"rtu, writes of one coil or register: {(many - few) / (9 * FEW):.3f} allocations a request")
 
 
 def main():
     if not os.path.exists(rtu.PROGRAM):
         sys.exit("bench: build the program first: ./prove")
-    costs("rtu", rtu.frames)
-    costs("tcp", adus)
+    costs("rtu", fed("rtu", rtu.frames))
+    costs("tcp", fed("tcp", adus))
+    costs("make", made)
     allocations()
 
 
