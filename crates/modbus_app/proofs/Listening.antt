@@ -1,12 +1,12 @@
 -- What an accept loop did, seen by the pass that its hook splits.
-use Rattle.std.proofs.Common.{◌≡◌, ◌-◌, ◌^◌, ℕ, zero, suc, Bool, Option, Some, None, Result, Ok, Err, refl, ap, subst, sym, ◌∙◌, inl, inr}
+use Rattle.std.proofs.Common.{◌≡◌, ◌-◌, ◌^◌, ℕ, zero, suc, Option, Some, None, Result, Ok, Err, refl, ap, subst, sym, ◌∙◌, inl, inr}
 use Rattle.std.specs.declared.net.SocketAddr.{SocketAddr}
 use Rattle.modbus_frame.specs.declared.server.Terminated.{Terminated}
 use Rattle.modbus_link.specs.declared.outside.Failed.{Failed}
 use Rattle.modbus_link.specs.Outside.{Rose}
 use Rattle.modbus_server.specs.declared.error.ServeError.{ServeError}
 use Rattle.modbus_server.specs.declared.error.ServeError.TheVariants.{AcceptFault, Connect, SpawnFault, NoMemory}
-use Rattle.modbus_server.specs.Listening.{Parts, WorkerState, Listener, Connected, StartedFor, AcceptsOne, AcceptsMany, AcceptsLast, Accepts, Exact, Balances, NeverRejects}
+use Rattle.modbus_server.specs.Listening.{Parts, WorkerState, Listener, Connected, StartedFor, AcceptsOne, AcceptsMany, Accepts, Exact, Balances, NeverRejects}
 use Rattle.modbus_server.specs.Stopping.{never_set}
 use Rattle.modbus_store.specs.declared.table.PassesOut.{PassesOut}
 use Rattle.modbus_store.specs.Passes.{Pass}

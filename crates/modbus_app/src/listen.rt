@@ -1,7 +1,7 @@
 //! Listening: the words that ask for it, and serving all connections over one shared store.
-ghost use Rattle.std.specs.Prelude.{◌≡◌, ◌≢◌, [], ◌∷◌, length};
+ghost use Rattle.std.specs.Prelude.{◌≡◌};
 ghost use Rattle.modbus_app.specs.declared.words.Framing.TheVariants.{Rtu, Tcp};
-ghost use Rattle.modbus_app.specs.Listen.{framing_to_listen, port_named, listener_with, listener_of, listened, SplitsFor, parts_with, Counted, ServesLinks, Listened};
+ghost use Rattle.modbus_app.specs.Listen.{framing_to_listen, port_named, listener_with, listened, SplitsFor, parts_with, ServesLinks, Listened};
 
 use crate::services::Services;
 use crate::status::{listener_line, listener_status, report};

@@ -1,15 +1,12 @@
 -- What is written of a request, and what a call makes of one that was not sent.
-use Rattle.std.proofs.Common.{◌≡◌, ◌↔◌, ℕ, ◌<◌, List, [], ◌++◌, length, Result, Ok, Err, refl, sym, ap, ◌∙◌, subst, arith, append-nil}
+use Rattle.std.proofs.Common.{◌≡◌, ◌↔◌, ℕ, ◌<◌, List, [], ◌++◌, length, Result, Ok, Err, refl, sym, ap, ◌∙◌, arith, append-nil}
 use Rattle.std.specs.Prelude.{IfErr}
-use Rattle.modbus_link.specs.Outside.{Input, Output, Rose, shifted}
-use Rattle.modbus_link.specs.Passing.{Passes, Sends, passes_none, passes_out, passes_both}
-use Rattle.modbus_link.specs.Reads.{totals, Spends}
-use Rattle.modbus_link.specs.Together.{shifted_none}
+use Rattle.modbus_link.specs.Outside.{Input, Output, Rose}
+use Rattle.modbus_link.specs.Passing.{Passes, Sends, passes_none, passes_out}
+use Rattle.modbus_link.specs.Reads.{Spends}
 use Rattle.modbus_frame.specs.Meaning.{Asked, function_asked}
-use Rattle.modbus_frame.specs.declared.code.FunctionCode.{FunctionCode}
 use Rattle.modbus_frame.specs.declared.fault.Error.{Error}
 use Rattle.modbus_frame.specs.declared.fault.Error.TheVariants.{Protocol as protocol, Transport, NoMemory}
-use Rattle.modbus_frame.specs.declared.fault.HeaderSeen.{HeaderSeen}
 use Rattle.modbus_frame.specs.declared.fault.TransportError.TheVariants as transport
 use Rattle.modbus_pdu.specs.Coding.{Fits, told_size}
 use Rattle.modbus_pdu.specs.declared.limits.TheConstants.{MAX_PDU}

@@ -1,8 +1,8 @@
 -- One poll of a call: what is unwritten of the request is written, and then one turn comes after another, as far as the link is ready.
-use Rattle.std.proofs.Common.{◌≡◌, ◌≢◌, inl, inr, ℕ, ◌+◌, ◌<◌, ◌≤◌, List, [], ◌∷◌, ◌++◌, length, Option, Some, None, Result, Ok, Err, refl, sym, ap, ◌∙◌, subst, arith, append-nil, append_assoc, length-append, IsTrue}
+use Rattle.std.proofs.Common.{◌≡◌, ◌≢◌, inl, inr, ℕ, ◌+◌, ◌<◌, ◌≤◌, List, [], ◌++◌, length, Option, Some, None, Ok, Err, refl, sym, ap, ◌∙◌, subst, arith, append-nil, append_assoc, length-append}
 use Rattle.modbus_link.specs.declared.polled.Polled.{Polled}
 use Rattle.modbus_link.specs.declared.polled.Polled.TheVariants.{Ready, Pending}
-use Rattle.modbus_link.specs.Outside.{Input, Output, Rose, shifted, RisesTo}
+use Rattle.modbus_link.specs.Outside.{Input, Output, Rose, shifted}
 use Rattle.modbus_link.specs.Passing.{Passes, Sends, passes_out, passes_in, passes_both}
 use Rattle.modbus_link.specs.Reads.{totals, HaveRooms, Spends}
 use Rattle.modbus_link.specs.Runs.{RisesTo-both}
@@ -13,14 +13,13 @@ use Rattle.modbus_frame.specs.declared.fault.EncodeError.TheVariants as encode
 use Rattle.modbus_frame.specs.declared.fault.Error.TheVariants.{Protocol as protocol, Transport, NoMemory}
 use Rattle.modbus_frame.specs.declared.fault.HeaderSeen.{HeaderSeen}
 use Rattle.modbus_frame.specs.declared.fault.TransportError.TheVariants as transport
-use Rattle.modbus_pdu.specs.Coding.{Fits, told_size}
-use Rattle.modbus_pdu.specs.declared.limits.TheConstants.{MAX_PDU}
+use Rattle.modbus_pdu.specs.Coding.{Fits}
 use Rattle.modbus_pdu.specs.RequestPdu.{request_pdu}
 use Rattle.modbus_client.specs.Protocol.{Protocol, waiting}
 use Rattle.modbus_client.specs.Matching.{Answer}
 use Rattle.modbus_client.specs.Call.{CallState, CallStands, IsCallFor, IsSameCall, OpensCall}
 use Rattle.modbus_client.specs.Sending.{WritesRequest}
-use Rattle.modbus_client.specs.Calling.{HasRoom, CallEndsAs, call_spending, IsOneRead, TurnsAs, TurnSpends, Turned, IsOfReply, Exchanged}
+use Rattle.modbus_client.specs.Calling.{HasRoom, CallEndsAs, call_spending, TurnsAs, Turned, IsOfReply, Exchanged}
 use Rattle.modbus_client.specs.Polled.{ReadsNothing, CallGoes, CallEnds, IsOfPoll, CallPolled, Opens, AsksWhole}
 use Rattle.modbus_client.proofs.Receiving.{rose_later, late_turn, spends_by, once_most, once_rooms}
 use Rattle.modbus_client.proofs.Turning.{none_left}

@@ -1,5 +1,5 @@
 -- What one turn of waiting for a reply spends, reads and answers.
-use Rattle.std.proofs.Common.{◌≡◌, inl, inr, ℕ, ◌+◌, ◌<◌, ◌≤◌, List, [], length, Some, Ok, Err, refl, ap, arith}
+use Rattle.std.proofs.Common.{inl, inr, ℕ, ◌+◌, ◌<◌, ◌≤◌, List, length, Some, Ok, Err, refl, ap, arith}
 use Rattle.modbus_link.specs.Outside.{Rose, shifted}
 use Rattle.modbus_link.specs.Reads.{HaveRooms, Spends}
 use Rattle.modbus_frame.specs.declared.fault.Error.TheVariants.{Protocol as protocol, Transport, NoMemory}

@@ -19,7 +19,7 @@ use Rattle.modbus_client.specs.Protocol.{Protocol}
 use Rattle.modbus_client.specs.Matching.{Answer, IsOf, answer_of}
 use Rattle.modbus_client.specs.Call.{CallState, CallStands, IsCallFor, IsSameCall}
 use Rattle.modbus_client.specs.Sending.{WritesRequest}
-use Rattle.modbus_client.specs.Calling.{HasRoom, CallEndsAs, CallEndsRead, call_spending, Turned, IsOfReply, Exchanged}
+use Rattle.modbus_client.specs.Calling.{HasRoom, CallEndsAs, CallEndsRead, call_spending, Turned, Exchanged}
 
 -- nothing is unwritten where the link was ready all along, and else something is
 abbrev pub IsFlushed : {E : Type 0} → List ℕ → Result (Polled (Unit {0})) E → Type 0

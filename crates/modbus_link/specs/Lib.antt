@@ -4,7 +4,6 @@ pub mod Reads
 pub mod Passing
 pub mod Through
 pub mod Together
-pub mod Cuts
 pub mod Memory
 pub mod Line
 pub mod Polled

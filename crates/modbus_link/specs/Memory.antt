@@ -1,7 +1,6 @@
 -- What the objects in memory keep, and what they mean as a source and a sink.
-use Rattle.std.specs.Prelude.{◌-◌, ◌^◌, ◌<◌, ◌≤◌, ◌+◌, ◌≡◌, ◌↔◌, ◌⊎◌, min, All, Contains, ℕ, true, List, [], length, replicate, ◌==◌, if◌then◌else◌, Result, Ok, Err, IsErr, IfOk}
+use Rattle.std.specs.Prelude.{◌-◌, ◌^◌, ◌<◌, ◌≤◌, ◌+◌, ◌≡◌, ◌↔◌, ◌⊎◌, min, All, Contains, ℕ, true, List, [], length, drop, ◌==◌, if◌then◌else◌, Result, Ok, Err, IsErr, IfOk}
 use Rattle.modbus_link.specs.Outside.{Input, Output}
-use Rattle.modbus_link.specs.Cuts.{memory_input}
 
 -- a source in memory
 pub record SourceState : Type 0 where
@@ -11,8 +10,8 @@ pub record SourceState : Type 0 where
   pub stops : List ℕ
   -- the numbers of the reads that fail, from 0
   pub fails : List ℕ
-  -- of each byte, the length of the room of the read that ended after it, or 0
-  pub rooms : List ℕ
+  -- of each read that gave bytes, the total after it and the length of its room
+  pub cuts : List (ℕ × ℕ)
   -- how many bytes were given
   pub given : ℕ
   -- how many reads were made, and how many of them failed; both stay at the last number of a counter
@@ -25,7 +24,7 @@ source_at_start bytes stops fails = record {
   bytes = bytes;
   stops = stops;
   fails = fails;
-  rooms = replicate (length bytes) 0;
+  cuts = [];
   given = 0;
   calls = 0;
   faults = 0;
@@ -33,7 +32,15 @@ source_at_start bytes stops fails = record {
 
 -- it never fails where no read is named
 abbrev pub source_input : SourceState → Input
-source_input source = memory_input source.bytes source.rooms source.given source.faults (length source.fails == 0)
+source_input source = record {
+  told = true;
+  left = drop source.given source.bytes;
+  given = source.given;
+  cuts = source.cuts;
+  faults = source.faults;
+  sure = length source.fails == 0;
+  names = [];
+}
 
 -- the number after a call, of a counter that stays at its last number
 abbrev pub counted : ℕ → ℕ

@@ -34,24 +34,25 @@ pub struct MemorySource {
     input: Vec<u8>,
     stops: Vec<usize>,
     fails: Vec<u64>,
-    rooms: Vec<usize>,
+    // there is space for one cut a byte
+    cuts: Vec<(usize, usize)>,
     given: usize,
     calls: u64,
     faults: u64,
 }
 
 impl Model for MemorySource {
-    ghost use Rattle.std.specs.Prelude.{◌≡◌, ℕ, ◌≤◌, vec_len, slice_index};
+    ghost use Rattle.std.specs.Prelude.{◌≤◌, vec_len, vec_capacity};
     ghost use Rattle.modbus_link.specs.Memory.{SourceState};
 
     ghost Value = { SourceState };
 
-    ghost view = { λ s. record { bytes = s.input.items; stops = s.stops.items; fails = s.fails.items; rooms = s.rooms.items; given = s.given; calls = s.calls; faults = s.faults } };
+    ghost view = { λ s. record { bytes = s.input.items; stops = s.stops.items; fails = s.fails.items; cuts = s.cuts.items; given = s.given; calls = s.calls; faults = s.faults } };
 
     ghost invariant = { λ s. record {
       within : s.given ≤ vec_len s.input;
-      rooms_for_all : vec_len s.rooms ≡ vec_len s.input;
-      none_yet : (k : ℕ) → s.given ≤ k → slice_index s.rooms.items k ≡ 0;
+      made : vec_len s.cuts ≤ s.given;
+      space : vec_len s.input ≤ vec_capacity s.cuts;
     } };
 }
 
@@ -67,14 +68,13 @@ impl MemorySource {
         stops: &[usize],
         fails: &[u64],
     ) -> Result<MemorySource, AllocError>
-        ensures start { IfOk result (λ source. source ≡ source_at_start input.now stops.now fails.now) }
-        ensures no_cuts { IfOk result (λ source. (source_input source).cuts ≡ []) }
+        ensures { IfOk result (λ source. source ≡ source_at_start input.now stops.now fails.now) }
     {
         Ok(MemorySource {
             input: Vec::from_slice(alloc, input)?,
             stops: Vec::from_slice(alloc, stops)?,
             fails: Vec::from_slice(alloc, fails)?,
-            rooms: Vec::from_elem(alloc, 0usize, input.len())?,
+            cuts: Vec::with_capacity(alloc, input.len())?,
             given: 0,
             calls: 0,
             faults: 0,
@@ -117,7 +117,7 @@ impl Source for MemorySource {
         let end = next_end(&self.stops, self.given, end);
         let count = end - self.given;
         room[..count].copy_from_slice(&self.input[self.given..end]);
-        self.rooms[end - 1] = size;
+        self.cuts.push_reserved((end, size));
         self.given = end;
         Ok(count)
     }

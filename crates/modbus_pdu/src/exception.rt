@@ -2,7 +2,7 @@
 //!
 //! A server that refuses a request answers with the request's function code plus 0x80, and the
 //! exception code (MODBUS Application Protocol V1.1b3, section 7).
-ghost use Rattle.std.specs.Prelude.{◌≡◌, ◌<◌, ◌++◌, OnOk, OnErr};
+ghost use Rattle.std.specs.Prelude.{◌≡◌, ◌+◌, ◌<◌, ◌≤◌, ◌++◌, OnOk, OnErr};
 ghost use Rattle.bytes.specs.Filled.{UsesSpare};
 ghost use Rattle.modbus_frame.specs.Codes.{function_number};
 ghost use Rattle.modbus_pdu.specs.ResponseOf.{exception_response_of};
@@ -52,7 +52,17 @@ pub fn encode_exception_response_pdu(
     ensures spare { UsesSpare result buf.old.spare buf.new.spare 2 }
 {
     buf.reserve(EXCEPTION_SIZE)?;
+    put_exception(buf, response);
+    Ok(())
+}
+
+/// Appends the PDU of an exception, where the buffer has room for it.
+pub(crate) fn put_exception(buf: &mut BytesMut, response: ExceptionResponse)
+    requires function { function_number response.function < 0x80 }
+    requires room { EXCEPTION_SIZE ≤ buf.old.spare }
+    ensures items { buf.new.items ≡ buf.old.items ++ exception_pdu response }
+    ensures spare { buf.new.spare + EXCEPTION_SIZE ≡ buf.old.spare }
+{
     put_byte(buf, response.function.value() + EXCEPTION_BIT);
     put_byte(buf, response.exception.into());
-    Ok(())
 }

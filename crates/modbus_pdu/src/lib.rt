@@ -27,9 +27,10 @@ pub use crate::laws::{
 };
 pub use crate::limits::{MAX_PDU, TooLong};
 pub use crate::request_decoder::decode_request;
-pub use crate::request_encoder::{encode_request_pdu, request_pdu_size};
+pub use crate::request_encoder::{encode_request_pdu, put_request_pdu, request_pdu_size};
 pub use crate::response_decoder::{decode_response, decode_response_pdu};
 pub use crate::response_encoder::{
-    encode_response_pdu, encode_response_result_pdu, response_pdu_size, response_result_pdu_size,
+    encode_response_pdu, encode_response_result_pdu, put_response_result_pdu, response_pdu_size,
+    response_result_pdu_size,
 };
 pub use crate::response_laws::{responses_have_sizes, responses_read_back};

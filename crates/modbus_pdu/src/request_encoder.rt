@@ -41,7 +41,7 @@ pub fn encode_request_pdu(
         (length (request_pdu (meaning request.now))) }
 {
     buf.reserve(request_len(request))?;
-    put_request(buf, request);
+    put_request_pdu(buf, request);
     Ok(())
 }
 
@@ -73,9 +73,11 @@ fn request_len(request: &Request<'_>) -> usize
     }
 }
 
-/// Appends the PDU of the request, where the buffer has room for it.
+/// Appends the PDU of a request whose size is at most 253 bytes (V1.1b3, sections 6.1 to 6.6, 6.11
+/// to 6.13, 6.16, 6.17 and 6.21), where the buffer has room for it.
+#[inline(always)]
 #[tactic(auto, using(crate::proofs::Sizes::sizes), unfolding(crate::specs::RequestPdu::request_pdu))]
-fn put_request(buf: &mut BytesMut, request: &Request<'_>)
+pub fn put_request_pdu(buf: &mut BytesMut, request: &Request<'_>)
     requires fits { Fits (request_pdu (meaning request.now)) }
     requires room { length (request_pdu (meaning request.now)) ≤ buf.old.spare }
     ensures items { buf.new.items ≡ buf.old.items ++ request_pdu (meaning request.now) }

@@ -14,7 +14,7 @@ ghost use Rattle.modbus_pdu.specs.Writing.{words};
 ghost use Rattle.modbus_pdu.specs.ResponsePdu.{flag, objects, device_identification_pdu, response_pdu, response_result_pdu};
 
 use crate::coils::{bool_to_coil, packed_coils_size, put_packed_coils};
-use crate::exception::{EXCEPTION_SIZE, encode_exception_response_pdu};
+use crate::exception::{EXCEPTION_SIZE, encode_exception_response_pdu, put_exception};
 use crate::limits::{MAX_PDU, MEI_DEVICE_IDENTIFICATION, TooLong, within_limit};
 use crate::writing::{put_byte, put_word, put_words};
 use bytes::BytesMut;
@@ -36,6 +36,7 @@ fn objects_len(found: &[DeviceIdObject]) -> usize
 }
 
 /// How many bytes the PDU of the response has, where usize::MAX stands for more.
+#[inline(always)]
 #[tactic(auto, using(crate::proofs::Sizes::sizes), unfolding(crate::specs::ResponsePdu::response_pdu, crate::specs::ResponsePdu::device_identification_pdu))]
 fn response_len(response: &Response) -> usize
     ensures { result ≡ min (length (response_pdu response.now)) (2 ^ 64 - 1) }
@@ -253,5 +254,21 @@ pub fn encode_response_result_pdu(
     match answer {
         Ok(response) => encode_response_pdu(alloc, buf, response),
         Err(refusal) => encode_exception_response_pdu(alloc, buf, *refusal),
+    }
+}
+
+/// Appends the PDU of a response or an exception that fits, for which `response_result_pdu_size` is
+/// `Ok` (sections 6 and 7), where the buffer has room for it. The function of an exception is below 0x80.
+#[inline(always)]
+pub fn put_response_result_pdu(buf: &mut BytesMut, answer: &Result<Response, ExceptionResponse>)
+    requires function { ForErr answer.now (λ refusal. function_number refusal.function < 0x80) }
+    requires fits { Fits (response_result_pdu answer.now) }
+    requires room { length (response_result_pdu answer.now) ≤ buf.old.spare }
+    ensures items { buf.new.items ≡ buf.old.items ++ response_result_pdu answer.now }
+    ensures spare { buf.new.spare + length (response_result_pdu answer.now) ≡ buf.old.spare }
+{
+    match answer {
+        Ok(response) => put_response(buf, response),
+        Err(refusal) => put_exception(buf, *refusal),
     }
 }

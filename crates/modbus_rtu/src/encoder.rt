@@ -14,7 +14,7 @@ use crate::length::OVERHEAD;
 use bytes::BytesMut;
 use modbus_frame::{EncodeError, ExceptionResponse, Request, Response, SlaveId};
 use modbus_pdu::{
-    encode_request_pdu, encode_response_result_pdu, request_pdu_size, response_result_pdu_size,
+    put_request_pdu, put_response_result_pdu, request_pdu_size, response_result_pdu_size,
 };
 use std::alloc::Global;
 
@@ -37,7 +37,7 @@ fn put_checksum(buf: &mut BytesMut, start: usize)
 /// the buffer are then as they were.
 #[tactic(auto, unfolding(crate::specs::Frame::frame))]
 pub fn encode_request_frame(
-    alloc: Global,
+    _alloc: Global,
     slave: SlaveId,
     request: &Request<'_>,
     buf: &mut BytesMut,
@@ -49,13 +49,9 @@ pub fn encode_request_frame(
     buf.reserve(pdu_len + OVERHEAD)?;
     let start = buf.len();
     buf.extend_reserved(&[slave]);
-    match encode_request_pdu(alloc, buf, request) {
-        Ok(()) => {
-            put_checksum(buf, start);
-            Ok(())
-        }
-        Err(_) => unreachable!(),
-    }
+    put_request_pdu(buf, request);
+    put_checksum(buf, start);
+    Ok(())
 }
 
 /// Appends the frame of a response or an exception: its slave address, its PDU, and the checksum of both. The function of an exception is below 0x80.
@@ -63,9 +59,10 @@ pub fn encode_request_frame(
 /// # Errors
 /// `TooLong` with the size of the PDU in bytes, exactly where that is above 253. `NoMemory` where memory is refused, only where the buffer
 /// had no room for the whole frame. The bytes of the buffer are then as they were.
+#[inline(always)]
 #[tactic(auto, unfolding(crate::specs::Frame::frame))]
 pub fn encode_response_frame(
-    alloc: Global,
+    _alloc: Global,
     slave: SlaveId,
     answer: &Result<Response, ExceptionResponse>,
     buf: &mut BytesMut,
@@ -82,11 +79,7 @@ pub fn encode_response_frame(
     buf.reserve(pdu_len + OVERHEAD)?;
     let start = buf.len();
     buf.extend_reserved(&[slave]);
-    match encode_response_result_pdu(alloc, buf, answer) {
-        Ok(()) => {
-            put_checksum(buf, start);
-            Ok(())
-        }
-        Err(_) => unreachable!(),
-    }
+    put_response_result_pdu(buf, answer);
+    put_checksum(buf, start);
+    Ok(())
 }

@@ -27,7 +27,6 @@ pub enum Front<'a> {
 pub struct Crowd;
 
 /// Searches held bytes for the next frame of a request.
-// Inlined at both of its calls, the first of which is made for each request.
 #[inline(always)]
 pub(crate) fn find(held: &[u8]) -> Result<Front<'_>, Crowd>
     ensures { Finds held.now result }
@@ -55,8 +54,22 @@ fn join<'a>(first: &[u8], second: &[u8], seam: &'a mut [u8; CAPACITY]) -> &'a [u
     joined
 }
 
+/// Searches two pieces as one, for a frame that may lie in both.
+#[cold]
+fn find_across<'a>(
+    first: &[u8],
+    second: &[u8],
+    seam: &'a mut [u8; CAPACITY],
+) -> Result<Front<'a>, Crowd>
+    requires { length first.now + length second.now ≤ CAPACITY }
+    ensures { Finds (first.now ++ second.now) result }
+{
+    find(join(first, second, seam))
+}
+
 /// Searches held bytes that lie in two pieces for the next frame of a request. What stands in the first piece is lent from there. Where
 /// the search waits at its end, both are copied to `seam`, so that a frame that lies in both pieces is whole there.
+#[inline(always)]
 #[tactic(auto, using(crate::proofs::TwoPieces::frame_on))]
 pub(crate) fn find_in_two<'a>(
     first: &'a [u8],
@@ -73,7 +86,7 @@ pub(crate) fn find_in_two<'a>(
             if second.is_empty() {
                 return Ok(Front::Waiting { dropped });
             }
-            find(join(first, second, seam))
+            find_across(first, second, seam)
         }
     }
 }

@@ -194,6 +194,7 @@ impl Inbox {
     ///
     /// # Errors
     /// `Crowd` exactly where no frame stands at the first `TRIES` offsets.
+    #[inline(always)]
     pub fn front<'a>(&'a self, seam: &'a mut [u8; CAPACITY]) -> Result<Front<'a>, Crowd>
         ensures finds { Finds self.now result }
         ensures most { length self.now ≤ CAPACITY }

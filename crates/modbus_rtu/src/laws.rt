@@ -1,13 +1,13 @@
 //! Laws on the frames in a list of bytes, about definitions alone. Each is proved by its contract, and its body is empty.
-ghost use Rattle.std.specs.Prelude.{◌≡◌, ◌≢◌, ◌↔◌, ℕ, ◌+◌, ◌-◌, ◌/◌, ◌%◌, ◌^◌, bit_xor, ◌<◌, ◌≤◌, All, Contains, List, [], ◌∷◌, ◌++◌, map, length, take, drop, get_or, slice_index};
+ghost use Rattle.std.specs.Prelude.{◌*◌, ◌≡◌, ◌≢◌, ◌↔◌, ℕ, ◌+◌, ◌-◌, ◌/◌, ◌%◌, ◌^◌, bit_xor, ◌<◌, ◌≤◌, All, Contains, List, [], ◌∷◌, ◌++◌, map, length, take, drop, get_or, slice_index};
 ghost use Rattle.std.specs.List.{AllByRecursion};
 ghost use Rattle.modbus_rtu.specs.declared.verdict.Verdict.{Verdict};
 ghost use Rattle.modbus_rtu.specs.declared.verdict.Verdict.TheVariants.{Open, Bad, Good};
 ghost use Rattle.modbus_rtu.specs.declared.search.TheConstants.{TRIES};
 ghost use Rattle.modbus_rtu.specs.declared.search.Next.{Next};
 ghost use Rattle.modbus_rtu.specs.declared.search.Next.TheVariants.{Frame, Waiting, TooManyRetries};
-ghost use Rattle.modbus_rtu.specs.declared.crc_table.TheConstants.{EIGHT_BITS};
-ghost use Rattle.modbus_rtu.specs.Checksum.{shifts, with_byte};
+ghost use Rattle.modbus_rtu.specs.declared.crc_table.TheConstants.{BYTE_SHIFTS};
+ghost use Rattle.modbus_rtu.specs.Checksum.{shifts, with_byte, four_looked_up};
 ghost use Rattle.modbus_rtu.specs.Frame.{frame, verdict};
 ghost use Rattle.modbus_rtu.specs.ResponseHead.{HasResponseHead, response_verdict};
 ghost use Rattle.modbus_rtu.specs.Next.{IsNext, IsNextBy};
@@ -23,9 +23,12 @@ ghost use Rattle.modbus_rtu.specs.Framed.{HasHead, IsModelledAsk, message_of, st
 pub fn crc_steps()
     ensures bits { (register byte : ℕ) → byte < 2 ^ 8 → with_byte register byte ≡ bit_xor (register / 256) (shifts 8 (bit_xor register byte % 256)) }
 
-    // The table has what eight bit steps make of each number of a byte, so one look into it is eight bit steps.
-    ensures entries { (low : ℕ) → low < 256 → get_or EIGHT_BITS low 0 ≡ shifts 8 low }
-    ensures table { (register byte : ℕ) → byte < 2 ^ 8 → with_byte register byte ≡ bit_xor (register / 256) (get_or EIGHT_BITS (bit_xor register byte % 256) 0) }
+    // Each row of the table has what the bit steps of so many bytes make of each number of a byte, so one look into the first row is eight
+    // bit steps, and a look into each row takes four bytes.
+    ensures entries { (k low : ℕ) → k < 4 → low < 256 → get_or (get_or BYTE_SHIFTS k []) low 0 ≡ shifts (8 * (k + 1)) low }
+    ensures table { (register byte : ℕ) → byte < 2 ^ 8 → with_byte register byte ≡ bit_xor (register / 256) (get_or (get_or BYTE_SHIFTS 0 []) (bit_xor register byte % 256) 0) }
+    ensures four { (register a b c d : ℕ) → register < 2 ^ 16 → a < 2 ^ 8 → b < 2 ^ 8 → c < 2 ^ 8 → d < 2 ^ 8
+        → with_byte (with_byte (with_byte (with_byte register a) b) c) d ≡ four_looked_up BYTE_SHIFTS (bit_xor register (b * 256 + a)) c d }
 {}
 
 /// A verdict good or bad is the same in every list that the bytes begin.

@@ -47,6 +47,7 @@ pub(crate) fn counted_len(adu: &[u8], place: u8) -> Option<usize>
 ///
 /// # Errors
 /// `NoLength` with the function code, exactly where no length is known for it.
+#[inline(always)]
 #[tactic(auto, unfolding(crate::specs::Frame::head, crate::specs::Frame::rule))]
 pub fn request_pdu_len(adu: &[u8]) -> Result<Option<usize>, NoLength>
     ensures exact { result ≡ head adu.now }
@@ -110,6 +111,7 @@ impl LengthRule for RequestRule {
 
     ghost longest = { CAPACITY };
 
+    #[inline(always)]
     fn pdu_len(&self, adu: &[u8]) -> Result<Option<usize>, NoLength> {
         request_pdu_len(adu)
     }

@@ -22,6 +22,7 @@ pub enum Next {
 }
 
 /// Searches the held bytes for the next frame, by a length rule. Each try looks at one offset, from the first one on.
+#[inline(always)]
 pub fn next_frame_by<R: LengthRule>(rule: &R, held: &[u8]) -> Next
     ensures exact { IsNextBy (judged_by R.head) held.now result }
     ensures within { IsWithin R.longest held.now result }
@@ -37,6 +38,7 @@ pub fn next_frame_by<R: LengthRule>(rule: &R, held: &[u8]) -> Next
 }
 
 /// Searches the held bytes for the next frame of a request.
+#[inline(always)]
 #[tactic(auto, unfolding(crate::specs::Frame::verdict_of))]
 pub fn next_frame(held: &[u8]) -> Next
     ensures exact { IsNext held.now result }

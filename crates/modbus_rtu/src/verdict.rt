@@ -18,6 +18,7 @@ pub enum Verdict {
 }
 
 /// Judges the front of bytes, which begins with a slave address if there is a frame, by a length rule.
+#[inline(always)]
 #[tactic(auto, using(crate::proofs::Judging::judged))]
 pub fn judge_by<R: LengthRule>(rule: &R, adu: &[u8]) -> Verdict
     ensures exact { result ≡ judged_by R.head adu.now }

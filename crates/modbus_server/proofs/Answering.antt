@@ -1,10 +1,8 @@
 -- The exchange of one message.
-use Rattle.std.proofs.Common.{◌≢◌, ◌-◌, ◌^◌, min, ◌≡◌, ℕ, ◌+◌, List, [], ◌∷◌, length, refl, sym, ap, ◌∙◌, arith, Ok, Err, None, Some, Result, ◌++◌}
+use Rattle.std.proofs.Common.{◌≢◌, ◌-◌, ◌^◌, min, ◌≡◌, ℕ, ◌+◌, List, [], ◌∷◌, length, refl, sym, ap, ◌∙◌, arith, Ok, Err, Result, ◌++◌}
 use Rattle.std.specs.Result.{IsOkAnd}
 use Rattle.modbus_frame.specs.Meaning.{Asked}
 use Rattle.modbus_frame.specs.declared.fault.Reason.{Reason}
-use Rattle.modbus_frame.specs.declared.fault.EncodeError.{EncodeError}
-use Rattle.modbus_frame.specs.declared.fault.EncodeError.TheVariants as encode
 use Rattle.modbus_frame.specs.Codes.{exception_number}
 use Rattle.modbus_frame.specs.declared.code.ExceptionCode.{ExceptionCode}
 use Rattle.modbus_frame.specs.declared.response.Response.{Response}
@@ -20,7 +18,7 @@ use Rattle.modbus_service.specs.Outcome.{Outcome, silence, reply, exception, rep
 use Rattle.modbus_server.specs.Framing.{Framing, Message}
 use Rattle.modbus_service.specs.Answering.{Answering}
 use Rattle.modbus_server.specs.Exchanges.{Exchange, Question, ReplyFits, framed}
-use Rattle.modbus_server.specs.Answer.{Answered, AsksAs, AnswersAs}
+use Rattle.modbus_server.specs.Answer.{Answered, FramesAs, AnswersAs}
 
 pub reply_is : (code : ℕ) (response : Response) → reply_pdu code (reply response) ≡ response_pdu response
 unfolding reply_pdu
@@ -34,14 +32,14 @@ pub is_request : (r : Result Asked Reason) (P : Asked → Type 0) → IsOkAnd r 
 is_request (Ok request) P h = (request, refl, h)
 is_request (Err reason) P h = absurd h
 
-abbrev made_of : Result (Unit {0}) EncodeError → Result Answer AnswerError
-made_of (Ok done) = Ok Framed
-made_of (Err (encode.TooLong size)) = Err (TooLong size)
-made_of (Err encode.NoMemory) = Err NoMemory
-
 module _ (F : Framing) where
   abbrev pub exchange : F.Header → Asked → Outcome → Exchange F
   exchange header request outcome = record { header = header; request = request; outcome = outcome }
+
+  -- what an encoder does into an empty buffer that has room
+  pub frames_as : (header : F.Header) (given : Result Response ExceptionResponse) (before after : List ℕ)
+      → Encodes (F.adu header (response_result_pdu given)) (response_result_pdu given) before (Ok tt) after → before ≡ [] → FramesAs F header given (Ok Framed) after
+  frames_as header given before after encodes empty = (encodes.fits, encodes.ok ∙ ap (λ front. front ++ F.adu header (response_result_pdu given)) empty)
 
   -- silence fits
   quiet_fits : (x : Exchange F) → x.outcome ≡ silence → ReplyFits F x
@@ -59,24 +57,25 @@ module _ (F : Framing) where
         → request_of pdu ≡ Ok request → A.gives old (F.slave header) request outcome new → Answered F A (header, pdu) old new (exchange header request outcome)
     answered header pdu old new request outcome e step = record { asked = ap (λ r. (header, r)) e; step = step }
 
+    -- the service gave an answer that is not silent, with this PDU
+    abbrev pub Gave : Message F → S → Result Response ExceptionResponse → S → Type 0
+    Gave message old given new =
+        (x : Exchange F) × Answered F A message old new x × (x.outcome ≢ silence) × (reply_pdu (code_of x.request) x.outcome ≡ response_result_pdu given)
+
     -- the reply of an exchange that is not silent was framed, or is too long
-    pub framed_as : (message : Message F) (old new : S) (given : Result Response ExceptionResponse) (before after : List ℕ) (result : Result (Unit {0}) EncodeError)
-        → AsksAs F A message old (Ok (Some given)) new → Encodes (F.adu message.0 (response_result_pdu given)) (response_result_pdu given) before result after → before ≡ [] → result ≢ Err encode.NoMemory
-        → AnswersAs F A message old (made_of result) new after
-    framed_as message old new given before after (Ok done) (x, answer, some, is) encodes empty there =
+    pub framed_as : (message : Message F) (old new : S) (given : Result Response ExceptionResponse) (result : Result Answer AnswerError) (made : List ℕ)
+        → Gave message old given new → FramesAs F message.0 given result made → AnswersAs F A message old result new made
+    framed_as message old new given (Ok Framed) made (x, answer, some, is) (fits, e) =
         let same = ap length is in
         let to : message.0 ≡ x.header = ap (λ (q : Question F). q.0) answer.asked in
-        let made : after ≡ F.adu message.0 (response_result_pdu given) = encodes.ok ∙ ap (λ front. front ++ F.adu message.0 (response_result_pdu given)) empty in
-        (x, answer, omega (arith, same, encodes.fits), some, made ∙ ap (λ h. F.adu h (response_result_pdu given)) to ∙ ap (F.adu x.header) (sym is) ∙ sym (framed_some x.header (code_of x.request) x.outcome some))
-    framed_as message old new given before after (Err (encode.TooLong size)) (x, answer, some, is) encodes empty there =
+        (x, answer, omega (arith, same, fits), some, e ∙ ap (λ h. F.adu h (response_result_pdu given)) to ∙ ap (F.adu x.header) (sym is) ∙ sym (framed_some x.header (code_of x.request) x.outcome some))
+    framed_as message old new given (Ok Quiet) made gave frames = absurd frames
+    framed_as message old new given (Err (TooLong size)) made (x, answer, some, is) (long, e) =
         let same = ap length is in
-        (x, answer, encodes.cause.1 ∙ ap (λ (n : ℕ). min n (2 ^ 64 - 1)) (sym same), omega (arith, encodes.cause))
-    framed_as message old new given before after (Err encode.NoMemory) asks encodes empty there = absurd (there refl)
+        (x, answer, e ∙ ap (λ (n : ℕ). min n (2 ^ 64 - 1)) (sym same), omega (arith, long, e))
+    framed_as message old new given (Err (Refused reason)) made gave frames = absurd frames
+    framed_as message old new given (Err NoMemory) made gave frames = absurd frames
 
-    pub not_asked : (message : Message F) (old new : S) (made : List ℕ) (error : AnswerError) → AsksAs F A message old (Err error) new → AnswersAs F A message old (Err error) new made
-    not_asked message old new made (Refused reason) h = h
-    not_asked message old new made NoMemory h = h
-    not_asked message old new made (TooLong size) h = absurd h
-
-    pub silent : (message : Message F) (old new : S) (made : List ℕ) → AsksAs F A message old (Ok None) new → made ≡ [] → AnswersAs F A message old (Ok Quiet) new made
-    silent message old new made (x, done, quiet) none = (x, done, quiet_fits x quiet, quiet, none)
+    pub silent : (message : Message F) (old new : S) (made : List ℕ) (x : Exchange F) → Answered F A message old new x → x.outcome ≡ silence → made ≡ []
+        → AnswersAs F A message old (Ok Quiet) new made
+    silent message old new made x done quiet none = (x, done, quiet_fits x quiet, quiet, none)

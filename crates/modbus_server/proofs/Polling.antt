@@ -1,8 +1,8 @@
 -- One poll of a server: what waits is written, and then one step comes after another, as far as the link is ready.
-use Rattle.std.proofs.Common.{◌≡◌, ◌≢◌, ◌⊎◌, inl, inr, ℕ, ◌+◌, ◌<◌, ◌≤◌, List, [], ◌∷◌, ◌++◌, length, refl, sym, ap, ◌∙◌, subst, arith, Result, Ok, Err, Bool, true, false, IsTrue, append-nil, append_assoc, length-append}
+use Rattle.std.proofs.Common.{◌≡◌, ◌≢◌, inl, inr, ℕ, ◌+◌, ◌<◌, ◌≤◌, List, [], ◌∷◌, ◌++◌, length, refl, sym, ap, ◌∙◌, subst, arith, Result, Ok, Err, Bool, true, false, IsTrue, append-nil, append_assoc, length-append}
 use Rattle.modbus_link.specs.declared.polled.Polled.{Polled}
 use Rattle.modbus_link.specs.declared.polled.Polled.TheVariants.{Ready, Pending}
-use Rattle.modbus_link.specs.Outside.{Input, Output, Rose, IsFront, shifted, RisesTo}
+use Rattle.modbus_link.specs.Outside.{Input, Output, Rose, IsFront, shifted}
 use Rattle.modbus_link.specs.Passing.{Passes, Sends, passes_out, passes_in, passes_both}
 use Rattle.modbus_link.specs.Reads.{HaveRooms, totals, Spends}
 use Rattle.modbus_link.specs.Runs.{RisesTo-both}
@@ -15,12 +15,12 @@ use Rattle.modbus_server.specs.declared.error.Step.TheVariants.{Answered, Silent
 use Rattle.modbus_server.specs.Framing.{Framing}
 use Rattle.modbus_service.specs.Answering.{Answering}
 use Rattle.modbus_server.specs.Exchanges.{Exchange}
-use Rattle.modbus_server.specs.Serving.{Stands, EndsAs, remaining}
+use Rattle.modbus_server.specs.Serving.{Stands, remaining}
 use Rattle.modbus_server.specs.State.{State}
 use Rattle.modbus_server.specs.Taking.{Took}
 use Rattle.modbus_server.specs.Moving.{Writes, EndsInput}
 use Rattle.modbus_server.specs.Stepping.{StepsAs, EndsIfMay, Stepped, EndsRead, spending_of}
-use Rattle.modbus_server.specs.Polled.{ReadsNothing, PollWrites, PollReads, Rests, Paused, PollSteps, PollStands, PollEnds, PolledTo, RunsWhole}
+use Rattle.modbus_server.specs.Polled.{ReadsNothing, PollWrites, PollReads, Paused, PollSteps, PollStands, PollEnds, PolledTo, RunsWhole}
 use Rattle.modbus_server.proofs.Standing.{opened, sent_on, halted}
 use Rattle.modbus_server.proofs.Stepping.{stepped_sent, stepped_read}
 

@@ -1,16 +1,17 @@
 -- What the answer to one message does.
-use Rattle.std.specs.Prelude.{◌≡◌, ◌≢◌, ◌⊎◌, ℕ, ◌<◌, List, [], Option, Some, None, Result, Ok, Err}
+use Rattle.std.specs.Prelude.{◌≡◌, ◌≢◌, ◌⊎◌, ℕ, ◌<◌, List, [], length, Result, Ok, Err}
 use Rattle.modbus_frame.specs.Meaning.{Asked}
 use Rattle.modbus_frame.specs.declared.response.Response.{Response}
 use Rattle.modbus_frame.specs.declared.response.ExceptionResponse.{ExceptionResponse}
 use Rattle.modbus_pdu.specs.declared.limits.TheConstants.{MAX_PDU}
+use Rattle.modbus_pdu.specs.Coding.{Fits, told_size}
 use Rattle.modbus_pdu.specs.RequestOf.{request_of, CarriesList}
 use Rattle.modbus_pdu.specs.ResponsePdu.{response_result_pdu}
 use Rattle.modbus_server.specs.declared.error.AnswerError.{AnswerError}
 use Rattle.modbus_server.specs.declared.error.AnswerError.TheVariants.{Refused, TooLong, NoMemory}
 use Rattle.modbus_server.specs.declared.error.Answer.{Answer}
 use Rattle.modbus_server.specs.declared.error.Answer.TheVariants.{Framed, Quiet}
-use Rattle.modbus_service.specs.Outcome.{silence, reply_pdu, code_of}
+use Rattle.modbus_service.specs.Outcome.{silence}
 use Rattle.modbus_server.specs.Framing.{Framing, Message}
 use Rattle.modbus_service.specs.Answering.{Answering}
 use Rattle.modbus_server.specs.Exchanges.{Exchange, GivesOutcome, ReplyFits, told_reply_size, reply_of, asked_of, asks}
@@ -25,14 +26,13 @@ abbrev pub WantsFor : (F : Framing) → {S : Type 0} → Answering S → Message
 WantsFor F A message old new =
     (request : Asked) × (request_of message.1 ≡ Ok request) × ((CarriesList request × (new ≡ old)) ⊎ A.wants old (F.slave message.0) request new)
 
--- the service gave an answer that is not silent, with this PDU, or was silent; or why there is none
-abbrev pub AsksAs : (F : Framing) → {S : Type 0} → Answering S → Message F → S → Result (Option (Result Response ExceptionResponse)) AnswerError → S → Type 0
-AsksAs F A message old (Ok (Some reply)) new =
-    (x : Exchange F) × Answered F A message old new x × (x.outcome ≢ silence) × (reply_pdu (code_of x.request) x.outcome ≡ response_result_pdu reply)
-AsksAs F A message old (Ok None) new = (x : Exchange F) × Answered F A message old new x × (x.outcome ≡ silence)
-AsksAs F A message old (Err (Refused reason)) new = (request_of message.1 ≡ Err reason) × (new ≡ old)
-AsksAs F A message old (Err NoMemory) new = WantsFor F A message old new
-AsksAs F A message old (Err (TooLong size)) new = ⊥
+-- An answer is framed, or is too long. There is room for each reply.
+abbrev pub FramesAs : (F : Framing) → F.Header → Result Response ExceptionResponse → Result Answer AnswerError → List ℕ → Type 0
+FramesAs F header given (Ok Framed) made = Fits (response_result_pdu given) × (made ≡ F.adu header (response_result_pdu given))
+FramesAs F header given (Ok Quiet) made = ⊥
+FramesAs F header given (Err (TooLong size)) made = (MAX_PDU < length (response_result_pdu given)) × (size ≡ told_size (response_result_pdu given))
+FramesAs F header given (Err (Refused reason)) made = ⊥
+FramesAs F header given (Err NoMemory) made = ⊥
 
 -- The reply is framed, there is none, or why there is no answer. There is room for each reply.
 abbrev pub AnswersAs : (F : Framing) → {S : Type 0} → Answering S → Message F → S → Result Answer AnswerError → S → List ℕ → Type 0

@@ -55,6 +55,7 @@ fn next_after<F>(answer: Result<Answer, AnswerError>) -> Result<Next, NextError<
 }
 
 /// Takes the next message off, asks the service once and frames the reply into an empty buffer.
+#[inline(always)]
 fn take_next<I: Framing, V: Answerer>(
     intake: &mut I,
     seam: &mut [u8; MAX_ROOM],
@@ -117,6 +118,7 @@ impl<I: Framing> Connection<I> {
     /// # Errors
     /// The fault that comes next, after the replies to all messages before it. `NoMemory` only where the request carries a list, or in the
     /// service: framing a reply takes none.
+    #[inline(always)]
     pub fn next<V: Answerer>(
         &mut self,
         alloc: Global,

@@ -53,6 +53,7 @@ impl Framing for Inbox {
         LONGEST_RESPONSE
     }
 
+    #[inline(always)]
     fn encode_answer(
         alloc: Global,
         header: SlaveId,
@@ -71,6 +72,7 @@ impl Framing for Inbox {
         self.is_empty()
     }
 
+    #[inline(always)]
     fn front<'a>(&'a self, seam: &'a mut [u8; MAX_ROOM]) -> Result<Front<'a, SlaveId>, Crowd> {
         match self.front(seam) {
             Ok(modbus_rtu::Front::Frame { slave, pdu, end }) => Ok(Front::Message {

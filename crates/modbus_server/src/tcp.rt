@@ -69,6 +69,7 @@ impl Framing for AduBuffer {
         LONGEST_RESPONSE
     }
 
+    #[inline(always)]
     fn encode_answer(
         alloc: Global,
         header: Header,
@@ -88,6 +89,7 @@ impl Framing for AduBuffer {
         self.bytes.is_empty()
     }
 
+    #[inline(always)]
     fn front<'a>(
         &'a self,
         _seam: &'a mut [u8; MAX_ROOM],

@@ -1,8 +1,5 @@
-//! Tests of the public calls of modbus_server and modbus_store: worked frames and ADUs, the limits of the standard, and that what may
-//! want memory succeeds with it.
+//! Tests of the servers of modbus_server over one connection: worked frames and ADUs, a stop, and links that are not ready.
 #![tactic(auto)]
 
 #[cfg(test)]
 mod server;
-#[cfg(test)]
-mod store;

@@ -1,7 +1,6 @@
 //! Servers: worked frames and ADUs, and each generic call once at a concrete type.
 ghost use Rattle.std.specs.Prelude.{◌≡◌};
 
-mod listeners;
 mod polled;
 mod stops;
 

@@ -13,8 +13,7 @@ use crate::mbap::{HEADER, MODBUS};
 use bytes::BytesMut;
 use modbus_frame::{EncodeError, ExceptionResponse, Request, Response, tcp};
 use modbus_pdu::{
-    MAX_PDU, encode_request_pdu, encode_response_result_pdu, request_pdu_size,
-    response_result_pdu_size,
+    MAX_PDU, put_request_pdu, put_response_result_pdu, request_pdu_size, response_result_pdu_size,
 };
 use std::alloc::Global;
 
@@ -39,7 +38,7 @@ fn put_header(buf: &mut BytesMut, header: tcp::Header, pdu_len: usize)
 /// buffer are then as they were.
 #[tactic(auto, unfolding(crate::specs::Adu::adu_of))]
 pub fn encode_request_adu(
-    alloc: Global,
+    _alloc: Global,
     header: tcp::Header,
     request: &Request<'_>,
     buf: &mut BytesMut,
@@ -50,10 +49,8 @@ pub fn encode_request_adu(
     // One growth for the whole ADU.
     buf.reserve(HEADER + pdu_len)?;
     put_header(buf, header, pdu_len);
-    match encode_request_pdu(alloc, buf, request) {
-        Ok(()) => Ok(()),
-        Err(_) => unreachable!(),
-    }
+    put_request_pdu(buf, request);
+    Ok(())
 }
 
 /// Appends the ADU of a response or an exception: the header, with the transaction and the unit identifier of the request, and the PDU
@@ -62,9 +59,10 @@ pub fn encode_request_adu(
 /// # Errors
 /// `TooLong` with the size of the PDU in bytes, exactly where that is above 253. `NoMemory` where memory is refused, only where the
 /// buffer had no room for the whole ADU. The bytes of the buffer are then as they were.
+#[inline(always)]
 #[tactic(auto, unfolding(crate::specs::Adu::adu_of))]
 pub fn encode_response_adu(
-    alloc: Global,
+    _alloc: Global,
     header: tcp::Header,
     answer: &Result<Response, ExceptionResponse>,
     buf: &mut BytesMut,
@@ -80,8 +78,6 @@ pub fn encode_response_adu(
     // One growth for the whole ADU.
     buf.reserve(HEADER + pdu_len)?;
     put_header(buf, header, pdu_len);
-    match encode_response_result_pdu(alloc, buf, answer) {
-        Ok(()) => Ok(()),
-        Err(_) => unreachable!(),
-    }
+    put_response_result_pdu(buf, answer);
+    Ok(())
 }

@@ -1,4 +1,4 @@
-use Rattle.std.proofs.Common.{rules, ◌≡◌, [], refl}
+use Rattle.std.proofs.Common.{rules, ◌≡◌, []}
 use Rattle.modbus_link.specs.Passing.{passes_none}
 use Rattle.modbus_client.proofs.Asking.{sent_refused, exchanged_unsent}
 use Rattle.modbus_client.proofs.Polling.{exchanged_polled}

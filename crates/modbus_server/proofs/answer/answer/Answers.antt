@@ -1,22 +1,63 @@
-use Rattle.std.proofs.Common.{Ok, Err}
-use Rattle.modbus_frame.specs.declared.fault.EncodeError.TheVariants as encode
-use Rattle.modbus_server.proofs.Answering.{framed_as, not_asked, silent}
+use Rattle.std.proofs.Common.{ℕ, List, ◌≡◌, ◌+◌, ◌∷◌, [], ap, sym, refl, ◌∙◌, subst, Ok, Err, inl, inr}
+use Rattle.modbus_frame.specs.Codes.{function_number, exception_number}
+use Rattle.modbus_frame.specs.Meaning.{meaning}
+use Rattle.modbus_pdu.specs.RequestOf.{request_of, CarriesList}
+use Rattle.modbus_service.specs.Outcome.{silence, reply, exception, code_of}
+use Rattle.modbus_server.proofs.Answering.{exchange, answered, reply_is, exception_is, is_request, framed_as, silent}
 use Rattle.modbus_server.proofs.answer.answer.Goals as goal
 
-pub returns-in-Err-clause-answers : goal.returns-in-Err-clause-answers
-returns-in-Err-clause-answers g c = not_asked g.I.Framing.framing g.V.Answerer.answering _ c.args.service.now c.ask.new.service _ c.in-Err.error c.in-Err.ensures.asks
-
 pub returns-in-Ok-None-clause-answers : goal.returns-in-Ok-None-clause-answers
-returns-in-Ok-None-clause-answers g c = silent g.I.Framing.framing g.V.Answerer.answering _ c.args.service.now c.ask.new.service _ (rw c.in-Ok-None.field-0-is at c.in-Ok-None.ensures.asks) c.requires.empty
+returns-in-Ok-None-clause-answers g c =
+    let F = g.I.Framing.framing in
+    let A = g.V.Answerer.answering in
+    let message : F.Header × List ℕ = (g.I.Framing.header_of c.args.header, c.args.pdu.now) in
+    let e : request_of message.1 ≡ Ok (meaning c.in-Ok.request) = c.in-Ok.ensures.value in
+    let step : A.gives c.args.service.now (F.slave message.0) (meaning c.in-Ok.request) silence c.ask.new.self =
+    subst (λ n. A.gives c.args.service.now n (meaning c.in-Ok.request) silence c.ask.new.self) c.slave-slave.ensures (rw c.in-Ok-None.field-0-is at c.in-Ok-None.ensures) in
+    silent F A message c.args.service.now c.ask.new.self c.args.reply.now.items (exchange F message.0 (meaning c.in-Ok.request) silence)
+    (answered F A message.0 message.1 c.args.service.now c.ask.new.self (meaning c.in-Ok.request) silence e step) refl c.requires.empty
 
-pub returns-in-Ok-clause-answers : goal.returns-in-Ok-clause-answers
-returns-in-Ok-clause-answers g c =
-    framed_as g.I.Framing.framing g.V.Answerer.answering (g.I.Framing.header_of c.args.header, c.args.pdu.now) c.args.service.now c.ask.new.service c.in-Ok-Some.answer
-    c.args.reply.now.items c.encode_answer.new.reply.items (Ok tt)
-    (rw c.in-Ok-Some.field-0-is at c.in-Ok-Some.ensures.asks) c.in-Ok.ensures.encodes c.requires.empty (λ e. cc)
+pub returns-in-Ok-Some-clause-answers : goal.returns-in-Ok-Some-clause-answers
+returns-in-Ok-Some-clause-answers g c =
+    let F = g.I.Framing.framing in
+    let A = g.V.Answerer.answering in
+    let message : F.Header × List ℕ = (g.I.Framing.header_of c.args.header, c.args.pdu.now) in
+    let e : request_of message.1 ≡ Ok (meaning c.in-Ok.request) = c.in-Ok.ensures.value in
+    let step : A.gives c.args.service.now (F.slave message.0) (meaning c.in-Ok.request) (reply c.in-Ok-Some.response) c.ask.new.self =
+    subst (λ n. A.gives c.args.service.now n (meaning c.in-Ok.request) (reply c.in-Ok-Some.response) c.ask.new.self) c.slave-slave.ensures (rw c.in-Ok-Some.field-0-is at c.in-Ok-Some.ensures) in
+    framed_as F A message c.args.service.now c.ask.new.self (Ok c.in-Ok-Some.response) c.frame.result c.frame.new.reply.items (
+      exchange F message.0 (meaning c.in-Ok.request) (reply c.in-Ok-Some.response),
+      answered F A message.0 message.1 c.args.service.now c.ask.new.self (meaning c.in-Ok.request) (reply c.in-Ok-Some.response) e step,
+      (λ bad. cc),
+      reply_is (code_of (meaning c.in-Ok.request)) c.in-Ok-Some.response,
+    ) (rw c.in-Ok-Some.field-0-is at c.frame.ensures.frames)
 
-pub returns-in-Err-TooLong-clause-answers : goal.returns-in-Err-TooLong-clause-answers
-returns-in-Err-TooLong-clause-answers g c =
-    framed_as g.I.Framing.framing g.V.Answerer.answering (g.I.Framing.header_of c.args.header, c.args.pdu.now) c.args.service.now c.ask.new.service c.in-Ok-Some.answer
-    c.args.reply.now.items c.encode_answer.new.reply.items (Err (encode.TooLong c.in-Err-TooLong.size))
-    (rw c.in-Ok-Some.field-0-is at c.in-Ok-Some.ensures.asks) (rw c.in-Err-TooLong.field-0-is at c.in-Err-TooLong.ensures.encodes) c.requires.empty (λ e. cc)
+pub returns-in-Err-Exception-clause-answers : goal.returns-in-Err-Exception-clause-answers
+returns-in-Err-Exception-clause-answers g c =
+    let F = g.I.Framing.framing in
+    let A = g.V.Answerer.answering in
+    let message : F.Header × List ℕ = (g.I.Framing.header_of c.args.header, c.args.pdu.now) in
+    let e : request_of message.1 ≡ Ok (meaning c.in-Ok.request) = c.in-Ok.ensures.value in
+    let step : A.gives c.args.service.now (F.slave message.0) (meaning c.in-Ok.request) (exception c.in-Err-Exception.exception) c.ask.new.self =
+    subst (λ n. A.gives c.args.service.now n (meaning c.in-Ok.request) (exception c.in-Err-Exception.exception) c.ask.new.self) c.slave-slave.ensures (rw c.in-Err-Exception.field-0-is at c.in-Err-Exception.ensures) in
+    framed_as F A message c.args.service.now c.ask.new.self (Err (record { function = c.function_code-function.result; exception = c.in-Err-Exception.exception })) c.frame-in-Err-Exception.result c.frame-in-Err-Exception.new.reply.items (
+      exchange F message.0 (meaning c.in-Ok.request) (exception c.in-Err-Exception.exception),
+      answered F A message.0 message.1 c.args.service.now c.ask.new.self (meaning c.in-Ok.request) (exception c.in-Err-Exception.exception) e step,
+      (λ bad. cc),
+      exception_is (code_of (meaning c.in-Ok.request)) c.in-Err-Exception.exception ∙ ap (λ f. (function_number f + 0x80) ∷ exception_number c.in-Err-Exception.exception ∷ []) (sym c.function_code-function.ensures),
+    ) c.frame-in-Err-Exception.ensures.frames
+
+pub returns-in-Err-NoMemory-clause-answers : goal.returns-in-Err-NoMemory-clause-answers
+returns-in-Err-NoMemory-clause-answers g c =
+    let some = is_request (request_of c.args.pdu.now) CarriesList ((rw c.in-Err-NoMemory.field-0-is at c.in-Err-NoMemory.ensures.memory) refl) in
+    (some.0, some.1, inl (some.2, refl))
+
+pub returns-in-Err-NoMemory-ask-clause-answers : goal.returns-in-Err-NoMemory-ask-clause-answers
+returns-in-Err-NoMemory-ask-clause-answers g c =
+    let F = g.I.Framing.framing in
+    let A = g.V.Answerer.answering in
+    let message : F.Header × List ℕ = (g.I.Framing.header_of c.args.header, c.args.pdu.now) in
+    let e : request_of message.1 ≡ Ok (meaning c.in-Ok.request) = c.in-Ok.ensures.value in
+    let step : A.wants c.args.service.now (F.slave message.0) (meaning c.in-Ok.request) c.ask.new.self =
+    subst (λ n. A.wants c.args.service.now n (meaning c.in-Ok.request) c.ask.new.self) c.slave-slave.ensures (rw c.in-Err-NoMemory-ask.field-0-is at c.in-Err-NoMemory-ask.ensures) in
+    (meaning c.in-Ok.request, e, inr step)

@@ -1,34 +1,30 @@
 use Rattle.std.proofs.Common.{rules, ◌-◌, refl, ◌∙◌, ◌≡◌, arith, ◌≤◌, ◌+◌, length, ◌==◌}
 use Rattle.std.proofs.lemmas.Grind.{common_steps}
-use Rattle.modbus_link.proofs.CutsLemmas.{memory-gives, memory-bytes, memory-cuts, memory-not_ended}
+use Rattle.modbus_link.proofs.OneRead.{read-gives, read-bytes, read-cuts, read-not_ended}
 use Rattle.modbus_link.proofs.memory.MemorySourceSource.read.Goals as goal
 
 pub returns-clause-source : goal.returns-clause-source
 returns-clause-source c = rw (← c.self.view_is) (
     let within : c.next_end-end.result ≤ length c.self.inside.input.items =
     grind (arith, common_steps, c.next_end-end.ensures.at_most, c.self.invariant.within, c.self.inside.input.ok.0) in
-    let same : length c.self.inside.rooms.items ≡ length c.self.inside.input.items =
-    omega (arith, c.self.invariant.rooms_for_all, c.self.inside.rooms.ok.0, c.self.inside.input.ok.0) in
     record {
       told = refl;
       later = omega arith;
       names = refl;
       sure = refl;
       no_fault = λ sure. refl;
-      content = λ told. memory-gives _ _ _ _ (length c.args.room.now) c.self.inside.faults (length c.self.inside.fails.items == 0) c.next_end-end.ensures.above within same c.requires c.self.invariant.none_yet;
+      content = λ told. read-gives _ _ _ _ _ (length c.args.room.now) c.self.inside.faults (length c.self.inside.fails.items == 0) c.next_end-end.ensures.above within c.push_reserved.ensures.items;
     })
 
 pub returns-clause-told : goal.returns-clause-told
 returns-clause-told c = rw (← c.self.view_is) (λ told.
     let within : c.next_end-end.result ≤ length c.self.inside.input.items =
     grind (arith, common_steps, c.next_end-end.ensures.at_most, c.self.invariant.within, c.self.inside.input.ok.0) in
-    let same : length c.self.inside.rooms.items ≡ length c.self.inside.input.items =
-    omega (arith, c.self.invariant.rooms_for_all, c.self.inside.rooms.ok.0, c.self.inside.input.ok.0) in
     record {
-      bytes = memory-bytes _ _ _ _ (length c.args.room.now) c.self.inside.faults (length c.self.inside.fails.items == 0) c.next_end-end.ensures.above within same c.requires c.self.invariant.none_yet ∙ grind (arith, common_steps);
-      cuts = memory-cuts _ _ _ _ (length c.args.room.now) c.self.inside.faults (length c.self.inside.fails.items == 0) c.next_end-end.ensures.above within same c.requires c.self.invariant.none_yet;
+      bytes = read-bytes _ _ _ _ _ (length c.args.room.now) c.self.inside.faults (length c.self.inside.fails.items == 0) c.next_end-end.ensures.above within c.push_reserved.ensures.items ∙ grind (arith, common_steps);
+      cuts = read-cuts _ _ _ _ _ (length c.args.room.now) c.self.inside.faults (length c.self.inside.fails.items == 0) c.next_end-end.ensures.above within c.push_reserved.ensures.items;
       rest = grind (arith, common_steps);
-      ended = memory-not_ended _ _ _ _ (length c.args.room.now) c.self.inside.faults (length c.self.inside.fails.items == 0) c.next_end-end.ensures.above within same c.requires c.self.invariant.none_yet;
+      ended = read-not_ended _ _ _ _ _ (length c.args.room.now) c.self.inside.faults (length c.self.inside.fails.items == 0) c.next_end-end.ensures.above within c.push_reserved.ensures.items;
     })
 
 pub returns-clause-reads : goal.returns-clause-reads

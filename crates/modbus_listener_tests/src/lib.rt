@@ -1,0 +1,5 @@
+//! Tests of the listeners of modbus_server and of the workers of their connections.
+#![tactic(auto)]
+
+#[cfg(test)]
+mod listeners;
