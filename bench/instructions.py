@@ -4,8 +4,11 @@
 usage: bench/instructions.py
 
 It serves 1,000 and 100,000 requests over standard input and output under callgrind, and prints the difference a request: for RTU frames and
-for Modbus TCP, and the ten functions that cost most. Then it does the same for `make`, which makes its requests itself. Last it serves frames of kinds that carry no list (05, 06) under memcheck, and prints
-the allocations a request. The requests are those of bench/rtu.py, from a fixed seed. It is no test; it needs Python 3.9 and valgrind.
+for Modbus TCP, and the ten functions that cost most. Then it does the same for `make`, which makes its requests itself, and for RTU frames that
+read, and that write, one register. Last it serves frames of kinds that carry no list (05, 06) under memcheck, and prints the allocations a
+request. The requests are those of bench/rtu.py, from a fixed seed. It is no test; it needs Python 3.9 and valgrind.
+
+BENCH_PROGRAM names another program to measure in place of the built one.
 """
 
 import os
@@ -19,6 +22,7 @@ import rtu
 
 FEW, MANY = 1_000, 100_000
 UNIT = 1
+PROGRAM = os.environ.get("BENCH_PROGRAM", rtu.PROGRAM)
 
 
 def adus(count):
@@ -43,6 +47,19 @@ def single_writes(count):
         yield body + rtu.crc(body).to_bytes(2, "little")
 
 
+def one_register(function):
+    """Makes frames that read (03) or write (06) one register."""
+
+    def frames(count):
+        rng = random.Random(rtu.SEED)
+        for _ in range(count):
+            address = rtu.word(rng.randrange(rtu.TABLE))
+            body = b"\x01" + bytes((function,)) + address + rtu.word(1)
+            yield body + rtu.crc(body).to_bytes(2, "little")
+
+    return frames
+
+
 def serve(tool, words, requests):
     """The text that a tool of valgrind tells of the program with these words over these requests."""
     with tempfile.TemporaryFile() as line:
@@ -50,7 +67,7 @@ def serve(tool, words, requests):
             line.write(request)
         line.seek(0)
         done = subprocess.run(
-            ["valgrind", *tool, rtu.PROGRAM, *words], stdin=line, stdout=subprocess.DEVNULL, stderr=subprocess.PIPE, check=True
+            ["valgrind", *tool, PROGRAM, *words], stdin=line, stdout=subprocess.DEVNULL, stderr=subprocess.PIPE, check=True
         )
     return done.stderr.decode()
 
@@ -74,16 +91,16 @@ def made(count):
     return (["make", str(count)], ())
 
 
-def costs(word, run):
+def costs(name, run, rows=10):
     """Prints the instructions a request, and where they go."""
     with tempfile.TemporaryDirectory() as folder:
         profile = os.path.join(folder, "profile")
         few = instructions(*run(FEW), profile)
         many = instructions(*run(MANY), profile)
-        print(f"{word}: {(many - few) / (MANY - FEW):.0f} instructions a request")
+        print(f"{name}: {(many - few) / (MANY - FEW):.0f} instructions a request")
         listing = subprocess.run(["callgrind_annotate", profile], stdout=subprocess.PIPE, check=True).stdout.decode()
-    rows = [row for row in listing.splitlines() if re.match(r"\s*[\d,]+ \(\s*[\d.]+%\)\s+\S*:", row)]
-    for row in rows[:10]:
+    found = [row for row in listing.splitlines() if re.match(r"\s*[\d,]+ \(\s*[\d.]+%\)\s+\S*:", row)]
+    for row in found[:rows]:
         cost, where = re.match(r"\s*([\d,]+) \(.*?\)\s+(.*)", row).groups()
         name = where.split(" [")[0].split(":", 1)[1]
         print(f"  {int(cost.replace(',', '')) / MANY:7.1f}  {name}")
@@ -96,11 +113,13 @@ def allocations():
 
 
 def main():
-    if not os.path.exists(rtu.PROGRAM):
+    if not os.path.exists(PROGRAM):
         sys.exit("bench: build the program first: ./prove")
     costs("rtu", fed("rtu", rtu.frames))
     costs("tcp", fed("tcp", adus))
     costs("make", made)
+    costs("rtu, reads of one register", fed("rtu", one_register(0x03)), rows=0)
+    costs("rtu, writes of one register", fed("rtu", one_register(0x06)), rows=0)
     allocations()
 
 
