@@ -1,72 +1,18 @@
-//! The blocking driver of a connection: one step over an object that is source and sink.
-ghost use Rattle.std.specs.Prelude.{◌≡◌, [], IsTrue, OnOk, OnErr, Err};
+//! The driver of a connection over a link that may not be ready. A link that blocks is always ready, so the blocking step stands on it.
+ghost use Rattle.std.specs.Prelude.{◌≡◌, ◌≤◌, [], IsTrue, OnErr, Err};
 ghost use Rattle.modbus_link.specs.Outside.{Rose};
 ghost use Rattle.modbus_link.specs.Passing.{Sends};
-ghost use Rattle.modbus_server.specs.Moving.{Writes, Reads};
+ghost use Rattle.modbus_link.specs.Polled.{Waited};
 ghost use Rattle.modbus_server.specs.Taking.{told_next, IsToldWell};
 ghost use Rattle.modbus_server.specs.Stepping.{Stepped};
+ghost use Rattle.modbus_server.specs.Polled.{IsFlushed, PollWrites, PollReads, PollSteps};
 
 use crate::connection::Connection;
 use crate::error::{Next, NextError, ProcessError, Step};
 use crate::framing::{Framing, MAX_ROOM};
-use modbus_link::{Both, Failed, Sink, Source};
+use modbus_link::{Both, Failed, Polled, PolledLink, Sink, Source};
 use modbus_service::Answerer;
 use std::alloc::Global;
-
-/// Writes all that waits, in as many writes as it takes.
-pub(crate) fn flush<I: Framing, L: Sink>(
-    connection: &mut Connection<I>,
-    link: &mut L,
-) -> Result<(), Failed>
-    ensures source { L.input link.new ≡ L.input link.old }
-    ensures keeps { connection.new ≡ record connection.old { waiting = connection.new.waiting } }
-    ensures sends { Sends (L.output link.old) (L.output link.new) connection.old.waiting connection.new.waiting }
-    ensures all { OnOk result (connection.new.waiting ≡ []) }
-    ensures cause { OnErr result (Rose (L.output link.old).faults (L.output link.new).faults) }
-{
-    while !connection.to_write().is_empty() {
-        let count = link.write(connection.to_write())?;
-        connection.wrote(count);
-    }
-    Ok(())
-}
-
-/// Reads once, and feeds what the read gave.
-fn read_more<I: Framing, L: Source>(
-    connection: &mut Connection<I>,
-    alloc: Global,
-    link: &mut L,
-) -> Result<Step, ProcessError>
-    requires { I.framing.Waits connection.old.held }
-    ensures sink { L.output link.new ≡ L.output link.old }
-    ensures reads { Reads I.framing (L.input link.old) (L.input link.new) connection.old connection.new result }
-{
-    if connection.make_room(alloc).is_err() {
-        connection.close();
-        return Err(ProcessError::NoMemory);
-    }
-    let mut buffer = [0; MAX_ROOM];
-    let room = connection.room();
-    let buffer = &mut buffer[..room];
-    match link.read(buffer) {
-        Err(Failed) => {
-            connection.close();
-            Err(ProcessError::ReadFault)
-        }
-        Ok(count) => {
-            if count == 0 {
-                if connection.end() {
-                    Ok(Step::Ended)
-                } else {
-                    Err(ProcessError::BytesRemaining)
-                }
-            } else {
-                connection.feed(&buffer[..count]);
-                Ok(Step::MoreRead)
-            }
-        }
-    }
-}
 
 /// How a server tells why there is no next reply.
 pub(crate) fn tell_next<I: Framing>(error: NextError<I::Fault>) -> ProcessError
@@ -81,21 +27,115 @@ pub(crate) fn tell_next<I: Framing>(error: NextError<I::Fault>) -> ProcessError
     }
 }
 
-/// Writes the reply.
-fn send<I: Framing, L: Sink>(
+/// Writes what waits, as far as the link is ready.
+fn flush<I: Framing, L: PolledLink>(
     connection: &mut Connection<I>,
     link: &mut L,
-) -> Result<Step, ProcessError>
+) -> Result<Polled<()>, Failed>
+    ensures source { L.input link.new ≡ L.input link.old }
+    ensures keeps { connection.new ≡ record connection.old { waiting = connection.new.waiting } }
+    ensures sends { Sends (L.output link.old) (L.output link.new) connection.old.waiting connection.new.waiting }
+    ensures all { IsFlushed connection.new.waiting result }
+    ensures cause { OnErr result (Rose (L.output link.old).faults (L.output link.new).faults) }
+    ensures waited { Waited result (L.not_ready link.old) (L.not_ready link.new) }
+    ensures later { L.not_ready link.old ≤ L.not_ready link.new }
+{
+    while !connection.to_write().is_empty() {
+        match link.poll_write(connection.to_write())? {
+            Polled::Pending => return Ok(Polled::Pending),
+            Polled::Ready(count) => connection.wrote(count),
+        }
+    }
+    Ok(Polled::Ready(()))
+}
+
+/// Writes what waits of the last reply, as far as the link is ready.
+pub(crate) fn send<I: Framing, L: PolledLink>(
+    connection: &mut Connection<I>,
+    link: &mut L,
+) -> Result<Polled<Step>, ProcessError>
     ensures source { L.input link.new ≡ L.input link.old }
     ensures sends { Sends (L.output link.old) (L.output link.new) connection.old.waiting connection.new.waiting }
-    ensures writes { Writes connection.old connection.new result }
+    ensures writes { PollWrites connection.old connection.new result }
     ensures cause { result ≡ Err ProcessError.WriteFault → Rose (L.output link.old).faults (L.output link.new).faults }
+    ensures waited { Waited result (L.not_ready link.old) (L.not_ready link.new) }
+    ensures later { L.not_ready link.old ≤ L.not_ready link.new }
 {
     match flush(connection, link) {
-        Ok(()) => Ok(Step::Answered),
+        Ok(Polled::Ready(())) => Ok(Polled::Ready(Step::Answered)),
+        Ok(Polled::Pending) => Ok(Polled::Pending),
         Err(Failed) => {
             connection.close();
             Err(ProcessError::WriteFault)
+        }
+    }
+}
+
+/// Reads once, where the link is ready, and feeds what the read gave.
+fn read_more<I: Framing, L: PolledLink>(
+    connection: &mut Connection<I>,
+    alloc: Global,
+    link: &mut L,
+) -> Result<Polled<Step>, ProcessError>
+    requires { I.framing.Waits connection.old.held }
+    ensures sink { L.output link.new ≡ L.output link.old }
+    ensures reads { PollReads I.framing (L.input link.old) (L.input link.new) connection.old connection.new result }
+    ensures waited { Waited result (L.not_ready link.old) (L.not_ready link.new) }
+    ensures later { L.not_ready link.old ≤ L.not_ready link.new }
+{
+    if connection.make_room(alloc).is_err() {
+        connection.close();
+        return Err(ProcessError::NoMemory);
+    }
+    let mut buffer = [0; MAX_ROOM];
+    let room = connection.room();
+    let buffer = &mut buffer[..room];
+    match link.poll_read(buffer) {
+        Ok(Polled::Pending) => Ok(Polled::Pending),
+        Err(Failed) => {
+            connection.close();
+            Err(ProcessError::ReadFault)
+        }
+        Ok(Polled::Ready(count)) => {
+            if count == 0 {
+                if connection.end() {
+                    Ok(Polled::Ready(Step::Ended))
+                } else {
+                    Err(ProcessError::BytesRemaining)
+                }
+            } else {
+                connection.feed(&buffer[..count]);
+                Ok(Polled::Ready(Step::MoreRead))
+            }
+        }
+    }
+}
+
+/// Takes one step where nothing waits, as far as the link is ready: asks the service about the next message and writes the reply; where
+/// there is no message, reads once if `may_read`.
+pub(crate) fn poll_step<I: Framing, L: PolledLink, V: Answerer>(
+    connection: &mut Connection<I>,
+    alloc: Global,
+    link: &mut L,
+    service: &mut V,
+    may_read: bool,
+) -> Result<Polled<Step>, ProcessError>
+    requires open { IsTrue connection.old.is_open }
+    requires written { connection.old.waiting ≡ [] }
+    ensures steps { PollSteps I.framing V.answering connection.old connection.new service.old service.new (L.input link.old) (L.input link.new) (L.output link.old) (L.output link.new) may_read result }
+    ensures waited { Waited result (L.not_ready link.old) (L.not_ready link.new) }
+    ensures later { L.not_ready link.old ≤ L.not_ready link.new }
+{
+    match connection.next(alloc, service) {
+        Err(error) => Err(tell_next::<I>(error)),
+        Ok(Next::Silent) => Ok(Polled::Ready(Step::Silent)),
+        Ok(Next::Reply) => send(connection, link),
+        Ok(Next::Waiting) => {
+            if may_read {
+                read_more(connection, alloc, link)
+            } else {
+                Ok(Polled::Ready(Step::Hungry))
+            }
         }
     }
 }
@@ -117,17 +157,10 @@ impl<I: Framing> Connection<I> {
         requires written { self.old.waiting ≡ [] }
         ensures { Stepped I.framing V.answering self.old self.new service.old service.new (L.input link.old) (L.input link.new) (L.output link.old) (L.output link.new) may_read result }
     {
-        match self.next(alloc, service) {
-            Err(error) => Err(tell_next::<I>(error)),
-            Ok(Next::Silent) => Ok(Step::Silent),
-            Ok(Next::Reply) => send(self, link),
-            Ok(Next::Waiting) => {
-                if may_read {
-                    read_more(self, alloc, link)
-                } else {
-                    Ok(Step::Hungry)
-                }
-            }
+        match poll_step(self, alloc, link, service, may_read) {
+            Ok(Polled::Ready(step)) => Ok(step),
+            Ok(Polled::Pending) => unreachable!(),
+            Err(error) => Err(error),
         }
     }
 

@@ -1,131 +1,15 @@
-//! The polled driver of a connection: a server over a link that may not be ready, which goes on where it stopped.
-ghost use Rattle.std.specs.Prelude.{◌≡◌, ◌≤◌, [], IfOk, IsTrue, OnErr, Err};
-ghost use Rattle.modbus_link.specs.Outside.{Rose};
-ghost use Rattle.modbus_link.specs.Passing.{Sends};
-ghost use Rattle.modbus_link.specs.Polled.{Waited};
-ghost use Rattle.modbus_server.specs.Polled.{IsFlushed, PollWrites, PollReads, PollSteps, PolledTo, RunsWhole};
+//! A server over a link that may not be ready, which goes on where it stopped.
+ghost use Rattle.std.specs.Prelude.{◌≡◌, [], IfOk, IsTrue};
+ghost use Rattle.modbus_server.specs.Polled.{PolledTo, RunsWhole};
 
 use crate::connection::Connection;
-use crate::drive::tell_next;
-use crate::error::{Next, ProcessError, Step};
-use crate::framing::{Framing, MAX_ROOM};
-use modbus_link::{Failed, Polled, PolledLink};
+use crate::drive::{poll_step, send};
+use crate::error::{ProcessError, Step};
+use crate::framing::Framing;
+use modbus_link::{Polled, PolledLink};
 use modbus_service::Answerer;
 use std::alloc::{AllocError, Global};
 use std::marker::Model;
-
-/// Writes what waits, as far as the link is ready.
-fn poll_flush<I: Framing, L: PolledLink>(
-    connection: &mut Connection<I>,
-    link: &mut L,
-) -> Result<Polled<()>, Failed>
-    ensures source { L.input link.new ≡ L.input link.old }
-    ensures keeps { connection.new ≡ record connection.old { waiting = connection.new.waiting } }
-    ensures sends { Sends (L.output link.old) (L.output link.new) connection.old.waiting connection.new.waiting }
-    ensures all { IsFlushed connection.new.waiting result }
-    ensures cause { OnErr result (Rose (L.output link.old).faults (L.output link.new).faults) }
-    ensures waited { Waited result (L.not_ready link.old) (L.not_ready link.new) }
-    ensures later { L.not_ready link.old ≤ L.not_ready link.new }
-{
-    while !connection.to_write().is_empty() {
-        match link.poll_write(connection.to_write())? {
-            Polled::Pending => return Ok(Polled::Pending),
-            Polled::Ready(count) => connection.wrote(count),
-        }
-    }
-    Ok(Polled::Ready(()))
-}
-
-/// Writes what waits of the last reply, as far as the link is ready.
-fn poll_send<I: Framing, L: PolledLink>(
-    connection: &mut Connection<I>,
-    link: &mut L,
-) -> Result<Polled<Step>, ProcessError>
-    ensures source { L.input link.new ≡ L.input link.old }
-    ensures sends { Sends (L.output link.old) (L.output link.new) connection.old.waiting connection.new.waiting }
-    ensures writes { PollWrites connection.old connection.new result }
-    ensures cause { result ≡ Err ProcessError.WriteFault → Rose (L.output link.old).faults (L.output link.new).faults }
-    ensures waited { Waited result (L.not_ready link.old) (L.not_ready link.new) }
-    ensures later { L.not_ready link.old ≤ L.not_ready link.new }
-{
-    match poll_flush(connection, link) {
-        Ok(Polled::Ready(())) => Ok(Polled::Ready(Step::Answered)),
-        Ok(Polled::Pending) => Ok(Polled::Pending),
-        Err(Failed) => {
-            connection.close();
-            Err(ProcessError::WriteFault)
-        }
-    }
-}
-
-/// Reads once, where the link is ready, and feeds what the read gave.
-fn poll_read_more<I: Framing, L: PolledLink>(
-    connection: &mut Connection<I>,
-    alloc: Global,
-    link: &mut L,
-) -> Result<Polled<Step>, ProcessError>
-    requires { I.framing.Waits connection.old.held }
-    ensures sink { L.output link.new ≡ L.output link.old }
-    ensures reads { PollReads I.framing (L.input link.old) (L.input link.new) connection.old connection.new result }
-    ensures waited { Waited result (L.not_ready link.old) (L.not_ready link.new) }
-    ensures later { L.not_ready link.old ≤ L.not_ready link.new }
-{
-    if connection.make_room(alloc).is_err() {
-        connection.close();
-        return Err(ProcessError::NoMemory);
-    }
-    let mut buffer = [0; MAX_ROOM];
-    let room = connection.room();
-    let buffer = &mut buffer[..room];
-    match link.poll_read(buffer) {
-        Ok(Polled::Pending) => Ok(Polled::Pending),
-        Err(Failed) => {
-            connection.close();
-            Err(ProcessError::ReadFault)
-        }
-        Ok(Polled::Ready(count)) => {
-            if count == 0 {
-                if connection.end() {
-                    Ok(Polled::Ready(Step::Ended))
-                } else {
-                    Err(ProcessError::BytesRemaining)
-                }
-            } else {
-                connection.feed(&buffer[..count]);
-                Ok(Polled::Ready(Step::MoreRead))
-            }
-        }
-    }
-}
-
-/// Takes one step where nothing waits, as far as the link is ready: asks the service about the next message and writes the reply; where
-/// there is no message, reads once if `may_read`.
-fn poll_step<I: Framing, L: PolledLink, V: Answerer>(
-    connection: &mut Connection<I>,
-    alloc: Global,
-    link: &mut L,
-    service: &mut V,
-    may_read: bool,
-) -> Result<Polled<Step>, ProcessError>
-    requires open { IsTrue connection.old.is_open }
-    requires written { connection.old.waiting ≡ [] }
-    ensures steps { PollSteps I.framing V.answering connection.old connection.new service.old service.new (L.input link.old) (L.input link.new) (L.output link.old) (L.output link.new) may_read result }
-    ensures waited { Waited result (L.not_ready link.old) (L.not_ready link.new) }
-    ensures later { L.not_ready link.old ≤ L.not_ready link.new }
-{
-    match connection.next(alloc, service) {
-        Err(error) => Err(tell_next::<I>(error)),
-        Ok(Next::Silent) => Ok(Polled::Ready(Step::Silent)),
-        Ok(Next::Reply) => poll_send(connection, link),
-        Ok(Next::Waiting) => {
-            if may_read {
-                poll_read_more(connection, alloc, link)
-            } else {
-                Ok(Polled::Ready(Step::Hungry))
-            }
-        }
-    }
-}
 
 /// Writes what waits, and then takes one step after another, as far as the link is ready.
 fn poll_connection<I: Framing, L: PolledLink, V: Answerer>(
@@ -138,7 +22,7 @@ fn poll_connection<I: Framing, L: PolledLink, V: Answerer>(
     requires { IsTrue connection.old.is_open }
     ensures { PolledTo I.framing V.answering connection.old connection.new left.old left.new service.old service.new (L.input link.old) (L.input link.new) (L.output link.old) (L.output link.new) (L.not_ready link.old) (L.not_ready link.new) result }
 {
-    match poll_send(connection, link) {
+    match send(connection, link) {
         Err(error) => return Polled::Ready(Err(error)),
         Ok(Polled::Pending) => return Polled::Pending,
         Ok(Polled::Ready(_)) => {}

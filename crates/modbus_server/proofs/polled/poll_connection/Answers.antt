@@ -5,16 +5,16 @@ use Rattle.modbus_server.proofs.polled.poll_connection.Goals as goal
 
 pub returns-in-Err : goal.returns-in-Err
 returns-in-Err g c =
-    begun_failed g.I.Framing.framing g.V.Answerer.answering c.args.connection.now c.poll_send.new.connection _ _ _ _ _ _ _ _ c.poll_send.ensures.source c.poll_send.ensures.sends c.poll_send.ensures.later c.requires c.in-Err.error c.in-Err.ensures.writes c.in-Err.ensures.cause
+    begun_failed g.I.Framing.framing g.V.Answerer.answering c.args.connection.now c.send.new.connection _ _ _ _ _ _ _ _ c.send.ensures.source c.send.ensures.sends c.send.ensures.later c.requires c.in-Err.error c.in-Err.ensures.writes c.in-Err.ensures.cause
 
 pub returns-in-Ok-Pending : goal.returns-in-Ok-Pending
 returns-in-Ok-Pending g c =
     let found = rw c.in-Ok-Pending.field-0-is at c.in-Ok-Pending.ensures in
-    begun_pending g.I.Framing.framing g.V.Answerer.answering c.args.connection.now c.poll_send.new.connection _ _ _ _ _ _ _ _ c.poll_send.ensures.source c.poll_send.ensures.sends c.poll_send.ensures.later c.requires found.waited found.writes
+    begun_pending g.I.Framing.framing g.V.Answerer.answering c.args.connection.now c.send.new.connection _ _ _ _ _ _ _ _ c.send.ensures.source c.send.ensures.sends c.send.ensures.later c.requires found.waited found.writes
 
 pub steps-init : goal.steps-init
 steps-init g c =
-    begun g.I.Framing.framing g.V.Answerer.answering c.args.connection.now c.poll_send.new.connection _ _ _ _ _ _ _ _ c.poll_send.ensures.source c.poll_send.ensures.sends c.poll_send.ensures.later c.requires c.in-Ok-Ready.field-0-0 (rw c.in-Ok-Ready.field-0-is at c.in-Ok-Ready.ensures.writes)
+    begun g.I.Framing.framing g.V.Answerer.answering c.args.connection.now c.send.new.connection _ _ _ _ _ _ _ _ c.send.ensures.source c.send.ensures.sends c.send.ensures.later c.requires c.in-Ok-Ready.field-0-0 (rw c.in-Ok-Ready.field-0-is at c.in-Ok-Ready.ensures.writes)
 
 pub returns-in-Err-poll_step : goal.returns-in-Err-poll_step
 returns-in-Err-poll_step g c =

@@ -1,6 +1,6 @@
 use Rattle.modbus_server.proofs.Stepping.{stepped_error, stepped_silent, stepped_hungry}
 use Rattle.modbus_server.proofs.Polling.{steps_sent, steps_read}
-use Rattle.modbus_server.proofs.polled.poll_step.Goals as goal
+use Rattle.modbus_server.proofs.drive.poll_step.Goals as goal
 
 pub returns-in-Err-clause-steps : goal.returns-in-Err-clause-steps
 returns-in-Err-clause-steps g c =
@@ -16,10 +16,10 @@ returns-else-may_read-clause-steps g c =
 
 pub returns-in-Ok-Reply-clause-steps : goal.returns-in-Ok-Reply-clause-steps
 returns-in-Ok-Reply-clause-steps g c =
-    steps_sent g.I.Framing.framing g.V.Answerer.answering g.I.Framing.told c.args.connection.now c.next.new.self c.poll_send.new.connection c.args.service.now c.next.new.service _ _ _ _ c.args.may_read
-    (rw c.in-Ok-Reply.field-0-is at c.in-Ok-Reply.ensures) c.poll_send.ensures.source c.poll_send.ensures.sends c.poll_send.result c.poll_send.ensures.writes c.poll_send.ensures.cause
+    steps_sent g.I.Framing.framing g.V.Answerer.answering g.I.Framing.told c.args.connection.now c.next.new.self c.send.new.connection c.args.service.now c.next.new.service _ _ _ _ c.args.may_read
+    (rw c.in-Ok-Reply.field-0-is at c.in-Ok-Reply.ensures) c.send.ensures.source c.send.ensures.sends c.send.result c.send.ensures.writes c.send.ensures.cause
 
 pub returns-then-may_read-clause-steps : goal.returns-then-may_read-clause-steps
 returns-then-may_read-clause-steps g c =
-    steps_read g.I.Framing.framing g.V.Answerer.answering g.I.Framing.told c.args.connection.now c.next.new.self c.poll_read_more.new.connection c.args.service.now c.next.new.service _ _ _ _ c.args.may_read
-    (rw c.in-Ok-Waiting.field-0-is at c.in-Ok-Waiting.ensures) c.poll_read_more.ensures.sink c.if-may_read.true c.poll_read_more.result c.poll_read_more.ensures.reads
+    steps_read g.I.Framing.framing g.V.Answerer.answering g.I.Framing.told c.args.connection.now c.next.new.self c.read_more.new.connection c.args.service.now c.next.new.service _ _ _ _ c.args.may_read
+    (rw c.in-Ok-Waiting.field-0-is at c.in-Ok-Waiting.ensures) c.read_more.ensures.sink c.if-may_read.true c.read_more.result c.read_more.ensures.reads
