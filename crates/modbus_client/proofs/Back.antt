@@ -22,7 +22,8 @@ use Rattle.modbus_rtu.specs.Frame.{frame}
 use Rattle.modbus_rtu.specs.ResponseHead.{response_verdict, HasResponseHead}
 use Rattle.modbus_rtu.specs.declared.verdict.Verdict.TheVariants.{Open}
 use Rattle.modbus_service.specs.Outcome.{Outcome, silence, reply, exception, code_of, reply_pdu}
-use Rattle.modbus_client.specs.Back.{IsModelledRequest, ReplyComesBack, OutcomeComesBack}
+use Rattle.modbus_rtu.specs.Framed.{IsModelledAsk}
+use Rattle.modbus_client.specs.Back.{ReplyComesBack, OutcomeComesBack}
 use Rattle.modbus_client.specs.Exchange.{ReadsAll}
 use Rattle.modbus_client.specs.Matching.{Answer, IsOf, Judges}
 use Rattle.modbus_client.specs.Rtu.{rtu_protocol, slave_seen}
@@ -43,7 +44,7 @@ mismatched seen function result (Err (protocol (PayloadMismatch given))) other j
 mismatched seen function result (Err (Transport fault)) other judges = absurd judges
 mismatched seen function result (Err NoMemory) other judges = absurd judges
 
-pub readable : (asked : Asked) → IsModelledRequest asked → IsReadable asked
+pub readable : (asked : Asked) → IsModelledAsk asked → IsReadable asked
 readable (Custom code bytes) of = absurd of
 readable _ of = tt
 
@@ -53,7 +54,7 @@ pub record CodeModelled (asked : Asked) : Type 0 where
   pub below : function_number (function_asked asked) < 0x80
   pub again : function_number (function_of (function_number (function_asked asked))) ≡ function_number (function_asked asked)
 
-code_modelled : (asked : Asked) → IsModelledRequest asked → CodeModelled asked
+code_modelled : (asked : Asked) → IsModelledAsk asked → CodeModelled asked
 code_modelled (ReadCoils address quantity) of = record { modelled = refl; below = omega arith; again = refl }
 code_modelled (ReadDiscreteInputs address quantity) of = record { modelled = refl; below = omega arith; again = refl }
 code_modelled (WriteSingleCoil address coil) of = record { modelled = refl; below = omega arith; again = refl }
@@ -95,8 +96,8 @@ the_first (inr b) none = absurd (none b)
 
 module _ (nothing_open : response_verdict [] ≡ Open) (good : FramesAreGood) (front : FrontsAreOpen) (result_again : (r : Response) → ResultReadsBack r) (exception_again : (e : ExceptionResponse) → ExceptionReadsBack e)
     (response_head : (slave : ℕ) (given : Response) → IsResponse given → IsModelled (function_number (function_answered given)) → HasResponseHead (slave, response_pdu given))
-    (exception_head : (slave : ℕ) (asked : Asked) (code : ExceptionCode) → IsModelledRequest asked → HasResponseHead (slave, reply_pdu (code_of asked) (exception code)))
-    (slave : ℕ) (asked : Asked) (of : IsModelledRequest asked) (held : List ℕ) (answer : Answer) (some : answer ≢ Err NoMemory) where
+    (exception_head : (slave : ℕ) (asked : Asked) (code : ExceptionCode) → IsModelledAsk asked → HasResponseHead (slave, reply_pdu (code_of asked) (exception code)))
+    (slave : ℕ) (asked : Asked) (of : IsModelledAsk asked) (held : List ℕ) (answer : Answer) (some : answer ≢ Err NoMemory) where
   abbrev Reads : List ℕ → Type 0
   Reads sent = ReadsAll rtu_protocol (slave_seen slave) (function_asked asked) sent held answer
 

@@ -14,10 +14,8 @@ pub mod Exchanging
 pub mod Exchanged
 pub mod Boxing
 pub mod Connecting
-pub mod RequestHeads
 pub mod IdentifiedHeads
 pub mod ResponseHeads
-pub mod FrameLine
 pub mod AskedOnce
 pub mod ReadBack
 pub mod Back

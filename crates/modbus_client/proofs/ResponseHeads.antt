@@ -11,7 +11,7 @@ use Rattle.modbus_pdu.specs.ResponseLaws.{IsResponse, response_size}
 use Rattle.modbus_pdu.specs.ResponsePdu.{response_pdu}
 use Rattle.modbus_rtu.specs.ResponseHead.{response_head, response_rule, HasResponseHead}
 use Rattle.modbus_service.specs.Outcome.{reply_pdu, exception, code_of}
-use Rattle.modbus_client.specs.Back.{IsModelledRequest}
+use Rattle.modbus_rtu.specs.Framed.{IsModelledAsk}
 use Rattle.modbus_client.proofs.IdentifiedHeads.{identified_head}
 
 module _ (sizes : (r : Response) → length (response_pdu r) ≡ response_size r) (slave : ℕ) where
@@ -34,7 +34,7 @@ module _ (sizes : (r : Response) → length (response_pdu r) ≡ response_size r
   response_has_head (response.ReadDeviceIdentification found) is of = identified_head slave found
   response_has_head (response.Custom code bytes) is of = absurd (is of)
 
-pub exception_has_head : (slave : ℕ) (asked : Asked) (code : ExceptionCode) → IsModelledRequest asked → HasResponseHead (slave, reply_pdu (code_of asked) (exception code))
+pub exception_has_head : (slave : ℕ) (asked : Asked) (code : ExceptionCode) → IsModelledAsk asked → HasResponseHead (slave, reply_pdu (code_of asked) (exception code))
 unfolding response_head response_rule reply_pdu
 exception_has_head slave (ReadCoils address quantity) code is = refl
 exception_has_head slave (ReadDiscreteInputs address quantity) code is = refl

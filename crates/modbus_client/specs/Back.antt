@@ -2,7 +2,7 @@
 use Rattle.std.specs.Prelude.{◌≡◌, ◌≢◌, ℕ, ◌<◌, length, Ok, Err}
 use Rattle.modbus_frame.specs.Answered.{function_answered}
 use Rattle.modbus_frame.specs.Codes.{function_number, exception_number, exception_of}
-use Rattle.modbus_frame.specs.Meaning.{Asked, Custom, function_asked}
+use Rattle.modbus_frame.specs.Meaning.{Asked, function_asked}
 use Rattle.modbus_frame.specs.declared.response.Response.{Response}
 use Rattle.modbus_frame.specs.declared.fault.Error.TheVariants.{Protocol, Transport, NoMemory}
 use Rattle.modbus_frame.specs.declared.fault.ProtocolError.TheVariants.{FunctionCodeMismatch}
@@ -15,12 +15,8 @@ use Rattle.modbus_pdu.specs.ResponseLaws.{IsResponse, with_filled_coils}
 use Rattle.modbus_pdu.specs.ResponsePdu.{response_pdu}
 use Rattle.modbus_service.specs.Answering.{Answering}
 use Rattle.modbus_service.specs.Outcome.{Outcome, silence, reply, exception}
+use Rattle.modbus_rtu.specs.Framed.{IsModelledAsk}
 use Rattle.modbus_client.specs.Matching.{Answer}
-
--- a request of a modelled kind, which is each but a custom function
-abbrev pub IsModelledRequest : Asked → Type 0
-IsModelledRequest (Custom code bytes) = ⊥
-IsModelledRequest _ = Unit {0}
 
 -- What a client makes of a response, each of whose numbers is in the range of its type, as those of every `Response` of the code are. One
 -- that fits and is of the function that was asked comes back, with its coils filled by false to a multiple of eight. One of another
@@ -39,5 +35,5 @@ OutcomeComesBack asked (exception code) answer = answer ≡ Ok (Err (exception_o
 
 -- A request of a modelled kind that fits was asked once, for this slave, unless memory is wanting, and its outcome comes back.
 abbrev pub ComesBack : {S : Type 0} → Answering S → S → S → ℕ → Asked → Answer → Type 0
-ComesBack A before after slave asked answer = IsModelledRequest asked → Fits (request_pdu asked) → answer ≢ Err NoMemory
+ComesBack A before after slave asked answer = IsModelledAsk asked → Fits (request_pdu asked) → answer ≢ Err NoMemory
     → (outcome : Outcome) × A.gives before slave asked outcome after × OutcomeComesBack asked outcome answer

@@ -60,11 +60,9 @@ pub fn outcomes_come_back<V: Answerer>()
     ensures { (before after : V) (slave : ℕ) (asked : Asked) (answer : Answer) → ReadsBack asked
         → ExchangesLocally V.answering before after slave asked answer → ComesBack V.answering before after slave asked answer }
 {
-    modbus_pdu::requests_have_sizes();
     modbus_pdu::responses_have_sizes();
     modbus_pdu::responses_read_back();
-    modbus_rtu::laws::frames_alone();
-    modbus_rtu::laws::verdicts_by_offset();
+    modbus_rtu::laws::request_frames();
     modbus_rtu::laws::one_reading();
     modbus_rtu::laws::quiet_lines();
     modbus_rtu::laws::responses_by_front();

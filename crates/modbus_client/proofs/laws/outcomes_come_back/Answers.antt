@@ -1,9 +1,8 @@
-use Rattle.std.proofs.Common.{[], ◌∷◌, length}
+use Rattle.std.proofs.Common.{[], ◌∷◌, length, subst, append-nil}
 use Rattle.modbus_pdu.specs.RequestPdu.{request_pdu}
 use Rattle.modbus_rtu.specs.Frame.{frame}
-use Rattle.modbus_client.proofs.RequestHeads.{request_has_head}
+use Rattle.modbus_rtu.specs.Quiet.{IsQuietLine}
 use Rattle.modbus_client.proofs.ResponseHeads.{response_has_head, exception_has_head}
-use Rattle.modbus_client.proofs.FrameLine.{quiet_frame}
 use Rattle.modbus_client.proofs.AskedOnce.{asked_once}
 use Rattle.modbus_client.proofs.Back.{readable, outcome_back}
 use Rattle.modbus_client.proofs.Exchanged.{exchange_back}
@@ -15,9 +14,8 @@ returns g c = λ before after slave asked answer reads exchanges.
     (λ local of fits some.
     let pdu = request_pdu asked in
     let lines = c.quiet_lines.ensures in
-    let offsets = c.verdicts_by_offset.ensures in
     let pieces = c.responses_in_pieces.ensures in
-    let quiet = quiet_frame offsets.end offsets.whole slave pdu c.frames_alone.ensures (request_has_head c.requests_have_sizes.ensures slave asked of) in
+    let quiet = subst (λ bytes. IsQuietLine bytes ((slave, pdu) ∷ [])) (append-nil (frame slave pdu)) (c.request_frames.ensures.quiet ((slave, asked) ∷ []) (of, tt)) in
     let once =
     asked_once lines.calm lines.next lines.used c.one_reading.ensures.only slave pdu asked (reads (readable asked of) fits) (frame slave pdu) (length (frame slave pdu) ∷ []) quiet
     g.V.Answerer.answering before after local.sent local.served local.only (λ wants. some (local.wanting wants)) local.server in (
