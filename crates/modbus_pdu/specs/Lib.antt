@@ -1,6 +1,7 @@
 pub mod Coding
 pub mod Fields
 pub mod Laws
+pub mod Limits
 pub mod Decoding
 pub mod RequestOf
 pub mod RequestPdu

@@ -25,7 +25,10 @@ pub use crate::exception::{decode_exception, encode_exception_response_pdu};
 pub use crate::laws::{
     coils_are_packed, request_reads_back, requests_have_sizes, requests_read_back,
 };
-pub use crate::limits::{MAX_PDU, TooLong};
+pub use crate::limits::{
+    MAX_PDU, MAX_READ_COILS, MAX_READ_REGISTERS, MAX_READ_WRITE_REGISTERS, MAX_WRITE_COILS,
+    MAX_WRITE_REGISTERS, TooLong,
+};
 pub use crate::request_decoder::decode_request;
 pub use crate::request_encoder::{encode_request_pdu, put_request_pdu, request_pdu_size};
 pub use crate::response_decoder::{decode_response, decode_response_pdu};
