@@ -19,7 +19,7 @@ import time
 
 HERE = os.path.dirname(os.path.abspath(__file__))
 TOP = os.path.dirname(HERE)
-PROGRAM = os.path.join(TOP, "crates", "modbus_app", "out", "modbus_app")
+PROGRAM = os.path.join(TOP, "crates", "modbus", "out", "modbus")
 CONNECTIONS = (1, 8, 32, 256)
 REQUESTS = 200_000
 TURNS = 3

@@ -15,7 +15,7 @@ import tempfile
 import time
 
 TOP = os.path.dirname(os.path.dirname(os.path.abspath(__file__)))
-PROGRAM = os.path.join(TOP, "crates", "modbus_app", "out", "modbus_app")
+PROGRAM = os.path.join(TOP, "crates", "modbus", "out", "modbus")
 FRAMES = 200_000
 SEED = 1
 TABLE = 1024

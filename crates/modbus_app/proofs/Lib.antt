@@ -1,6 +1,6 @@
 pub mod Fitting
 pub mod Ending
 pub mod Digits
-pub mod Listening
+pub mod ServingLinks
 pub mod SingleWrites
 pub mod Making

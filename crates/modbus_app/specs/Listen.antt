@@ -1,7 +1,5 @@
 -- What a program that listens is asked, and what it does.
-use Rattle.std.specs.Prelude.{◌≡◌, ℕ, ◌-◌, ◌^◌, ◌&&◌, nat_le, List, [], ◌∷◌, map, length, codes, String, string_bytes, Option, Some, None, Result, Ok, Err, if◌then◌else◌}
-use Rattle.std.specs.Str.{bytes_eq}
-use Rattle.std.specs.declared.alloc.Global.{Global}
+use Rattle.std.specs.Prelude.{◌≡◌, ℕ, ◌-◌, ◌^◌, Option, Some, None, Result, Ok, Err}
 use Rattle.std.specs.declared.net.SocketAddr.{SocketAddr}
 use Rattle.modbus_link.specs.declared.outside.Failed.{Failed}
 use Rattle.modbus_link.specs.Outside.{Output, Rose}
@@ -11,32 +9,7 @@ use Rattle.modbus_server.specs.Listening.{WorkerState, Parts, Listener, Accepts,
 use Rattle.modbus_server.specs.Stopping.{never_set}
 use Rattle.modbus_store.specs.declared.table.PassesOut.{PassesOut}
 use Rattle.modbus_store.specs.Passes.{Pass, SplitsOff}
-use Rattle.modbus_app.specs.declared.words.Framing.{Framing}
-use Rattle.modbus_app.specs.declared.words.Framing.TheVariants.{Rtu, Tcp}
 use Rattle.modbus_app.specs.Status.{listener_status_of, listener_line_of, Reports}
-use Rattle.modbus_app.specs.Words.{are_digits, number}
-
--- the framing of the listener that a word names
-abbrev pub framing_to_listen : List ℕ → Option Framing
-framing_to_listen word = if bytes_eq word (codes "listen-rtu") then Some Rtu else if bytes_eq word (codes "listen-tcp") then Some Tcp else None
-
--- the port that a word shows: one to five digits, of a value up to 65535
-abbrev pub port_named : List ℕ → Option ℕ
-port_named text = if nat_le 1 (length text) && nat_le (length text) 5 && are_digits text && nat_le (number text) 65535 then Some (number text) else None
-
--- a framing and a port, where both are there
-abbrev pub listener_with : Option Framing → Option ℕ → Option (Framing × ℕ)
-listener_with (Some framing) (Some port) = Some (framing, port)
-listener_with (Some framing) None = None
-listener_with None port = None
-
--- the listener that the words ask for: `listen-rtu port` or `listen-tcp port`
-abbrev pub listener_of : List (List ℕ) → Option (Framing × ℕ)
-listener_of (word ∷ port ∷ []) = listener_with (framing_to_listen word) (port_named port)
-listener_of _ = None
-
-abbrev pub listened : List (String Global) → Option (Framing × ℕ)
-listened words = listener_of (map string_bytes words)
 
 -- One call of the hook of a listener: the service of the connection has a pass that was split off, and the link is taken as it is; or no
 -- number is left for another pass. It never rejects a connection.

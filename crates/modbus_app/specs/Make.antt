@@ -1,5 +1,5 @@
 -- The requests that the program makes, and the summary of their replies.
-use Rattle.std.specs.Prelude.{◌≡◌, ℕ, zero, suc, ◌+◌, ◌*◌, ◌/◌, ◌%◌, ◌^◌, ◌==◌, if◌then◌else◌, true, List, [], ◌∷◌, ◌++◌, map, sum, length, codes, IsTrue, Result, Ok, Err}
+use Rattle.std.specs.Prelude.{◌≡◌, ℕ, zero, suc, ◌+◌, ◌*◌, ◌/◌, ◌%◌, ◌^◌, ◌==◌, if◌then◌else◌, false, List, [], ◌∷◌, ◌++◌, map, sum, length, codes, IsTrue, Result, Ok, Err}
 use Rattle.std.specs.Fmt.{decimal}
 use Rattle.std.specs.List.{range_with_len, flat_map}
 use Rattle.modbus_link.specs.Outside.{Output, Rose, Extends, bytes_appended, IsFront}
@@ -11,8 +11,10 @@ use Rattle.modbus_server.specs.Rtu.{rtu}
 use Rattle.modbus_server.specs.declared.error.ProcessError.{ProcessError}
 use Rattle.modbus_server.specs.declared.error.ProcessError.TheVariants.{WriteFault, NoMemory}
 use Rattle.modbus_store.specs.Tables.{Tables}
-use Rattle.modbus_store.specs.Opening.{zeros_of}
 use Rattle.modbus_store.specs.Step.{store_step}
+use Rattle.modbus_app.specs.declared.words.Framing.TheVariants.{Rtu}
+use Rattle.modbus_app.specs.Device.{opening}
+use Rattle.modbus_app.specs.Words.{default_size}
 
 -- The numbers of a linear congruential generator: the first is 1, and each is made of the one before.
 abbrev pub next_number : ℕ → ℕ
@@ -52,9 +54,9 @@ answered tables (request ∷ requests) =
     let step = store_step tables made_for request in
     record { header = made_for; request = request; outcome = step.0 } ∷ answered step.1 requests
 
--- four tables of 1024 zeros, which take part in broadcasts
+-- the device of the word `rtu`, as it begins
 abbrev pub made_tables : Tables
-made_tables = zeros_of (record { coils = 1024; discrete_inputs = 1024; holding_registers = 1024; input_registers = 1024 }) true
+made_tables = opening (record { framing = Rtu; size = default_size; seeded = false })
 
 -- the frames of all replies
 abbrev pub replies_made : ℕ → List ℕ

@@ -6,7 +6,7 @@ use Rattle.modbus_app.specs.declared.words.Framing.{Framing}
 use Rattle.modbus_app.specs.declared.words.Framing.TheVariants.{Rtu, Tcp}
 use Rattle.modbus_app.specs.declared.words.Form.{Form}
 use Rattle.modbus_app.specs.declared.words.Task.{Task}
-use Rattle.modbus_app.specs.declared.words.Task.TheVariants.{Serve, Make}
+use Rattle.modbus_app.specs.declared.words.Task.TheVariants.{Serve, Make, Listen}
 
 -- an ASCII digit
 abbrev pub is_digit : ℕ → Bool
@@ -20,48 +20,82 @@ are_digits text = fold (λ all byte. all && is_digit byte) true text
 abbrev pub number : List ℕ → ℕ
 number text = fold (λ value byte. value * 10 + (byte - 48)) 0 text
 
--- the size of a table that a word shows: one to five digits, of a value from 1 to 65536
+-- the number that a word shows: one digit to so many, of a value from the least to the most
+abbrev pub number_within : ℕ → ℕ → ℕ → List ℕ → Option ℕ
+number_within digits least most text =
+    if nat_le 1 (length text) && nat_le (length text) digits && are_digits text && nat_le least (number text) && nat_le (number text) most
+    then Some (number text) else None
+
+-- the most entries of a table: one for each address
+abbrev pub most_entries : ℕ
+most_entries = 0x10000
+
+-- the entries of a table where no size is given
+abbrev pub default_size : ℕ
+default_size = 1024
+
+-- the most requests that are made
+abbrev pub most_requests : ℕ
+most_requests = 1000000
+
+-- the size of a table
 abbrev pub size_named : List ℕ → Option ℕ
-size_named text = if nat_le (length text) 5 && are_digits text && nat_le 1 (number text) && nat_le (number text) 0x10000 then Some (number text) else None
+size_named text = number_within 5 1 most_entries text
 
--- how many requests a word asks for: one to seven digits, of a value from 1 to 1,000,000
+-- how many requests are asked for
 abbrev pub count_named : List ℕ → Option ℕ
-count_named text = if nat_le (length text) 7 && are_digits text && nat_le 1 (number text) && nat_le (number text) 1000000 then Some (number text) else None
+count_named text = number_within 7 1 most_requests text
 
--- the framing that a word names
-abbrev pub framing_of_word : List ℕ → Option Framing
-framing_of_word word = if bytes_eq word (codes "rtu") then Some Rtu else if bytes_eq word (codes "tcp") then Some Tcp else None
+-- a port
+abbrev pub port_named : List ℕ → Option ℕ
+port_named text = number_within 5 0 65535 text
 
--- a framing and a size, where both are there
-abbrev pub form_with : Option Framing → Option ℕ → Bool → Option Form
-form_with (Some framing) (Some size) seeded = Some (record { framing = framing; size = size; seeded = seeded })
-form_with (Some framing) None seeded = None
-form_with None size seeded = None
+-- a task, where its number is there
+abbrev pub served : Framing → Option ℕ → Bool → Option Task
+served framing (Some size) seeded = Some (Serve (record { framing = framing; size = size; seeded = seeded }))
+served framing None seeded = None
 
--- the device that the words ask for: `rtu`, `rtu size`, `rtu size seeded`, `tcp` or `tcp size`; a table has 1024 entries where no size is
--- given
-abbrev pub form_of : List (List ℕ) → Option Form
-form_of (word ∷ []) = form_with (framing_of_word word) (Some 1024) false
-form_of (word ∷ size ∷ []) = form_with (framing_of_word word) (size_named size) false
-form_of (word ∷ size ∷ last ∷ []) = if bytes_eq word (codes "rtu") && bytes_eq last (codes "seeded") then form_with (Some Rtu) (size_named size) true else None
-form_of _ = None
+abbrev pub made : Option ℕ → Option Task
+made (Some count) = Some (Make count)
+made None = None
 
--- how many requests the words ask for: `make n`
-abbrev pub make_of : List (List ℕ) → Option ℕ
-make_of (word ∷ count ∷ []) = if bytes_eq word (codes "make") then count_named count else None
-make_of _ = None
+abbrev pub listened_to : Framing → Option ℕ → Option Task
+listened_to framing (Some port) = Some (Listen framing port)
+listened_to framing None = None
 
--- no words ask for both
-abbrev pub task_of : Option ℕ → Option Form → Option Task
-task_of (Some count) form = Some (Make count)
-task_of None (Some form) = Some (Serve form)
-task_of None None = None
+-- what the words ask for: `rtu`, `rtu size`, `rtu size seeded`, `tcp`, `tcp size`, `make n`, `listen-rtu port` or `listen-tcp port`
+abbrev pub task_of : List (List ℕ) → Option Task
+task_of (word ∷ []) =
+    if bytes_eq word (codes "rtu") then served Rtu (Some default_size) false else
+    if bytes_eq word (codes "tcp") then served Tcp (Some default_size) false else
+    None
+task_of (word ∷ argument ∷ []) =
+    if bytes_eq word (codes "rtu") then served Rtu (size_named argument) false else
+    if bytes_eq word (codes "tcp") then served Tcp (size_named argument) false else
+    if bytes_eq word (codes "make") then made (count_named argument) else
+    if bytes_eq word (codes "listen-rtu") then listened_to Rtu (port_named argument) else
+    if bytes_eq word (codes "listen-tcp") then listened_to Tcp (port_named argument) else
+    None
+task_of (word ∷ size ∷ last ∷ []) =
+    if bytes_eq word (codes "rtu") && bytes_eq last (codes "seeded") then served Rtu (size_named size) true else None
+task_of _ = None
 
--- what the words ask for
 abbrev pub asked : List (String Global) → Option Task
-asked words = task_of (make_of (map string_bytes words)) (form_of (map string_bytes words))
+asked words = task_of (map string_bytes words)
+
+-- what is asked of a listener
+abbrev pub listened : Option Task → Option (Framing × ℕ)
+listened (Some (Listen framing port)) = Some (framing, port)
+listened _ = None
+
+-- the words ask for nothing that is done over the standard streams
+abbrev pub IsUsage : Option Task → Type 0
+IsUsage None = Unit {0}
+IsUsage (Some (Listen framing port)) = Unit {0}
+IsUsage _ = ⊥
 
 -- a table has at most an entry for each address, and no more requests are made than a million
 abbrev pub IsWithinLimits : Task → Type 0
-IsWithinLimits (Serve form) = form.size ≤ 0x10000
-IsWithinLimits (Make count) = count ≤ 1000000
+IsWithinLimits (Serve form) = form.size ≤ most_entries
+IsWithinLimits (Make count) = count ≤ most_requests
+IsWithinLimits (Listen framing port) = port ≤ 65535

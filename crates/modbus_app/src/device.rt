@@ -1,6 +1,7 @@
 //! The device that the program serves.
 ghost use Rattle.std.specs.Prelude.{◌≡◌, ◌≤◌, false, IfOk};
 ghost use Rattle.modbus_store.specs.Passes.{opened};
+ghost use Rattle.modbus_app.specs.Words.{default_size, most_entries};
 ghost use Rattle.modbus_app.specs.Device.{entries_by, third, odd, same, down, seeded_tables, broadcasts_of, opening};
 
 use crate::words::{DEFAULT_SIZE, Form, Framing};
@@ -32,7 +33,7 @@ fn odds(alloc: Global, size: u32) -> Result<Vec<Coil>, AllocError>
 
 #[tactic(auto, unfolding(crate::specs::Device::entries_by))]
 fn addresses(alloc: Global, size: u32) -> Result<Vec<Word>, AllocError>
-    requires { size ≤ 0x10000 }
+    requires { size ≤ most_entries }
     ensures { IfOk result (λ table. table.items ≡ entries_by same size) }
 {
     let mut table = Vec::new(alloc);
@@ -44,7 +45,7 @@ fn addresses(alloc: Global, size: u32) -> Result<Vec<Word>, AllocError>
 
 #[tactic(auto, unfolding(crate::specs::Device::entries_by))]
 fn complements(alloc: Global, size: u32) -> Result<Vec<Word>, AllocError>
-    requires { size ≤ 0x10000 }
+    requires { size ≤ most_entries }
     ensures { IfOk result (λ table. table.items ≡ entries_by down size) }
 {
     let mut table = Vec::new(alloc);
@@ -55,7 +56,7 @@ fn complements(alloc: Global, size: u32) -> Result<Vec<Word>, AllocError>
 }
 
 fn seeded(alloc: Global, size: u32, broadcast: bool) -> Result<RegisterStore, StoreError>
-    requires { size ≤ 0x10000 }
+    requires { size ≤ most_entries }
     ensures { IfOk result (λ store. store ≡ seeded_tables size broadcast) }
 {
     let Ok(coils) = thirds(alloc, size) else {
@@ -92,7 +93,7 @@ fn has_broadcasts(framing: Framing) -> bool
 
 /// The device of a form, as it begins.
 pub fn open(alloc: Global, form: Form) -> Result<RegisterStore, StoreError>
-    requires { form.size ≤ 0x10000 }
+    requires { form.size ≤ most_entries }
     ensures { IfOk result (λ store. store ≡ opening form) }
 {
     let broadcast = has_broadcasts(form.framing);
@@ -111,7 +112,7 @@ pub fn open(alloc: Global, form: Form) -> Result<RegisterStore, StoreError>
 /// The device that all connections to a listener share, as it begins, and its first pass. No record of its calls is kept, so it does not
 /// grow.
 pub fn open_shared(alloc: Global, framing: Framing) -> Result<(StoreTable, StorePass), StoreError>
-    ensures table { IfOk result (λ r. r.0.opening ≡ record { tables = opening (record { framing = framing; size = 1024; seeded = false }); recorded = false }) }
+    ensures table { IfOk result (λ r. r.0.opening ≡ record { tables = opening (record { framing = framing; size = default_size; seeded = false }); recorded = false }) }
     ensures pass { IfOk result (λ r. r.1 ≡ opened r.0.table r.0.opening) }
 {
     let form = Form {

@@ -1,11 +1,11 @@
-//! Listening: the words that ask for it, and serving all connections over one shared store.
+//! Listening: serving all connections over one shared store.
 ghost use Rattle.std.specs.Prelude.{◌≡◌};
 ghost use Rattle.modbus_app.specs.declared.words.Framing.TheVariants.{Rtu, Tcp};
-ghost use Rattle.modbus_app.specs.Listen.{framing_to_listen, port_named, listener_with, listened, SplitsFor, parts_with, ServesLinks, Listened};
+ghost use Rattle.modbus_app.specs.Listen.{SplitsFor, parts_with, ServesLinks, Listened};
 
 use crate::services::Services;
 use crate::status::{listener_line, listener_status, report};
-use crate::words::{Framing, number_of};
+use crate::words::Framing;
 use modbus_link::{Acceptor, FlagStop, Link, Sink, Spawner};
 use modbus_rtu::Inbox;
 use modbus_server::tcp::AduBuffer;
@@ -16,54 +16,6 @@ use modbus_store::PassesOut;
 use std::alloc::Global;
 use std::net::SocketAddr;
 use std::sync::Wait;
-
-/// The framing of the listener that a word names.
-fn framing_to_listen(word: &str) -> Option<Framing>
-    ensures { result ≡ framing_to_listen word.now }
-{
-    if word == "listen-rtu" {
-        return Some(Framing::Rtu);
-    }
-    if word == "listen-tcp" {
-        return Some(Framing::Tcp);
-    }
-    None
-}
-
-/// The port that a word shows: one to five digits, of a value up to 65535.
-fn port_named(word: &str) -> Option<u16>
-    ensures { result ≡ port_named word.now }
-{
-    let text = word.as_bytes();
-    if text.is_empty() || text.len() > 5 {
-        return None;
-    }
-    match number_of(text) {
-        Some(port) if port <= 0xFFFF => Some(port as u16),
-        _ => None,
-    }
-}
-
-/// The framing and the port, where both are there.
-fn listener_with(framing: Option<Framing>, port: Option<u16>) -> Option<(Framing, u16)>
-    ensures { result ≡ listener_with framing port }
-{
-    match (framing, port) {
-        (Some(framing), Some(port)) => Some((framing, port)),
-        _ => None,
-    }
-}
-
-/// What the words ask to listen for: `listen-rtu port` or `listen-tcp port`, with one to five digits of a value up to 65535; `None` where
-/// they are no such form. It takes no memory.
-pub fn listening(words: &[String]) -> Option<(Framing, u16)>
-    ensures { result ≡ listened words.now }
-{
-    match words {
-        [word, port] => listener_with(framing_to_listen(word.as_str()), port_named(port.as_str())),
-        _ => None,
-    }
-}
 
 /// Serves each link that the acceptor gives in this framing, and answers why it does not go on.
 fn serve_links<I, R, A, S, P, H>(

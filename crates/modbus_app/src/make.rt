@@ -5,31 +5,30 @@ ghost use Rattle.modbus_frame.specs.Meaning.{meaning};
 ghost use Rattle.modbus_link.specs.Memory.{source_at_start};
 ghost use Rattle.modbus_pdu.specs.RequestPdu.{request_pdu};
 ghost use Rattle.modbus_rtu.specs.Frame.{frame};
+ghost use Rattle.modbus_app.specs.Words.{most_requests};
 ghost use Rattle.modbus_app.specs.Make.{next_number, request_by, line_made, made_for, replies_made, summary_of, SumsUp};
 
 use crate::device::open;
-use crate::words::{Form, Framing};
+use crate::words::{DEFAULT_SIZE, Form, Framing};
 use arrayvec::ArrayString;
 use bytes::BytesMut;
 use itoa::Buffer;
 use modbus_frame::{EncodeError, Request, RequestPdu, SlaveId, rtu};
 use modbus_link::{MemorySink, MemorySource, Sink, write_all};
-use modbus_rtu::ClientCodec;
+use modbus_rtu::{ClientCodec, LONGEST_RESPONSE};
 use modbus_server::{ProcessError, rtu_over_tcp};
 use std::alloc::{AllocError, Global};
 
 /// The slave that all requests are for.
 const SLAVE: SlaveId = 1;
 
-/// The bytes of a request's frame, and the most that a reply's frame has.
+/// The bytes of a request's frame.
 const REQUEST_SIZE: usize = 8;
 
-const REPLY_SIZE: usize = 256;
-
-/// The device that answers: four tables of 1024 zeros, which take part in broadcasts.
+/// The device that answers: that of the word `rtu`.
 const DEVICE: Form = Form {
     framing: Framing::Rtu,
-    size: 1024,
+    size: DEFAULT_SIZE,
     seeded: false,
 };
 
@@ -81,7 +80,7 @@ fn push_frame(
 
 /// The frames of so many requests.
 fn frames(alloc: Global, count: u32) -> Result<BytesMut, AllocError>
-    requires { count ≤ 1000000 }
+    requires { count ≤ most_requests }
     ensures { IfOk result (λ frames. frames.items ≡ line_made count) }
 {
     let mut frames = BytesMut::with_capacity(alloc, REQUEST_SIZE * count as usize)?;
@@ -96,7 +95,7 @@ fn frames(alloc: Global, count: u32) -> Result<BytesMut, AllocError>
 
 /// A source that gives them, in as long pieces as are asked for.
 fn open_source(alloc: Global, count: u32) -> Result<MemorySource, AllocError>
-    requires { count ≤ 1000000 }
+    requires { count ≤ most_requests }
     ensures { IfOk result (λ source. source ≡ source_at_start (line_made count) [] []) }
 {
     let frames = frames(alloc, count)?;
@@ -115,7 +114,7 @@ fn want_of_memory(error: ProcessError) -> AllocError
 
 /// Serves so many requests, and gives the sink of the replies.
 fn serve_made(alloc: Global, count: u32) -> Result<MemorySink, AllocError>
-    requires { count ≤ 1000000 }
+    requires { count ≤ most_requests }
     ensures replies { IfOk result (λ sink. sink.bytes ≡ replies_made count) }
     ensures short { IfOk result (λ sink. length sink.bytes ≤ 256 * count) }
 {
@@ -127,7 +126,7 @@ fn serve_made(alloc: Global, count: u32) -> Result<MemorySink, AllocError>
     modbus_rtu::laws::quiet_lines();
     modbus_store::laws::answers_fit();
     let mut source = open_source(alloc, count)?;
-    let room = REPLY_SIZE * count as usize + 1;
+    let room = LONGEST_RESPONSE * count as usize + 1;
     let mut sink = MemorySink::new(alloc, room, room, &[])?;
     let Ok(mut store) = open(alloc, DEVICE) else {
         return Err(AllocError);
@@ -179,7 +178,7 @@ fn summary(count: u32, bytes: usize, sum: u64) -> ArrayString<SUMMARY>
 /// `WriteFault`, only where the sink's count of faults rose; a front of the summary was then appended. `NoMemory` where memory was
 /// refused; nothing was appended.
 pub fn make<K: Sink>(alloc: Global, count: u32, sink: &mut K) -> Result<(), ProcessError>
-    requires { count ≤ 1000000 }
+    requires { count ≤ most_requests }
     ensures { SumsUp count (K.output sink.old) (K.output sink.new) result }
 {
     let Ok(served) = serve_made(alloc, count) else {

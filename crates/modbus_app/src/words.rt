@@ -1,6 +1,6 @@
 //! The words of the command line.
-ghost use Rattle.std.specs.Prelude.{◌≡◌, ◌≤◌, [], ◌∷◌, length, map, IfSome, Some, None, if◌then◌else◌, string_bytes};
-ghost use Rattle.modbus_app.specs.Words.{are_digits, number, size_named, count_named, framing_of_word, form_with, form_of, make_of, task_of, asked, IsWithinLimits};
+ghost use Rattle.std.specs.Prelude.{◌≡◌, ◌≤◌, ◌∷◌, [], length, map, IfSome, Some, None, if◌then◌else◌, string_bytes};
+ghost use Rattle.modbus_app.specs.Words.{are_digits, number, number_within, size_named, count_named, port_named, served, made, listened_to, task_of, asked, listened, most_entries, most_requests, IsWithinLimits};
 
 /// The number that these digits show; `None` where there is another byte.
 pub fn number_of(text: &[u8]) -> Option<u32>
@@ -17,32 +17,44 @@ pub fn number_of(text: &[u8]) -> Option<u32>
     Some(value)
 }
 
-/// The size of a table that a word shows: one to five digits, of a value from 1 to 65536.
-pub fn table_size(word: &str) -> Option<u32>
-    ensures exact { result ≡ size_named word.now }
-    ensures most { IfSome result (λ size. size ≤ 0x10000) }
+/// The number that a word shows: one digit to so many, of a value from `least` to `most`.
+fn number_within(word: &str, digits: usize, least: u32, most: u32) -> Option<u32>
+    requires { digits ≤ 7 }
+    ensures exact { result ≡ number_within digits least most word.now }
+    ensures most { IfSome result (λ number. number ≤ most) }
 {
     let text = word.as_bytes();
-    if text.len() > 5 {
+    if text.is_empty() || text.len() > digits {
         return None;
     }
     match number_of(text) {
-        Some(size) if size >= 1 && size <= 0x10000 => Some(size),
+        Some(number) if number >= least && number <= most => Some(number),
         _ => None,
     }
+}
+
+/// The size of a table that a word shows: one to five digits, of a value from 1 to 65536.
+fn table_size(word: &str) -> Option<u32>
+    ensures exact { result ≡ size_named word.now }
+    ensures most { IfSome result (λ size. size ≤ most_entries) }
+{
+    number_within(word, 5, 1, 0x10000)
 }
 
 /// How many requests a word asks for: one to seven digits, of a value from 1 to 1,000,000.
 fn request_count(word: &str) -> Option<u32>
     ensures exact { result ≡ count_named word.now }
-    ensures most { IfSome result (λ count. count ≤ 1000000) }
+    ensures most { IfSome result (λ count. count ≤ most_requests) }
 {
-    let text = word.as_bytes();
-    if text.len() > 7 {
-        return None;
-    }
-    match number_of(text) {
-        Some(count) if count >= 1 && count <= 1_000_000 => Some(count),
+    number_within(word, 7, 1, 1_000_000)
+}
+
+/// The port that a word shows: one to five digits, of a value up to 65535.
+fn port_number(word: &str) -> Option<u16>
+    ensures { result ≡ port_named word.now }
+{
+    match number_within(word, 5, 0, 0xFFFF) {
+        Some(port) if port <= 0xFFFF => Some(port as u16),
         _ => None,
     }
 }
@@ -70,102 +82,122 @@ pub struct Form {
 /// What the program does.
 #[derive(Clone, Copy, Debug, PartialEq, Eq)]
 pub enum Task {
-    /// It serves a device.
+    /// It serves a device over its standard streams.
     Serve(Form),
     /// It makes so many requests, serves them, and sums up the replies.
     Make(u32),
+    /// It listens on this port, and serves each connection in this framing.
+    Listen(Framing, u16),
 }
 
 /// The entries of a table where no size is given.
 pub const DEFAULT_SIZE: u32 = 1024;
 
-/// The framing that a word names.
-fn framing_named(word: &str) -> Option<Framing>
-    ensures { result ≡ framing_of_word word.now }
+/// Serving in a framing, where there is a size.
+fn serve(framing: Framing, size: Option<u32>, seeded: bool) -> Option<Task>
+    requires { IfSome size (λ size. size ≤ most_entries) }
+    ensures exact { result ≡ served framing size seeded }
+    ensures limits { IfSome result IsWithinLimits }
+{
+    match size {
+        Some(size) => Some(Task::Serve(Form {
+            framing,
+            size,
+            seeded,
+        })),
+        None => None,
+    }
+}
+
+/// Making requests, where there is a count.
+fn make(count: Option<u32>) -> Option<Task>
+    requires { IfSome count (λ count. count ≤ most_requests) }
+    ensures exact { result ≡ made count }
+    ensures limits { IfSome result IsWithinLimits }
+{
+    match count {
+        Some(count) => Some(Task::Make(count)),
+        None => None,
+    }
+}
+
+/// Listening in a framing, where there is a port.
+fn listen(framing: Framing, port: Option<u16>) -> Option<Task>
+    ensures exact { result ≡ listened_to framing port }
+    ensures limits { IfSome result IsWithinLimits }
+{
+    match port {
+        Some(port) => Some(Task::Listen(framing, port)),
+        None => None,
+    }
+}
+
+fn one_word(word: &str) -> Option<Task>
+    ensures exact { result ≡ task_of (word.now ∷ []) }
+    ensures limits { IfSome result IsWithinLimits }
 {
     if word == "rtu" {
-        return Some(Framing::Rtu);
+        return serve(Framing::Rtu, Some(DEFAULT_SIZE), false);
     }
     if word == "tcp" {
-        return Some(Framing::Tcp);
+        return serve(Framing::Tcp, Some(DEFAULT_SIZE), false);
     }
     None
 }
 
-/// The form of a framing and a size, where both are there.
-fn form_with(framing: Option<Framing>, size: Option<u32>, seeded: bool) -> Option<Form>
-    requires { IfSome size (λ size. size ≤ 0x10000) }
-    ensures exact { result ≡ form_with framing size seeded }
-    ensures size { IfSome result (λ form. form.size ≤ 0x10000) }
+fn two_words(word: &str, argument: &str) -> Option<Task>
+    ensures exact { result ≡ task_of (word.now ∷ argument.now ∷ []) }
+    ensures limits { IfSome result IsWithinLimits }
 {
-    match (framing, size) {
-        (Some(framing), Some(size)) => Some(Form {
-            framing,
-            size,
-            seeded,
-        }),
-        _ => None,
+    if word == "rtu" {
+        return serve(Framing::Rtu, table_size(argument), false);
     }
+    if word == "tcp" {
+        return serve(Framing::Tcp, table_size(argument), false);
+    }
+    if word == "make" {
+        return make(request_count(argument));
+    }
+    if word == "listen-rtu" {
+        return listen(Framing::Rtu, port_number(argument));
+    }
+    if word == "listen-tcp" {
+        return listen(Framing::Tcp, port_number(argument));
+    }
+    None
 }
 
-fn one_word(word: &str) -> Option<Form>
-    ensures exact { result ≡ form_of (word.now ∷ []) }
-    ensures size { IfSome result (λ form. form.size ≤ 0x10000) }
-{
-    form_with(framing_named(word), Some(DEFAULT_SIZE), false)
-}
-
-fn two_words(word: &str, size: &str) -> Option<Form>
-    ensures exact { result ≡ form_of (word.now ∷ size.now ∷ []) }
-    ensures size { IfSome result (λ form. form.size ≤ 0x10000) }
-{
-    form_with(framing_named(word), table_size(size), false)
-}
-
-fn three_words(word: &str, size: &str, last: &str) -> Option<Form>
-    ensures exact { result ≡ form_of (word.now ∷ size.now ∷ last.now ∷ []) }
-    ensures size { IfSome result (λ form. form.size ≤ 0x10000) }
+fn three_words(word: &str, size: &str, last: &str) -> Option<Task>
+    ensures exact { result ≡ task_of (word.now ∷ size.now ∷ last.now ∷ []) }
+    ensures limits { IfSome result IsWithinLimits }
 {
     if word != "rtu" || last != "seeded" {
         return None;
     }
-    form_with(Some(Framing::Rtu), table_size(size), true)
+    serve(Framing::Rtu, table_size(size), true)
 }
 
-/// The device that the words ask for: `rtu`, `rtu size`, `rtu size seeded`, `tcp` or `tcp size`; `None` where they are no such form.
-fn device_form(words: &[String]) -> Option<Form>
-    ensures exact { result ≡ form_of (map string_bytes words.now) }
-    ensures size { IfSome result (λ form. form.size ≤ 0x10000) }
+/// What the words ask for: `rtu`, `rtu size`, `rtu size seeded`, `tcp` or `tcp size` to serve, `make n` to make requests, `listen-rtu port`
+/// or `listen-tcp port` to listen; `None` where they are no such form. It takes no memory.
+pub fn read_words(words: &[String]) -> Option<Task>
+    ensures exact { result ≡ asked words.now }
+    ensures limits { IfSome result IsWithinLimits }
 {
     match words {
         [word] => one_word(word.as_str()),
-        [word, size] => two_words(word.as_str(), size.as_str()),
+        [word, argument] => two_words(word.as_str(), argument.as_str()),
         [word, size, last] => three_words(word.as_str(), size.as_str(), last.as_str()),
         _ => None,
     }
 }
 
-/// How many requests the words ask for, by `make n`; `None` where they are no such form.
-fn make_form(words: &[String]) -> Option<u32>
-    ensures exact { result ≡ make_of (map string_bytes words.now) }
-    ensures most { IfSome result (λ count. count ≤ 1000000) }
+/// What the words ask to listen for: the framing and the port of `listen-rtu port` or `listen-tcp port`; `None` where they are no such
+/// form. It takes no memory.
+pub fn listening(words: &[String]) -> Option<(Framing, u16)>
+    ensures { result ≡ listened (asked words.now) }
 {
-    match words {
-        [word, count] if word.as_str() == "make" => request_count(count.as_str()),
+    match read_words(words) {
+        Some(Task::Listen(framing, port)) => Some((framing, port)),
         _ => None,
-    }
-}
-
-/// What the words ask for: a device to serve, or requests to make; `None` where they are no form.
-pub fn read_words(words: &[String]) -> Option<Task>
-    ensures exact { result ≡ asked words.now }
-    ensures size { IfSome result IsWithinLimits }
-{
-    if let Some(count) = make_form(words) {
-        return Some(Task::Make(count));
-    }
-    match device_form(words) {
-        Some(form) => Some(Task::Serve(form)),
-        None => None,
     }
 }

@@ -1,16 +1,12 @@
 //! Calls over links in memory.
 
 mod connections;
-mod polled;
 mod rtu_calls;
 mod searches;
 mod tcp_calls;
 
 use modbus_client::Client;
-use modbus_frame::{
-    Error, ExceptionResponse, HeaderSeen, ProtocolError, Request, Response, Result, Slave,
-    TransportError,
-};
+use modbus_frame::{Error, Request, Response, Result, Slave, TransportError};
 use modbus_link::{MemoryLink, MemorySink, MemorySource};
 use std::alloc::{AllocError, Global};
 
@@ -40,38 +36,6 @@ fn is_fault(answer: Result<Response>, fault: TransportError) -> bool {
     match answer {
         Err(Error::Transport(other)) => other == fault,
         _ => false,
-    }
-}
-
-/// Whether the answer is holding registers with these words.
-fn are_words(answer: Result<Response>, words: &[u16]) -> bool {
-    match answer {
-        Ok(Ok(Response::ReadHoldingRegisters(read))) => read.as_slice() == words,
-        _ => false,
-    }
-}
-
-/// The two headers and the result of a mismatch.
-fn mismatch(
-    answer: Result<Response>,
-) -> Option<
-    (
-        HeaderSeen,
-        HeaderSeen,
-        std::result::Result<Response, ExceptionResponse>,
-    ),
-> {
-    match answer {
-        Err(
-            Error::Protocol(
-                ProtocolError::HeaderMismatch {
-                    request,
-                    response,
-                    result,
-                },
-            ),
-        ) => Some((request, response, result)),
-        _ => None,
     }
 }
 

@@ -1,5 +1,10 @@
-//! Tests of the public calls of modbus_client: calls over links in memory, and that what may want memory succeeds with it.
+//! Tests of the public calls of modbus_client that need code: a search against a plain program, the box round a client, connections, and a
+//! service that answers too much. Calls with bytes in and an answer out are in crates/modbus_vectors.
 #![tactic(auto)]
 
 #[cfg(test)]
 mod client;
+#[cfg(test)]
+mod exchange;
+#[cfg(test)]
+mod typed_calls;

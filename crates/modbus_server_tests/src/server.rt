@@ -1,14 +1,9 @@
-//! Servers: worked frames and ADUs, and each generic call once at a concrete type.
-ghost use Rattle.std.specs.Prelude.{◌≡◌};
-
-mod polled;
-mod stops;
-
-use modbus_frame::{Reason, Response, SlaveRequest, Words};
+//! Connections step by step, and a service and an object that are lent.
+use modbus_frame::{Response, SlaveRequest, Words};
 use modbus_link::{Both, MemorySink, MemorySource};
 use modbus_server::rtu::Connection;
-use modbus_server::rtu_over_tcp::{process, process_link};
-use modbus_server::{Forward, ProcessError, Service, ServiceError, Step, tcp};
+use modbus_server::rtu_over_tcp::process_link;
+use modbus_server::{Forward, Service, ServiceError, Step, tcp};
 use std::alloc::Global;
 use std::test::Fail;
 
@@ -46,24 +41,6 @@ const READ_TWO: [u8; 8] = [0x01, 0x03, 0x08, 0x2B, 0x00, 0x02, 0xB6, 0x63];
 const TWO: [u8; 9] = [0x01, 0x03, 0x04, 0x00, 0x20, 0x00, 0x00, 0xFB, 0xF9];
 
 #[test]
-fn a_service_answers_a_frame(rt: HostRuntime) -> Result<(), Fail> {
-    let alloc = rt.alloc();
-    let mut service = SameWords {
-        words: Vec::from_slice(alloc, &[0x0020, 0x0000])?,
-        calls: 0,
-    };
-    let mut source = MemorySource::new(alloc, &READ_TWO, &[], &[])?;
-    let mut sink = MemorySink::new(alloc, 64, 64, &[])?;
-    assert_eq!(rt;
-        process(alloc, &mut source, &mut sink, &mut service, u64::MAX),
-        Ok(())
-    );
-    assert_eq!(rt; sink.bytes(), TWO.as_slice());
-    assert_eq!(rt; service.calls, 1);
-    Ok(())
-}
-
-#[test]
 fn a_lent_service_answers_a_frame_in_pieces(rt: HostRuntime) -> Result<(), Fail> {
     let alloc = rt.alloc();
     let mut service = SameWords {
@@ -83,47 +60,6 @@ fn a_lent_service_answers_a_frame_in_pieces(rt: HostRuntime) -> Result<(), Fail>
     );
     assert_eq!(rt; sink.bytes(), TWO.as_slice());
     assert_eq!(rt; service.calls, 1);
-    Ok(())
-}
-
-#[test]
-fn a_response_that_is_too_long_is_not_written(rt: HostRuntime) -> Result<(), Fail> {
-    let alloc = rt.alloc();
-    let mut service = SameWords {
-        words: Vec::from_elem(alloc, 0, 126)?,
-        calls: 0,
-    };
-    let mut source = MemorySource::new(alloc, &READ_TWO, &[], &[])?;
-    let mut sink = MemorySink::new(alloc, 512, 512, &[])?;
-    assert_eq!(rt;
-        process(alloc, &mut source, &mut sink, &mut service, u64::MAX),
-        Err(ProcessError::ResponseTooLong(254))
-    );
-    assert_eq!(rt; sink.bytes(), b"".as_slice());
-    assert_eq!(rt; service.calls, 1);
-    Ok(())
-}
-
-#[test]
-fn turns_are_spent_by_reads_that_give_bytes(rt: HostRuntime) -> Result<(), Fail> {
-    let alloc = rt.alloc();
-    let mut service = SameWords {
-        words: Vec::new(alloc),
-        calls: 0,
-    };
-    let mut source = MemorySource::new(alloc, &READ_TWO, &[4], &[])?;
-    let mut sink = MemorySink::new(alloc, 64, 64, &[])?;
-    assert_eq!(rt;
-        process(alloc, &mut source, &mut sink, &mut service, 1),
-        Err(ProcessError::TurnLimit)
-    );
-    assert_eq!(rt; source.given(), 4);
-    let mut source = MemorySource::new(alloc, b"", &[], &[])?;
-    assert_eq!(rt;
-        process(alloc, &mut source, &mut sink, &mut service, 0),
-        Err(ProcessError::TurnLimit)
-    );
-    assert_eq!(rt; sink.bytes(), b"".as_slice());
     Ok(())
 }
 
@@ -164,14 +100,6 @@ const REPLY_ADU: [u8; 11] = [
 ];
 
 #[test]
-fn a_service_answers_an_adu(rt: HostRuntime) -> Result<(), Fail> {
-    let (result, sink) = served(rt.alloc(), &READ_ADU, &[], &[], u64::MAX)?;
-    assert_eq!(rt; result, Ok(()));
-    assert_eq!(rt; sink.bytes(), REPLY_ADU.as_slice());
-    Ok(())
-}
-
-#[test]
 fn a_lent_service_answers_an_adu_in_pieces(rt: HostRuntime) -> Result<(), Fail> {
     let alloc = rt.alloc();
     let mut service = SameWords {
@@ -192,68 +120,6 @@ fn a_lent_service_answers_an_adu_in_pieces(rt: HostRuntime) -> Result<(), Fail> 
     );
     assert_eq!(rt; sink.bytes(), REPLY_ADU.as_slice());
     assert_eq!(rt; service.calls, 1);
-    Ok(())
-}
-
-/// Serves the ADUs with a service that answers the register 0x0020, and gives the answer and what was written.
-fn served(
-    alloc: Global,
-    input: &[u8],
-    read_fails: &[u64],
-    write_fails: &[u64],
-    turns: u64,
-) -> Result<(Result<(), ProcessError>, MemorySink), Fail> {
-    let mut service = SameWords {
-        words: Vec::from_slice(alloc, &[0x0020])?,
-        calls: 0,
-    };
-    let mut source = MemorySource::new(alloc, input, &[], read_fails)?;
-    let mut sink = MemorySink::new(alloc, 64, 64, write_fails)?;
-    let result = tcp::process(alloc, &mut source, &mut sink, &mut service, turns);
-    Ok((result, sink))
-}
-
-/// The second of two ADUs with another protocol, another length or an end of its own, and the answer.
-fn ends() -> [(u8, u8, usize, ProcessError); 4] {
-    [
-        (0, 6, 23, ProcessError::BytesRemaining),
-        (0, 0, 24, ProcessError::InvalidLength),
-        (7, 6, 24, ProcessError::InvalidProtocol(7)),
-        (
-            0,
-            5,
-            23,
-            ProcessError::InvalidRequest(Reason::UnexpectedEnd),
-        ),
-    ]
-}
-
-#[test]
-fn each_end_of_a_stream_of_adus_has_its_answer(rt: HostRuntime) -> Result<(), Fail> {
-    for (protocol, length, end, error) in ends() {
-        let mut both = [0; 24];
-        both[..12].copy_from_slice(&READ_ADU);
-        both[12..].copy_from_slice(&READ_ADU);
-        both[15] = protocol;
-        both[17] = length;
-        let input = both.get(..end).unwrap_or(&[]);
-        let (result, sink) = served(rt.alloc(), input, &[], &[], u64::MAX)?;
-        assert_eq!(rt; result, Err(error));
-        assert_eq!(rt; sink.bytes(), REPLY_ADU.as_slice());
-    }
-    Ok(())
-}
-
-#[test]
-fn each_fault_of_an_object_has_its_answer(rt: HostRuntime) -> Result<(), Fail> {
-    let alloc = rt.alloc();
-    let (result, _) = served(alloc, &READ_ADU, &[1], &[], u64::MAX)?;
-    assert_eq!(rt; result, Err(ProcessError::ReadFault));
-    let (result, _) = served(alloc, &READ_ADU, &[], &[0], u64::MAX)?;
-    assert_eq!(rt; result, Err(ProcessError::WriteFault));
-    let (result, sink) = served(alloc, &READ_ADU, &[], &[], 1)?;
-    assert_eq!(rt; result, Err(ProcessError::TurnLimit));
-    assert_eq!(rt; sink.bytes(), REPLY_ADU.as_slice());
     Ok(())
 }
 
@@ -278,37 +144,5 @@ fn a_connection_of_adus_reads_answers_or_ends(rt: HostRuntime) -> Result<(), Fai
     let ended = connection.step(alloc, &mut source, &mut sink, &mut service, true);
     assert_eq!(rt; ended, Ok(Step::Ended));
     assert!(rt; !connection.is_open());
-    Ok(())
-}
-
-#[test]
-fn errors_of_servers_have_texts(rt: HostRuntime) -> Result<(), Fail> {
-    for (error, text) in [
-        (ProcessError::ReadFault, "read fault"),
-        (ProcessError::WriteFault, "write fault"),
-        (ProcessError::TooManyRetries, "too many retries"),
-        (ProcessError::BytesRemaining, "bytes remaining"),
-        (
-            ProcessError::InvalidRequest(Reason::InvalidCoil(7)),
-            "invalid request: invalid coil value",
-        ),
-        (ProcessError::ResponseTooLong(0), "response too long: 0"),
-        (ProcessError::ResponseTooLong(7), "response too long: 7"),
-        (
-            ProcessError::ResponseTooLong(65535),
-            "response too long: 65535",
-        ),
-        (ProcessError::TurnLimit, "turn limit"),
-        (ProcessError::InvalidLength, "invalid length"),
-        (ProcessError::InvalidProtocol(0), "invalid protocol 0"),
-        (ProcessError::InvalidProtocol(7), "invalid protocol 7"),
-        (
-            ProcessError::InvalidProtocol(65535),
-            "invalid protocol 65535",
-        ),
-        (ProcessError::NoMemory, "no memory"),
-    ] {
-        assert_eq!(rt; format!(in rt.alloc(); "{error}")?.as_str(), text);
-    }
     Ok(())
 }

@@ -1,5 +1,5 @@
 use Rattle.std.proofs.Common.{rules, Err, ap}
-use Rattle.modbus_app.proofs.Listening.{same_name, serves}
+use Rattle.modbus_app.proofs.ServingLinks.{same_name, serves}
 use Rattle.modbus_app.proofs.listen.serve_links.Goals as goal
 
 pub returns-clause-serves : goal.returns-clause-serves

@@ -1,0 +1,20 @@
+//! What the program does: it serves a device over its standard streams or to many connections, or makes requests and sums up the
+//! replies. The program of crates/modbus calls it with the words of its command line.
+#![tactic(auto)]
+
+mod device;
+pub mod laws;
+mod listen;
+mod make;
+pub mod port;
+mod program;
+mod services;
+mod status;
+mod words;
+
+pub use crate::device::{open, open_shared};
+pub use crate::listen::run_listen;
+pub use crate::program::run;
+pub use crate::services::{Services, StoreServices};
+pub use crate::status::{NO_MEMORY, report_fault};
+pub use crate::words::{Form, Framing, Task, listening, read_words};

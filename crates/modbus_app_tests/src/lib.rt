@@ -1,0 +1,5 @@
+//! Tests of the calls of modbus_app that need code. Runs of the program are in crates/modbus_vectors.
+#![tactic(auto)]
+
+#[cfg(test)]
+mod listening;

@@ -1,0 +1,105 @@
+//! Connections over memory that share one store.
+
+use modbus_app::{Framing, StoreServices, open_shared, run_listen};
+use modbus_link::{InlineSpawner, MemoryAcceptor, MemoryLink, MemorySink, MemorySource};
+use modbus_server::ProcessError;
+use std::alloc::{AllocError, Global};
+use std::net::SocketAddr;
+use std::process::Abort;
+use std::sync::Wait;
+use std::test::Fail;
+
+/// A read of one register from address 0 of slave 1, and its reply.
+const READ_ONE: [u8; 8] = [0x01, 0x03, 0x00, 0x00, 0x00, 0x01, 0x84, 0x0A];
+
+const ONE_ZERO: [u8; 7] = [0x01, 0x03, 0x02, 0x00, 0x00, 0xB8, 0x44];
+
+/// A read of one register from address 0 by unit 255, and its reply.
+const READ_ADU: [u8; 12] = [
+    0x00, 0x00, 0x00, 0x00, 0x00, 0x06, 0xFF, 0x03, 0x00, 0x00, 0x00, 0x01,
+];
+
+const ADU_ZERO: [u8; 11] = [
+    0x00, 0x00, 0x00, 0x00, 0x00, 0x05, 0xFF, 0x03, 0x02, 0x00, 0x00,
+];
+
+fn link_of(alloc: Global, input: &[u8]) -> Result<MemoryLink, AllocError> {
+    let source = MemorySource::new(alloc, input, &[], &[])?;
+    let sink = MemorySink::new(alloc, 64, 64, &[])?;
+    Ok(MemoryLink::new(source, sink, false))
+}
+
+/// A listener over two links gives each these replies, one after the other, and ends as there is no third.
+fn expect<R: Wait + Abort + Sync>(
+    rt: &R,
+    alloc: Global,
+    framing: Framing,
+    near: (&[u8], &[u8]),
+    far: (&[u8], &[u8]),
+) -> Result<(), Fail> {
+    let (table, pass) = open_shared(alloc, framing)?;
+    let mut first = link_of(alloc, near.0)?;
+    let mut second = link_of(alloc, far.0)?;
+    let mut errors = MemorySink::new(alloc, 64, 64, &[])?;
+    {
+        let address = SocketAddr::from(([127, 0, 0, 1], 502));
+        let mut links = Vec::new(alloc);
+        links.push((&mut first, address))?;
+        links.push((&mut second, address))?;
+        let status = run_listen(
+            rt,
+            alloc,
+            framing,
+            &mut MemoryAcceptor::new(links),
+            &mut InlineSpawner::new(),
+            &mut StoreServices::new(rt, &table, pass),
+            |_error: ProcessError| {},
+            &mut errors,
+        );
+        assert_eq!(rt; status, 12);
+    }
+    assert_eq!(rt; first.sink().bytes(), near.1);
+    assert_eq!(rt; second.sink().bytes(), far.1);
+    assert_eq!(rt; errors.bytes(), b"modbus: accept fault\n".as_slice());
+    Ok(())
+}
+
+#[test]
+fn each_link_is_served_in_its_framing(rt: HostRuntime) -> Result<(), Fail> {
+    let alloc = rt.alloc();
+    let frames = (READ_ONE.as_slice(), ONE_ZERO.as_slice());
+    expect(&rt, alloc, Framing::Rtu, frames, frames)?;
+    let adus = (READ_ADU.as_slice(), ADU_ZERO.as_slice());
+    expect(&rt, alloc, Framing::Tcp, adus, adus)
+}
+
+#[test]
+fn what_one_link_writes_another_reads(rt: HostRuntime) -> Result<(), Fail> {
+    let write = [
+        0x00, 0x07, 0x00, 0x00, 0x00, 0x06, 0x01, 0x06, 0x00, 0x01, 0x00, 0x03,
+    ];
+    let read = [
+        0x00, 0x08, 0x00, 0x00, 0x00, 0x06, 0x00, 0x03, 0x00, 0x01, 0x00, 0x01,
+    ];
+    let three = [
+        0x00, 0x08, 0x00, 0x00, 0x00, 0x05, 0x00, 0x03, 0x02, 0x00, 0x03,
+    ];
+    expect(
+        &rt,
+        rt.alloc(),
+        Framing::Tcp,
+        (&write, &write),
+        (&read, &three),
+    )?;
+    // Over a serial line slave 0 is all devices: the write has its effect and no answer.
+    let broadcast = [0x00, 0x06, 0x00, 0x01, 0x00, 0x03, 0x99, 0xDA];
+    let read = [0x01, 0x03, 0x00, 0x01, 0x00, 0x01, 0xD5, 0xCA];
+    let three = [0x01, 0x03, 0x02, 0x00, 0x03, 0xF8, 0x45];
+    expect(
+        &rt,
+        rt.alloc(),
+        Framing::Rtu,
+        (&broadcast, b""),
+        (&read, &three),
+    )
+}

@@ -1,3 +1,0 @@
-//! Requests and responses as bytes.
-mod requests;
-mod responses;

@@ -1,0 +1,229 @@
+//! Calls of clients over links in memory, and of a service without a link.
+
+use crate::outside::read_outside;
+use crate::text::{bytes, hex, number};
+use modbus_app::{Form, Framing, open};
+use modbus_client::{Client, PolledCall, Protocol, exchange, rtu, tcp};
+use modbus_frame::{Request, Response, Result as Answer, Slave, SlaveContext};
+use modbus_link::{MemoryLink, Polled, PolledMemoryLink};
+use modbus_pdu::decode_request;
+use std::alloc::{AllocError, Global};
+use std::borrow::CowSlice;
+
+/// The text of an answer.
+fn answered(alloc: Global, answer: Answer<Response>) -> Result<String, AllocError> {
+    match answer {
+        Ok(answer) => format!(in alloc; "Ok({answer:?})"),
+        Err(error) => format!(in alloc; "Err({error:?}): {error}"),
+    }
+}
+
+/// What was written to a link, and how many bytes a client holds.
+fn left(alloc: Global, link: Option<&MemoryLink>, held: usize) -> Result<String, AllocError> {
+    match link {
+        Some(link) => {
+            let written = hex(alloc, link.sink().bytes())?;
+            format!(in alloc; "wrote {written} holds {held}")
+        }
+        None => format!(in alloc; "no link holds {held}"),
+    }
+}
+
+/// What a step of a line does to any client: `disconnect`, `slave=9`, a call of a function by its number with any data, as
+/// `custom=4100`, or a call by the PDU of its request.
+fn step<C: Client>(
+    alloc: Global,
+    client: &mut C,
+    step: &str,
+) -> Result<Option<String>, AllocError> {
+    if step == "disconnect" {
+        let ended = client.disconnect();
+        return Ok(Some(format!(in alloc; "{ended:?}")?));
+    }
+    if let Some(slave) = step.strip_prefix("slave=") {
+        let Ok(slave) = slave.parse::<u8>() else {
+            return Ok(None);
+        };
+        client.set_slave(Slave(slave));
+        return Ok(Some(String::from_str(alloc, "()")?));
+    }
+    if let Some(pdu) = step.strip_prefix("custom=") {
+        let Some(pdu) = bytes(alloc, pdu)? else {
+            return Ok(None);
+        };
+        let Some((code, data)) = pdu.split_first() else {
+            return Ok(None);
+        };
+        let request = Request::Custom(*code, CowSlice::Borrowed(data));
+        return Ok(Some(answered(alloc, client.call(request))?));
+    }
+    let Some(pdu) = bytes(alloc, step)? else {
+        return Ok(None);
+    };
+    match decode_request(alloc, pdu.as_slice()) {
+        Ok(request) => Ok(Some(answered(alloc, client.call(request))?)),
+        Err(_) => Ok(None),
+    }
+}
+
+/// Appends the text of a step.
+fn push(text: &mut String, more: &str) -> Result<(), AllocError> {
+    text.push_str(more)?;
+    text.push_str("; ")
+}
+
+/// The steps of an RTU client, which also has `turns=1` and `send=0600010003`.
+fn rtu_calls(
+    alloc: Global,
+    slave: u8,
+    steps: &str,
+    link: MemoryLink,
+) -> Result<Option<String>, AllocError> {
+    let mut client = rtu::attach(alloc, link);
+    client.set_slave(Slave(slave));
+    let mut text = String::new(alloc);
+    for word in steps.split(',') {
+        if let Some(turns) = word.strip_prefix("turns=") {
+            let Ok(turns) = turns.parse() else {
+                return Ok(None);
+            };
+            client.set_turns(turns);
+            push(&mut text, "()")?;
+        } else if let Some(pdu) = word.strip_prefix("send=") {
+            let Some(pdu) = bytes(alloc, pdu)? else {
+                return Ok(None);
+            };
+            let Ok(request) = decode_request(alloc, pdu.as_slice()) else {
+                return Ok(None);
+            };
+            let sent = client.send(request);
+            push(&mut text, format!(in alloc; "{sent:?}")?.as_str())?;
+        } else if let Some(found) = step(alloc, &mut client, word)? {
+            push(&mut text, found.as_str())?;
+        } else {
+            return Ok(None);
+        }
+    }
+    let held = client.held();
+    text.push_str(left(alloc, client.link(), held)?.as_str())?;
+    Ok(Some(text))
+}
+
+fn tcp_calls(
+    alloc: Global,
+    slave: u8,
+    steps: &str,
+    link: MemoryLink,
+) -> Result<Option<String>, AllocError> {
+    let mut client = tcp::attach_slave(alloc, link, Slave(slave));
+    let mut text = String::new(alloc);
+    for word in steps.split(',') {
+        let Some(found) = step(alloc, &mut client, word)? else {
+            return Ok(None);
+        };
+        push(&mut text, found.as_str())?;
+    }
+    let held = client.held();
+    text.push_str(left(alloc, client.link(), held)?.as_str())?;
+    Ok(Some(text))
+}
+
+/// How many polls were pending, the answer of the first that was not, among a hundred, and what was written.
+fn polled<P: Protocol>(
+    alloc: Global,
+    call: PolledCall<P>,
+    link: &mut PolledMemoryLink,
+) -> Result<Option<String>, AllocError> {
+    let mut call = call;
+    let mut pending = 0u32;
+    for _ in 0..100u32 {
+        if !call.is_open() {
+            break;
+        }
+        match call.poll(link) {
+            Polled::Pending => pending = pending.saturating_add(1),
+            Polled::Ready(answer) => {
+                let text = answered(alloc, answer)?;
+                let written = hex(alloc, link.link().sink().bytes())?;
+                return Ok(Some(format!(in alloc; "{pending} {text} wrote {written}")?));
+            }
+        }
+    }
+    Ok(None)
+}
+
+fn polled_call(
+    alloc: Global,
+    call: &str,
+    slave: u8,
+    request: Request<'_>,
+    link: &mut PolledMemoryLink,
+) -> Result<Option<String>, AllocError> {
+    if call == "rtu_polled" {
+        return match rtu::PolledCall::new(alloc, Slave(slave), request, 2) {
+            Ok(opened) => polled(alloc, opened, link),
+            Err(error) => Ok(Some(format!(in alloc; "Err({error:?})")?)),
+        };
+    }
+    let header = modbus_frame::tcp::Header {
+        transaction_id: 1,
+        unit_id: slave,
+    };
+    match tcp::PolledCall::new(alloc, header, request, 2) {
+        Ok(opened) => polled(alloc, opened, link),
+        Err(error) => Ok(Some(format!(in alloc; "Err({error:?})")?)),
+    }
+}
+
+/// The answer of a seeded store of eight entries a table, which takes part in broadcasts.
+fn exchanged(
+    alloc: Global,
+    slave: u8,
+    request: Request<'_>,
+) -> Result<Option<String>, AllocError> {
+    let form = Form {
+        framing: Framing::Rtu,
+        size: 8,
+        seeded: true,
+    };
+    let Ok(mut store) = open(alloc, form) else {
+        return Err(AllocError);
+    };
+    Ok(Some(answered(alloc, exchange(alloc, Slave(slave), request, &mut store))?))
+}
+
+/// `rtu_call` or `tcp_call`, a slave, steps with commas between them, and the outside of the link; or `rtu_polled`, `tcp_polled` (of
+/// transaction 1) or `exchange`, a slave, the PDU of a request, and the outside. A polled call has two turns.
+pub fn answer(alloc: Global, call: &str, words: &[&str]) -> Result<Option<String>, AllocError> {
+    let [slave, asked, words @ ..] = words else {
+        return Ok(None);
+    };
+    let Some(slave) = number(slave) else {
+        return Ok(None);
+    };
+    let Ok(slave) = u8::try_from(slave) else {
+        return Ok(None);
+    };
+    let Some(outside) = read_outside(alloc, words)? else {
+        return Ok(None);
+    };
+    match call {
+        "rtu_call" => return rtu_calls(alloc, slave, asked, outside.into_link()),
+        "tcp_call" => return tcp_calls(alloc, slave, asked, outside.into_link()),
+        _ => {}
+    }
+    let Some(pdu) = bytes(alloc, asked)? else {
+        return Ok(None);
+    };
+    let Ok(request) = decode_request(alloc, pdu.as_slice()) else {
+        return Ok(None);
+    };
+    match call {
+        "rtu_polled" | "tcp_polled" => {
+            let mut link = outside.into_polled_link(alloc)?;
+            polled_call(alloc, call, slave, request, &mut link)
+        }
+        "exchange" => exchanged(alloc, slave, request),
+        _ => Ok(None),
+    }
+}

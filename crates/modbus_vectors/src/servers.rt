@@ -1,0 +1,140 @@
+//! Servers over memory, with a service that answers every request with the same registers.
+
+use crate::outside::{Outside, read_outside};
+use crate::text::{hex, number};
+use modbus_frame::{Response, SlaveRequest, Words};
+use modbus_link::{MemoryStop, Polled, PolledMemoryLink};
+use modbus_server::{
+    Framing, PolledProcess, ProcessError, Service, ServiceError, rtu, rtu_over_tcp, tcp,
+};
+use std::alloc::{AllocError, Global};
+use std::fmt::Debug;
+
+/// Answers so many registers, all of them 0x0020, and counts its calls.
+#[derive(Drop)]
+struct SameWords {
+    count: usize,
+    calls: u64,
+}
+
+impl Service for SameWords {
+    ghost answers = { λ old slave request outcome new. Unit {0} };
+
+    ghost takes_memory = { λ it slave request. Unit {0} };
+
+    fn call(
+        &mut self,
+        alloc: Global,
+        _request: SlaveRequest<'_>,
+    ) -> Result<Option<Response>, ServiceError> {
+        let Ok(words) = Vec::from_elem(alloc, 0x0020, self.count) else {
+            return Err(ServiceError::NoMemory);
+        };
+        self.calls = self.calls.saturating_add(1);
+        Ok(Some(Response::ReadHoldingRegisters(Words::new(words))))
+    }
+}
+
+/// The answer of a server, its output, how many bytes the source gave, and how often the service was asked.
+fn told<T: Debug>(
+    alloc: Global,
+    ended: &T,
+    output: &[u8],
+    given: usize,
+    service: &SameWords,
+) -> Result<Option<String>, AllocError> {
+    let output = hex(alloc, output)?;
+    let calls = service.calls;
+    Ok(Some(format!(in alloc; "{ended:?} {output} read {given} asked {calls}")?))
+}
+
+fn served(
+    alloc: Global,
+    framing: &str,
+    service: &mut SameWords,
+    turns: u64,
+    outside: Outside,
+) -> Result<Option<String>, AllocError> {
+    let mut source = outside.source;
+    let mut sink = outside.sink;
+    let ended = match framing {
+        "rtu" => rtu_over_tcp::process(alloc, &mut source, &mut sink, service, turns),
+        "tcp" => tcp::process(alloc, &mut source, &mut sink, service, turns),
+        _ => return Ok(None),
+    };
+    told(alloc, &ended, sink.bytes(), source.given(), service)
+}
+
+/// How many of the next polls are pending, and the answer of the first that is not, among a hundred.
+fn polled<I: Framing>(
+    process: &mut PolledProcess<I>,
+    link: &mut PolledMemoryLink,
+    service: &mut SameWords,
+) -> (u32, Option<Result<(), ProcessError>>) {
+    let mut pending = 0u32;
+    for _ in 0..100u32 {
+        if !process.is_open() {
+            break;
+        }
+        match process.poll(link, service) {
+            Polled::Pending => pending = pending.saturating_add(1),
+            Polled::Ready(ended) => return (pending, Some(ended)),
+        }
+    }
+    (pending, None)
+}
+
+fn served_by_polls(
+    alloc: Global,
+    framing: &str,
+    service: &mut SameWords,
+    turns: u64,
+    outside: Outside,
+) -> Result<Option<String>, AllocError> {
+    let mut link = outside.into_polled_link(alloc)?;
+    let ended = match framing {
+        "rtu" => polled(&mut rtu::PolledProcess::open(alloc, turns)?, &mut link, service),
+        "tcp" => polled(&mut tcp::PolledProcess::open(alloc, turns)?, &mut link, service),
+        _ => return Ok(None),
+    };
+    let link = link.link();
+    told(alloc, &ended, link.sink().bytes(), link.source().given(), service)
+}
+
+/// An RTU server that a signal stops after so many looks.
+fn served_until(
+    alloc: Global,
+    service: &mut SameWords,
+    looks: u64,
+    outside: Outside,
+) -> Result<Option<String>, AllocError> {
+    let mut server = rtu::Server::new(outside.into_link());
+    let ended = server.serve_until(alloc, service, &mut MemoryStop::new(looks));
+    let link = server.into_link();
+    told(alloc, &ended, link.sink().bytes(), link.source().given(), service)
+}
+
+/// `serve`, `polled_serve` or `serve_until`; a framing; how many registers the service answers; how many reads may give bytes, or how often
+/// the signal is looked at before it is set; and the outside.
+pub fn answer(alloc: Global, call: &str, words: &[&str]) -> Result<Option<String>, AllocError> {
+    let [framing, count, turns, words @ ..] = words else {
+        return Ok(None);
+    };
+    let (Some(count), Some(turns)) = (number(count), number(turns)) else {
+        return Ok(None);
+    };
+    let Some(outside) = read_outside(alloc, words)? else {
+        return Ok(None);
+    };
+    let mut service = SameWords {
+        count: usize::from(count),
+        calls: 0,
+    };
+    let turns = u64::from(turns);
+    match call {
+        "serve" => served(alloc, framing, &mut service, turns, outside),
+        "polled_serve" => served_by_polls(alloc, framing, &mut service, turns, outside),
+        "serve_until" if *framing == "rtu" => served_until(alloc, &mut service, turns, outside),
+        _ => Ok(None),
+    }
+}

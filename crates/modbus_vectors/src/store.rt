@@ -1,0 +1,62 @@
+//! Requests to a register store.
+
+use crate::text::{bytes, number};
+use modbus_app::{Form, Framing, open};
+use modbus_frame::SlaveRequest;
+use modbus_pdu::decode_request;
+use modbus_store::RegisterStore;
+use std::alloc::{AllocError, Global};
+
+/// The answers to requests, each a slave and a PDU, one after another.
+fn apply(
+    alloc: Global,
+    store: &mut RegisterStore,
+    words: &[&str],
+) -> Result<Option<String>, AllocError> {
+    let mut text = String::new(alloc);
+    for pair in words.chunks(2) {
+        let &[slave, pdu] = pair else {
+            return Ok(None);
+        };
+        let (Some(slave), Some(pdu)) = (number(slave), bytes(alloc, pdu)?) else {
+            return Ok(None);
+        };
+        let (Ok(slave), Ok(request)) = (u8::try_from(slave), decode_request(alloc, pdu.as_slice()))
+        else {
+            return Ok(None);
+        };
+        let found = store.apply(alloc, SlaveRequest { slave, request });
+        text.push_str(format!(in alloc; "{found:?}; ")?.as_str())?;
+    }
+    Ok(Some(text))
+}
+
+/// `store rtu 8 seeded 1 0300010001`: a store of a framing, a size and contents, and the requests to it.
+pub fn answer(alloc: Global, call: &str, words: &[&str]) -> Result<Option<String>, AllocError> {
+    let [framing, size, contents, requests @ ..] = words else {
+        return Ok(None);
+    };
+    let framing = match *framing {
+        "rtu" => Framing::Rtu,
+        "tcp" => Framing::Tcp,
+        _ => return Ok(None),
+    };
+    let Ok(size) = size.parse::<u32>() else {
+        return Ok(None);
+    };
+    if size > 0x10000 && *contents == "seeded" {
+        return Ok(None);
+    }
+    if call != "store" {
+        return Ok(None);
+    }
+    let form = Form {
+        framing,
+        size,
+        seeded: *contents == "seeded",
+    };
+    match open(alloc, form) {
+        Ok(mut store) => apply(alloc, &mut store, requests),
+        Err(error) => Ok(Some(format!(in alloc; "{error:?}: {error}")?)),
+    }
+}

@@ -1,0 +1,74 @@
+//! Byte strings, numbers and coils as words.
+
+use std::alloc::{AllocError, Global};
+use std::fmt::{Debug, Display};
+
+fn digit(byte: u8) -> Option<u8> {
+    match byte {
+        b'0'..=b'9' => Some(byte - b'0'),
+        b'A'..=b'F' => Some(byte - b'A' + 10),
+        _ => None,
+    }
+}
+
+/// The bytes of a word of hexadecimal digits in upper case; none where it is no such word.
+pub fn bytes(alloc: Global, word: &str) -> Result<Option<Vec<u8>>, AllocError> {
+    let mut found = Vec::new(alloc);
+    if word == "-" {
+        return Ok(Some(found));
+    }
+    for pair in word.as_bytes().chunks(2) {
+        let &[high, low] = pair else {
+            return Ok(None);
+        };
+        let (Some(high), Some(low)) = (digit(high), digit(low)) else {
+            return Ok(None);
+        };
+        found.push(high.saturating_mul(16).saturating_add(low))?;
+    }
+    Ok(Some(found))
+}
+
+/// A number in decimal.
+pub fn number(word: &str) -> Option<u16> {
+    word.parse().ok()
+}
+
+/// Coils as words of the digits 0 and 1, the first coil first.
+pub fn coils(alloc: Global, word: &str) -> Result<Option<Vec<bool>>, AllocError> {
+    let mut found = Vec::new(alloc);
+    if word == "-" {
+        return Ok(Some(found));
+    }
+    for byte in word.as_bytes() {
+        match *byte {
+            b'0' => found.push(false)?,
+            b'1' => found.push(true)?,
+            _ => return Ok(None),
+        }
+    }
+    Ok(Some(found))
+}
+
+/// The text of a byte string; `-` where it is empty.
+pub fn hex(alloc: Global, bytes: &[u8]) -> Result<String, AllocError> {
+    if bytes.is_empty() {
+        return String::from_str(alloc, "-");
+    }
+    let mut text = String::new(alloc);
+    for byte in bytes {
+        let digits = format!(in alloc; "{byte:02X}")?;
+        text.push_str(digits.as_str())?;
+    }
+    Ok(text)
+}
+
+/// The text of a value.
+pub fn shown<T: Debug>(alloc: Global, value: &T) -> Result<Option<String>, AllocError> {
+    Ok(Some(format!(in alloc; "{value:?}")?))
+}
+
+/// The text of a fault: its value, and what it is told as.
+pub fn told<T: Debug + Display>(alloc: Global, fault: &T) -> Result<Option<String>, AllocError> {
+    Ok(Some(format!(in alloc; "Err({fault:?}): {fault}")?))
+}

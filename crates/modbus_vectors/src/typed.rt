@@ -1,0 +1,138 @@
+//! Typed calls through a box, over a caller's client that answers one response.
+
+use crate::text::bytes;
+use bytes::Bytes;
+use modbus_client::Context;
+use modbus_client::prelude::*;
+use modbus_frame::{Coils, Error, Result as Answer, ShutdownFault, TransportError, Words};
+use modbus_pdu::{decode_request, decode_response_pdu};
+use std::alloc::{AllocError, Global};
+use std::time::Duration;
+
+/// A client that answers once, whatever it is asked.
+#[derive(Drop)]
+struct Once {
+    answer: Option<Answer<Response>>,
+    slave: Slave,
+    timeout: Option<Duration>,
+}
+
+impl SlaveContext for Once {
+    ghost selected = { λ once. once.slave.0 };
+
+    fn set_slave(&mut self, slave: Slave) {
+        self.slave = slave;
+    }
+}
+
+impl Client for Once {
+    ghost answers = { λ _ _ _ _. Unit {0} };
+
+    ghost disconnects = { λ _ _ _. Unit {0} };
+
+    ghost time_limit = { λ once. once.timeout };
+
+    ghost limits = { λ _ _ _. Unit {0} };
+
+    fn call(&mut self, _request: Request<'_>) -> Answer<Response> {
+        match self.answer.take() {
+            Some(answer) => answer,
+            None => Err(Error::Transport(TransportError::NotConnected)),
+        }
+    }
+
+    fn disconnect(&mut self) -> std::result::Result<(), ShutdownFault> {
+        Ok(())
+    }
+
+    fn timeout(&self) -> Option<Duration> {
+        self.timeout
+    }
+
+    fn set_timeout(&mut self, duration: Option<Duration>) {
+        self.timeout = duration;
+    }
+}
+
+/// Makes the typed call of a request that reads. What it reads is given as a response again.
+fn read<C: Client>(client: &mut C, request: &Request<'_>) -> Answer<Response> {
+    Ok(match request {
+        Request::ReadCoils(at, count) => client
+            .read_coils(*at, *count)?
+            .map(|coils| Response::ReadCoils(Coils::new(coils))),
+        Request::ReadDiscreteInputs(at, count) => client
+            .read_discrete_inputs(*at, *count)?
+            .map(|inputs| Response::ReadDiscreteInputs(Coils::new(inputs))),
+        Request::ReadHoldingRegisters(at, count) => client
+            .read_holding_registers(*at, *count)?
+            .map(|words| Response::ReadHoldingRegisters(Words::new(words))),
+        Request::ReadInputRegisters(at, count) => client
+            .read_input_registers(*at, *count)?
+            .map(|words| Response::ReadInputRegisters(Words::new(words))),
+        Request::ReadWriteMultipleRegisters(at, count, to, words) => client
+            .read_write_multiple_registers(*at, *count, *to, words.as_slice())?
+            .map(|words| Response::ReadWriteMultipleRegisters(Words::new(words))),
+        Request::ReadDeviceIdentification(code, id) => client
+            .read_device_identification(*code, *id)?
+            .map(|found| Response::ReadDeviceIdentification(found)),
+        _ => Err(ExceptionCode::IllegalFunction),
+    })
+}
+
+/// Makes the typed call of a request that writes.
+fn write<C: Client>(client: &mut C, request: &Request<'_>) -> Answer<()> {
+    match request {
+        Request::WriteSingleCoil(at, state) => client.write_single_coil(*at, *state),
+        Request::WriteSingleRegister(at, word) => client.write_single_register(*at, *word),
+        Request::WriteMultipleCoils(at, states) => {
+            client.write_multiple_coils(*at, states.as_slice())
+        }
+        Request::WriteMultipleRegisters(at, words) => {
+            client.write_multiple_registers(*at, words.as_slice())
+        }
+        Request::MaskWriteRegister(at, and_mask, or_mask) => {
+            client.masked_write_register(*at, *and_mask, *or_mask)
+        }
+        _ => Ok(Err(ExceptionCode::IllegalFunction)),
+    }
+}
+
+/// `typed`, the PDU of a request, and the PDU of what the client answers: a response or an exception; `-` for a fault of its link.
+pub fn answer(alloc: Global, call: &str, words: &[&str]) -> Result<Option<String>, AllocError> {
+    let &[asked, answered] = words else {
+        return Ok(None);
+    };
+    if call != "typed" {
+        return Ok(None);
+    }
+    let (Some(asked), Some(answered)) = (bytes(alloc, asked)?, bytes(alloc, answered)?) else {
+        return Ok(None);
+    };
+    let Ok(request) = decode_request(alloc, asked.as_slice()) else {
+        return Ok(None);
+    };
+    let answer = if answered.is_empty() {
+        Err(Error::Transport(TransportError::BrokenPipe))
+    } else {
+        match decode_response_pdu(alloc, Bytes::copy_from_slice(alloc, answered.as_slice())?) {
+            Err(_) => return Ok(None),
+            Ok(found) => Ok(match found.0 {
+                Ok(response) => Ok(response),
+                Err(refusal) => Err(refusal.exception),
+            }),
+        }
+    };
+    let once = Once {
+        answer: Some(answer),
+        slave: Slave(0),
+        timeout: None,
+    };
+    let client: Box<dyn Client> = Box::new(alloc, once)?;
+    let mut context = Context::from(client);
+    let text = if matches!(request.function_code().value(), 0x05 | 0x06 | 0x0F | 0x10 | 0x16) {
+        format!(in alloc; "{:?}", write(&mut context, &request))?
+    } else {
+        format!(in alloc; "{:?}", read(&mut context, &request))?
+    };
+    Ok(Some(text))
+}
