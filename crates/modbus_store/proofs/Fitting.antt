@@ -8,6 +8,7 @@ use Rattle.modbus_frame.specs.declared.response.Response.{Response}
 use Rattle.modbus_frame.specs.declared.response.Response.TheVariants as response
 use Rattle.modbus_frame.specs.Meaning.{Asked, ReadCoils, ReadDiscreteInputs, WriteSingleCoil, WriteMultipleCoils, ReadInputRegisters, ReadHoldingRegisters, WriteSingleRegister, WriteMultipleRegisters, ReportServerId, MaskWriteRegister, ReadWriteMultipleRegisters, ReadDeviceIdentification, Custom}
 use Rattle.modbus_pdu.specs.declared.limits.TheConstants.{MAX_PDU}
+use Rattle.modbus_pdu.specs.Limits.{max_read_coils, max_write_coils, max_read_registers, max_write_registers, max_read_write_registers}
 use Rattle.modbus_pdu.specs.ResponseLaws.{response_size}
 use Rattle.modbus_pdu.specs.ResponsePdu.{response_pdu}
 use Rattle.modbus_service.specs.Outcome.{Outcome, silence, reply, exception, reply_pdu}
@@ -49,34 +50,34 @@ module _ (sizes : (r : Response) → length (response_pdu r) ≡ response_size r
   unfolding reply_pdu
   reply_fits n r fits = omega (arith, sizes r)
 
-  coils_fit : (n a m : ℕ) (table : List Bool) → m ≤ 2000 → IsShort n (reply (response.ReadCoils (entries a m table)))
+  coils_fit : (n a m : ℕ) (table : List Bool) → m ≤ max_read_coils → IsShort n (reply (response.ReadCoils (entries a m table)))
   coils_fit n a m table most = reply_fits n _ (omega (arith, length-take m (drop a table)))
 
-  inputs_fit : (n a m : ℕ) (table : List Bool) → m ≤ 2000 → IsShort n (reply (response.ReadDiscreteInputs (entries a m table)))
+  inputs_fit : (n a m : ℕ) (table : List Bool) → m ≤ max_read_coils → IsShort n (reply (response.ReadDiscreteInputs (entries a m table)))
   inputs_fit n a m table most = reply_fits n _ (omega (arith, length-take m (drop a table)))
 
-  holding_fits : (n a m : ℕ) (table : List ℕ) → m ≤ 125 → IsShort n (reply (response.ReadHoldingRegisters (entries a m table)))
+  holding_fits : (n a m : ℕ) (table : List ℕ) → m ≤ max_read_registers → IsShort n (reply (response.ReadHoldingRegisters (entries a m table)))
   holding_fits n a m table most = reply_fits n _ (omega (arith, length-take m (drop a table)))
 
-  input_fits : (n a m : ℕ) (table : List ℕ) → m ≤ 125 → IsShort n (reply (response.ReadInputRegisters (entries a m table)))
+  input_fits : (n a m : ℕ) (table : List ℕ) → m ≤ max_read_registers → IsShort n (reply (response.ReadInputRegisters (entries a m table)))
   input_fits n a m table most = reply_fits n _ (omega (arith, length-take m (drop a table)))
 
-  both_fit : (n a m : ℕ) (table : List ℕ) → m ≤ 125 → IsShort n (reply (response.ReadWriteMultipleRegisters (entries a m table)))
+  both_fit : (n a m : ℕ) (table : List ℕ) → m ≤ max_read_registers → IsShort n (reply (response.ReadWriteMultipleRegisters (entries a m table)))
   both_fit n a m table most = reply_fits n _ (omega (arith, length-take m (drop a table)))
 
   step_fits : (n : ℕ) (t : Tables) (request : Asked) → IsShort n (step_of t request).0
   unfolding step_of
-  step_fits n t (ReadCoils a m) = checked_fits n (counts 2000 m) (inside (length t.coils) a m) _ t (λ e. coils_fit n a m t.coils (most_of 2000 m e))
-  step_fits n t (ReadDiscreteInputs a m) = checked_fits n (counts 2000 m) (inside (length t.discrete_inputs) a m) _ t (λ e. inputs_fit n a m t.discrete_inputs (most_of 2000 m e))
-  step_fits n t (ReadHoldingRegisters a m) = checked_fits n (counts 125 m) (inside (length t.holding_registers) a m) _ t (λ e. holding_fits n a m t.holding_registers (most_of 125 m e))
-  step_fits n t (ReadInputRegisters a m) = checked_fits n (counts 125 m) (inside (length t.input_registers) a m) _ t (λ e. input_fits n a m t.input_registers (most_of 125 m e))
+  step_fits n t (ReadCoils a m) = checked_fits n (counts max_read_coils m) (inside (length t.coils) a m) _ t (λ e. coils_fit n a m t.coils (most_of max_read_coils m e))
+  step_fits n t (ReadDiscreteInputs a m) = checked_fits n (counts max_read_coils m) (inside (length t.discrete_inputs) a m) _ t (λ e. inputs_fit n a m t.discrete_inputs (most_of max_read_coils m e))
+  step_fits n t (ReadHoldingRegisters a m) = checked_fits n (counts max_read_registers m) (inside (length t.holding_registers) a m) _ t (λ e. holding_fits n a m t.holding_registers (most_of max_read_registers m e))
+  step_fits n t (ReadInputRegisters a m) = checked_fits n (counts max_read_registers m) (inside (length t.input_registers) a m) _ t (λ e. input_fits n a m t.input_registers (most_of max_read_registers m e))
   step_fits n t (WriteSingleCoil a coil) = checked_fits n true (inside (length t.coils) a 1) _ t (λ e. reply_fits n _ (omega arith))
   step_fits n t (WriteSingleRegister a w) = checked_fits n true (inside (length t.holding_registers) a 1) _ t (λ e. reply_fits n _ (omega arith))
-  step_fits n t (WriteMultipleCoils a coils) = checked_fits n (counts 1968 (length coils)) (inside (length t.coils) a (length coils)) _ t (λ e. reply_fits n _ (omega arith))
-  step_fits n t (WriteMultipleRegisters a ws) = checked_fits n (counts 123 (length ws)) (inside (length t.holding_registers) a (length ws)) _ t (λ e. reply_fits n _ (omega arith))
+  step_fits n t (WriteMultipleCoils a coils) = checked_fits n (counts max_write_coils (length coils)) (inside (length t.coils) a (length coils)) _ t (λ e. reply_fits n _ (omega arith))
+  step_fits n t (WriteMultipleRegisters a ws) = checked_fits n (counts max_write_registers (length ws)) (inside (length t.holding_registers) a (length ws)) _ t (λ e. reply_fits n _ (omega arith))
   step_fits n t (MaskWriteRegister a b c) = checked_fits n true (inside (length t.holding_registers) a 1) _ t (λ e. reply_fits n _ (omega arith))
   step_fits n t (ReadWriteMultipleRegisters a m b ws) = checked_fits n (both_count m (length ws)) (both_inside (length t.holding_registers) a m b (length ws)) _ t
-      (λ e. both_fit n a m (written b ws t.holding_registers) (most_of 125 m (left (counts 125 m) (counts 121 (length ws)) e)))
+      (λ e. both_fit n a m (written b ws t.holding_registers) (most_of max_read_registers m (left (counts max_read_registers m) (counts max_read_write_registers (length ws)) e)))
   step_fits n t ReportServerId = exception_fits n code.IllegalFunction
   step_fits n t (ReadDeviceIdentification read id) = exception_fits n code.IllegalFunction
   step_fits n t (Custom function bytes) = exception_fits n code.IllegalFunction

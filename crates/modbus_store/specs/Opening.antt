@@ -5,9 +5,13 @@ use Rattle.modbus_store.specs.declared.store.Sizes.{Sizes}
 use Rattle.modbus_store.specs.declared.store.StoreError.{StoreError}
 use Rattle.modbus_store.specs.declared.store.StoreError.TheVariants.{BadSize, NoMemory}
 
--- a table has an entry for each of so many addresses, from 0 on (Modbus Application Protocol V1.1b3, section 4.4)
+-- the most entries of a table: one for each address (Modbus Application Protocol V1.1b3, section 4.4)
+abbrev pub max_entries : ℕ
+max_entries = 0x10000
+
+-- a table has an entry for each of so many addresses, from 0 on
 abbrev pub fits_table : ℕ → Bool
-fits_table size = nat_le 1 size && nat_le size 0x10000
+fits_table size = nat_le 1 size && nat_le size max_entries
 
 -- coils that are off and registers that hold 0
 abbrev pub zeros_of : Sizes → Bool → Tables

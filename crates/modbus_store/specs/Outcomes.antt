@@ -1,9 +1,8 @@
 -- Outcomes of calls, as data of the program.
-use Rattle.std.specs.Prelude.{◌≡◌, Option, Some, None, Result, Ok, Err}
+use Rattle.std.specs.Prelude.{Option, Some, None, Result, Ok, Err}
 use Rattle.modbus_frame.specs.declared.response.Response.{Response}
 use Rattle.modbus_service.specs.Outcome as said
 use Rattle.modbus_service.specs.declared.service.ServiceError.{ServiceError}
-use Rattle.modbus_service.specs.declared.service.ServiceError.TheVariants.{NoMemory}
 use Rattle.modbus_service.specs.declared.service.ServiceError.TheVariants as error
 use Rattle.modbus_store.specs.declared.outcome.Outcome.{Outcome}
 use Rattle.modbus_store.specs.declared.outcome.Outcome.TheVariants as outcome
@@ -18,8 +17,3 @@ abbrev pub answer_of : Outcome → Result (Option Response) ServiceError
 answer_of outcome.Silent = Ok None
 answer_of (outcome.Response response) = Ok (Some response)
 answer_of (outcome.Exception code) = Err (error.Exception code)
-
--- the answer has this outcome, or wants memory and has none
-abbrev pub IsAnswer : {E : Type 0} → Result (Option Response) ServiceError → Result Outcome E → Type 0
-IsAnswer answer (Ok told) = answer ≡ answer_of told
-IsAnswer answer (Err e) = answer ≡ Err NoMemory

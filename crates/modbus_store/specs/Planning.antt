@@ -1,27 +1,54 @@
--- A request in two parts: what it would be answered, and its effect.
-use Rattle.std.specs.Prelude.{◌≡◌, ℕ, ◌&&◌, ◌⊎◌, false, IsTrue, if◌then◌else◌, List, length, Option, Some, None, Result, Ok, Err}
+-- A request in two parts: its plan, which tells its response and what it changes, and the change.
+use Rattle.std.specs.Prelude.{◌≡◌, ℕ, ◌⊎◌, false, IsTrue, if◌then◌else◌, List, [], ◌∷◌, length, Option, Some, None, Result, Ok, Err}
 use Rattle.modbus_frame.specs.declared.code.ExceptionCode.{ExceptionCode}
 use Rattle.modbus_frame.specs.declared.code.ExceptionCode.TheVariants as code
 use Rattle.modbus_frame.specs.declared.response.Response.{Response}
 use Rattle.modbus_frame.specs.Meaning.{Asked}
 use Rattle.modbus_service.specs.declared.service.ServiceError.{ServiceError}
 use Rattle.modbus_service.specs.declared.service.ServiceError.TheVariants.{Exception, NoMemory}
-use Rattle.modbus_service.specs.Outcome.{silence, reply, exception}
-use Rattle.modbus_store.specs.Tables.{Tables, entries, written}
-use Rattle.modbus_store.specs.Step.{store_step, step_of, NeedsMemory, both_count, both_inside}
+use Rattle.modbus_service.specs.Outcome.{Outcome, silence, reply, exception}
+use Rattle.modbus_store.specs.declared.change.Change.{Change}
+use Rattle.modbus_store.specs.declared.change.Change.TheVariants as change
+use Rattle.modbus_store.specs.declared.plan.Planned.{Planned}
+use Rattle.modbus_store.specs.Tables.{Tables, entries, written, with_coils, with_registers}
+use Rattle.modbus_store.specs.Step.{counts, inside, both_count, both_inside, store_step, step_of, NeedsMemory}
 
--- what a request of a slave would be answered; memory is wanting only where it may be taken
-abbrev pub Plans : Tables → ℕ → Asked → Result (Option Response) ServiceError → Type 0
-Plans t slave asked (Ok None) = (store_step t slave asked).0 ≡ silence
-Plans t slave asked (Ok (Some r)) = (store_step t slave asked).0 ≡ reply r
-Plans t slave asked (Err (Exception c)) = (store_step t slave asked).0 ≡ exception c
+-- the table with these entries from an address on, or as it was where they reach past its end
+abbrev pub overlaid : {A : Type 0} → ℕ → List A → List A → List A
+overlaid first values table = if inside (length table) first (length values) then written first values table else table
+
+-- the tables after a change
+abbrev pub changed : Tables → Change → Tables
+changed t change.Nothing = t
+changed t (change.Coil address value) = with_coils t (overlaid address (value ∷ []) t.coils)
+changed t (change.Coils first values) = with_coils t (overlaid first values.now t.coils)
+changed t (change.Register address value) = with_registers t (overlaid address (value ∷ []) t.holding_registers)
+changed t (change.Registers first values) = with_registers t (overlaid first values.now t.holding_registers)
+
+-- a broadcast has no response
+abbrev pub told : Option Response → Outcome
+told None = silence
+told (Some response) = reply response
+
+-- A plan of a request of a slave: its response and its change are the whole step. An exception changes nothing, and memory is wanting only
+-- where it may be taken.
+abbrev pub Plans : Tables → ℕ → Asked → Result Planned ServiceError → Type 0
+Plans t slave asked (Ok planned) = store_step t slave asked ≡ (told planned.response, changed t planned.change)
+Plans t slave asked (Err (Exception c)) = store_step t slave asked ≡ (exception c, t)
 Plans t slave asked (Err NoMemory) = NeedsMemory t asked
 
 -- the same, whatever its slave
-abbrev pub Foresees : Tables → Asked → Result Response ServiceError → Type 0
-Foresees t asked (Ok r) = (step_of t asked).0 ≡ reply r
-Foresees t asked (Err (Exception c)) = (step_of t asked).0 ≡ exception c
-Foresees t asked (Err NoMemory) = Unit {0}
+abbrev pub PlansRequest : Tables → Asked → Result (Response × Change) ServiceError → Type 0
+PlansRequest t asked (Ok planned) = step_of t asked ≡ (reply planned.0, changed t planned.1)
+PlansRequest t asked (Err (Exception c)) = step_of t asked ≡ (exception c, t)
+PlansRequest t asked (Err NoMemory) = Unit {0}
+
+-- what a read of a table answers
+abbrev pub ReadsAs : {T V : Type 0} → (V → List T) → List T → ℕ → ℕ → ℕ → Result V ServiceError → Type 0
+ReadsAs items table a n most (Ok found) = IsTrue (counts most n) × IsTrue (inside (length table) a n) × (items found ≡ entries a n table)
+ReadsAs items table a n most (Err (Exception c)) = ((counts most n ≡ false) × (c ≡ code.IllegalDataValue))
+    ⊎ (IsTrue (counts most n) × (inside (length table) a n ≡ false) × (c ≡ code.IllegalDataAddress))
+ReadsAs items table a n most (Err NoMemory) = IsTrue (counts most n) × IsTrue (inside (length table) a n)
 
 -- the check of a read and a write: a bad count is told before a bad range
 abbrev pub ChecksBoth : ℕ → ℕ → ℕ → ℕ → ℕ → Result (Unit {0}) ExceptionCode → Type 0
@@ -36,8 +63,3 @@ ReadsAfter items t a n b words (Ok found) = IsTrue (both_count n (length words))
 ReadsAfter items t a n b words (Err (Exception c)) = ((both_count n (length words) ≡ false) × (c ≡ code.IllegalDataValue))
     ⊎ (IsTrue (both_count n (length words)) × (both_inside (length t) a n b (length words) ≡ false) × (c ≡ code.IllegalDataAddress))
 ReadsAfter items t a n b words (Err NoMemory) = IsTrue (both_count n (length words)) × IsTrue (both_inside (length t) a n b (length words))
-
--- the table after the write of a read and a write, which is done where both are within their bounds
-abbrev pub WritesFirst : List ℕ → ℕ → ℕ → ℕ → List ℕ → List ℕ → Type 0
-WritesFirst old a n b words new =
-    new ≡ (if both_count n (length words) && both_inside (length old) a n b (length words) then written b words old else old)

@@ -1,14 +1,12 @@
 -- One step of a register store: the outcome of a request, and the tables after it (Modbus Application Protocol V1.1b3, sections 6
 -- and 7).
-use Rattle.std.specs.Prelude.{◌≡◌, ◌≢◌, ℕ, ◌+◌, ◌-◌, ◌==◌, ◌&&◌, nat_le, ◌⊎◌, Bool, true, false, IsTrue, if◌then◌else◌, List, [], ◌∷◌, length, bit_and, bit_or, slice_index, Result, Ok, Err}
+use Rattle.std.specs.Prelude.{◌≡◌, ◌≢◌, ℕ, ◌+◌, ◌-◌, ◌==◌, ◌&&◌, nat_le, Bool, true, if◌then◌else◌, [], ◌∷◌, length, bit_and, bit_or, slice_index}
 use Rattle.modbus_frame.specs.declared.code.ExceptionCode.{ExceptionCode}
 use Rattle.modbus_frame.specs.declared.code.ExceptionCode.TheVariants as code
-use Rattle.modbus_frame.specs.declared.response.Response.{Response}
 use Rattle.modbus_frame.specs.declared.response.Response.TheVariants as response
 use Rattle.modbus_frame.specs.Meaning.{Asked}
 use Rattle.modbus_frame.specs.Meaning as asked
-use Rattle.modbus_service.specs.declared.service.ServiceError.{ServiceError}
-use Rattle.modbus_service.specs.declared.service.ServiceError.TheVariants.{Exception, NoMemory}
+use Rattle.modbus_pdu.specs.Limits.{max_read_coils, max_write_coils, max_read_registers, max_write_registers, max_read_write_registers}
 use Rattle.modbus_service.specs.Outcome.{Outcome, silence, reply, exception}
 use Rattle.modbus_service.specs.Answering.{Answering, steady}
 use Rattle.modbus_store.specs.Tables.{Tables, entries, written, with_coils, with_registers}
@@ -33,28 +31,28 @@ masked and_mask or_mask word = bit_or (bit_and word and_mask) (bit_and or_mask (
 
 -- the bounds of a read and a write
 abbrev pub both_count : ℕ → ℕ → Bool
-both_count n m = counts 125 n && counts 121 m
+both_count n m = counts max_read_registers n && counts max_read_write_registers m
 
 abbrev pub both_inside : ℕ → ℕ → ℕ → ℕ → ℕ → Bool
 both_inside size a n b m = inside size a n && inside size b m
 
 -- what a request does, whatever its slave
 unfoldable pub step_of : Tables → Asked → Outcome × Tables
-step_of t (asked.ReadCoils a n) = checked (counts 2000 n) (inside (length t.coils) a n)
+step_of t (asked.ReadCoils a n) = checked (counts max_read_coils n) (inside (length t.coils) a n)
     (reply (response.ReadCoils (entries a n t.coils)), t) t
-step_of t (asked.ReadDiscreteInputs a n) = checked (counts 2000 n) (inside (length t.discrete_inputs) a n)
+step_of t (asked.ReadDiscreteInputs a n) = checked (counts max_read_coils n) (inside (length t.discrete_inputs) a n)
     (reply (response.ReadDiscreteInputs (entries a n t.discrete_inputs)), t) t
-step_of t (asked.ReadHoldingRegisters a n) = checked (counts 125 n) (inside (length t.holding_registers) a n)
+step_of t (asked.ReadHoldingRegisters a n) = checked (counts max_read_registers n) (inside (length t.holding_registers) a n)
     (reply (response.ReadHoldingRegisters (entries a n t.holding_registers)), t) t
-step_of t (asked.ReadInputRegisters a n) = checked (counts 125 n) (inside (length t.input_registers) a n)
+step_of t (asked.ReadInputRegisters a n) = checked (counts max_read_registers n) (inside (length t.input_registers) a n)
     (reply (response.ReadInputRegisters (entries a n t.input_registers)), t) t
 step_of t (asked.WriteSingleCoil a coil) = checked true (inside (length t.coils) a 1)
     (reply (response.WriteSingleCoil a coil), with_coils t (written a (coil ∷ []) t.coils)) t
 step_of t (asked.WriteSingleRegister a word) = checked true (inside (length t.holding_registers) a 1)
     (reply (response.WriteSingleRegister a word), with_registers t (written a (word ∷ []) t.holding_registers)) t
-step_of t (asked.WriteMultipleCoils a coils) = checked (counts 1968 (length coils)) (inside (length t.coils) a (length coils))
+step_of t (asked.WriteMultipleCoils a coils) = checked (counts max_write_coils (length coils)) (inside (length t.coils) a (length coils))
     (reply (response.WriteMultipleCoils a (length coils)), with_coils t (written a coils t.coils)) t
-step_of t (asked.WriteMultipleRegisters a words) = checked (counts 123 (length words)) (inside (length t.holding_registers) a (length words))
+step_of t (asked.WriteMultipleRegisters a words) = checked (counts max_write_registers (length words)) (inside (length t.holding_registers) a (length words))
     (reply (response.WriteMultipleRegisters a (length words)), with_registers t (written a words t.holding_registers)) t
 step_of t (asked.MaskWriteRegister a and_mask or_mask) = checked true (inside (length t.holding_registers) a 1) (
   reply (response.MaskWriteRegister a and_mask or_mask),
@@ -86,35 +84,3 @@ TakesMemory t slave request = NeedsMemory t request
 -- the store as what answers requests: after want of memory it is as it was
 abbrev pub device : Answering Tables
 device = steady StepsTo TakesMemory
-
--- what a read of a table answers
-abbrev pub ReadsAs : {T V : Type 0} → (V → List T) → List T → ℕ → ℕ → ℕ → Result V ServiceError → Type 0
-ReadsAs items table a n most (Ok found) = IsTrue (counts most n) × IsTrue (inside (length table) a n) × (items found ≡ entries a n table)
-ReadsAs items table a n most (Err (Exception c)) = ((counts most n ≡ false) × (c ≡ code.IllegalDataValue))
-    ⊎ (IsTrue (counts most n) × (inside (length table) a n ≡ false) × (c ≡ code.IllegalDataAddress))
-ReadsAs items table a n most (Err NoMemory) = IsTrue (counts most n) × IsTrue (inside (length table) a n)
-
--- what a write to a table answers, and the table after it
-abbrev pub WritesAs : {T : Type 0} → List T → ℕ → List T → ℕ → Result (Unit {0}) ExceptionCode → List T → Type 0
-WritesAs old a values most (Ok done) new = IsTrue (counts most (length values)) × IsTrue (inside (length old) a (length values)) × (new ≡ written a values old)
-WritesAs old a values most (Err c) new = (new ≡ old) × (((counts most (length values) ≡ false) × (c ≡ code.IllegalDataValue))
-    ⊎ (IsTrue (counts most (length values)) × (inside (length old) a (length values) ≡ false) × (c ≡ code.IllegalDataAddress)))
-
--- the response to a request, or its exception, with the tables after it; without memory they stay
-abbrev pub Answers : Tables → Asked → Result Response ServiceError → Tables → Type 0
-Answers old request (Ok r) new = step_of old request ≡ (reply r, new)
-Answers old request (Err (Exception c)) new = step_of old request ≡ (exception c, new)
-Answers old request (Err NoMemory) new = new ≡ old
-
--- what a mask write answers, and the table after it
-abbrev pub MasksAs : List ℕ → ℕ → ℕ → ℕ → Result (Unit {0}) ExceptionCode → List ℕ → Type 0
-MasksAs old a and_mask or_mask (Ok done) new = IsTrue (inside (length old) a 1) × (new ≡ written a (masked and_mask or_mask (slice_index old a) ∷ []) old)
-MasksAs old a and_mask or_mask (Err c) new = (new ≡ old) × (inside (length old) a 1 ≡ false) × (c ≡ code.IllegalDataAddress)
-
--- what a read after a write answers, and the table after it
-abbrev pub WritesThenReads : {V : Type 0} → (V → List ℕ) → List ℕ → ℕ → ℕ → ℕ → List ℕ → Result V ServiceError → List ℕ → Type 0
-WritesThenReads items old a n b words (Ok found) new = IsTrue (both_count n (length words)) × IsTrue (both_inside (length old) a n b (length words))
-    × (new ≡ written b words old) × (items found ≡ entries a n (written b words old))
-WritesThenReads items old a n b words (Err (Exception c)) new = (new ≡ old) × (((both_count n (length words) ≡ false) × (c ≡ code.IllegalDataValue))
-    ⊎ (IsTrue (both_count n (length words)) × (both_inside (length old) a n b (length words) ≡ false) × (c ≡ code.IllegalDataAddress)))
-WritesThenReads items old a n b words (Err NoMemory) new = (new ≡ old) × IsTrue (both_count n (length words)) × IsTrue (both_inside (length old) a n b (length words))

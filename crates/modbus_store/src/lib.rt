@@ -4,14 +4,15 @@
 //! `StoreTable` shares one store among many callers, and `SharedStore` is the `Service` of one of them.
 #![tactic(auto)]
 
-mod apply;
 mod bounds;
+mod change;
 mod history;
 pub mod laws;
 mod lock;
 mod outcome;
 mod pass;
 mod plan;
+mod read;
 mod shared;
 mod steps;
 mod store;
@@ -19,9 +20,11 @@ mod table;
 mod turn;
 mod waiting;
 
+pub use crate::change::Change;
 pub use crate::history::{Entry, History};
 pub use crate::outcome::Outcome;
 pub use crate::pass::StorePass;
+pub use crate::plan::Planned;
 pub use crate::shared::SharedStore;
 pub use crate::store::{OutOfRange, RegisterStore, Sizes, StoreError};
 pub use crate::table::{ClosedStore, PassesOut, StoreTable};

@@ -1,6 +1,7 @@
 //! The outcome of a call.
-ghost use Rattle.std.specs.Prelude.{◌≡◌, IfOk, Ok};
-ghost use Rattle.modbus_store.specs.Outcomes.{answer_of, IsAnswer};
+ghost use Rattle.std.specs.Prelude.{◌≡◌, IfOk};
+ghost use Rattle.modbus_store.specs.Outcomes.{outcome_of, answer_of};
+ghost use Rattle.modbus_store.specs.Planning.{told};
 
 use modbus_frame::{ExceptionCode, Response};
 use modbus_service::ServiceError;
@@ -29,15 +30,13 @@ impl Outcome {
         }
     }
 
-    /// The outcome of an answer; want of memory has none.
-    pub(crate) fn of(answer: Result<Option<Response>, ServiceError>) -> Result<Outcome, AllocError>
-        ensures { IsAnswer answer result }
+    /// The outcome of a response; a broadcast has none.
+    pub(crate) fn of(response: Option<Response>) -> Outcome
+        ensures { outcome_of result ≡ told response }
     {
-        match answer {
-            Ok(None) => Ok(Outcome::Silent),
-            Ok(Some(response)) => Ok(Outcome::Response(response)),
-            Err(ServiceError::Exception(code)) => Ok(Outcome::Exception(code)),
-            Err(ServiceError::NoMemory) => Err(AllocError),
+        match response {
+            Some(response) => Outcome::Response(response),
+            None => Outcome::Silent,
         }
     }
 

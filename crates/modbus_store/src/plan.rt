@@ -1,223 +1,165 @@
-//! A request in two parts: what it would be answered, which takes all memory and changes nothing, and its effect, which takes none.
-ghost use Rattle.std.specs.Prelude.{◌≡◌, ◌≤◌, ◌+◌, ◌<◌, length, slice_index, Err};
+//! A request in two parts: its plan, which takes all memory and changes nothing, and its change, which takes none.
+ghost use Rattle.std.specs.Prelude.{◌≡◌, Err};
 ghost use Rattle.modbus_frame.specs.Meaning.{meaning};
 ghost use Rattle.modbus_service.specs.declared.service.ServiceError.TheVariants as ServiceErrors;
-ghost use Rattle.modbus_store.specs.Tables.{written};
-ghost use Rattle.modbus_store.specs.Step.{store_step, step_of, NeedsMemory};
-ghost use Rattle.modbus_store.specs.Planning.{Plans, Foresees, ChecksBoth, ReadsAfter, WritesFirst};
+ghost use Rattle.modbus_store.specs.Step.{NeedsMemory, masked};
+ghost use Rattle.modbus_store.specs.Planning.{Plans, PlansRequest, changed};
 
-use crate::apply::{mask_register, read_entries, write_entries};
-use crate::bounds::{
-    MAX_COILS_READ, MAX_COILS_WRITTEN, MAX_REGISTERS_READ, MAX_REGISTERS_WRITTEN,
-    MAX_REGISTERS_WRITTEN_FIRST, check_count, check_range,
-};
+use crate::bounds::{check_count, check_range};
+use crate::change::{Change, write_entries};
+use crate::read::{read_after_write, read_entries};
 use crate::store::RegisterStore;
-use modbus_frame::{
-    Address, Coils, ExceptionCode, Quantity, Request, Response, SlaveRequest, Word, Words,
-};
+use modbus_frame::{Coils, ExceptionCode, Quantity, Request, Response, SlaveRequest, Word, Words};
+use modbus_pdu::{MAX_READ_COILS, MAX_READ_REGISTERS, MAX_WRITE_COILS, MAX_WRITE_REGISTERS};
 use modbus_service::ServiceError;
 use std::alloc::Global;
 
+/// What a request comes to: how it is answered, and what it changes.
+#[derive(Debug, PartialEq, Eq, Drop)]
+pub struct Planned<'a> {
+    /// The response; `None` for a request of slave 0 where the store takes part in broadcasts.
+    pub response: Option<Response>,
+    /// The change, which is still to be made.
+    pub change: Change<'a>,
+}
+
 impl RegisterStore {
-    /// What a request of a slave would be answered now; nothing changes. With `commit` it is a call in two parts, of which this one takes
+    /// What a request of a slave comes to; nothing changes. With `commit` of its change it is a call in two parts, of which this one takes
     /// all memory.
     ///
     /// # Errors
-    /// Those of `apply`: the exception that the request is answered, or `NoMemory` where memory was refused for what is read.
+    /// Those of `apply`: the exception that the request is answered, which changes nothing, or `NoMemory` where memory was refused for what
+    /// is read.
+    #[inline(always)]
     #[tactic(auto, unfolding(crate::specs::Step::store_step))]
-    pub fn plan(
+    pub fn plan<'a>(
         &self,
         alloc: Global,
-        request: &SlaveRequest<'_>,
-    ) -> Result<Option<Response>, ServiceError>
+        request: &'a SlaveRequest<'_>,
+    ) -> Result<Planned<'a>, ServiceError>
         ensures { Plans self.now request.now.slave (meaning request.now.request) result }
     {
         let is_silent = self.broadcast && request.slave == 0;
-        match self.foresee(alloc, &request.request) {
-            Ok(_) if is_silent => Ok(None),
-            Err(ServiceError::Exception(_)) if is_silent => Ok(None),
-            Ok(response) => Ok(Some(response)),
+        match self.plan_request(alloc, &request.request) {
+            Ok((response, change)) => {
+                let response = if is_silent { None } else { Some(response) };
+                Ok(Planned { response, change })
+            }
+            Err(ServiceError::Exception(_)) if is_silent => Ok(Planned {
+                response: None,
+                change: Change::Nothing,
+            }),
             Err(error) => Err(error),
         }
     }
 
-    /// Does what a request of a slave asks, and answers nothing. A request that is answered with an exception changes no table. It takes no
-    /// memory.
-    #[tactic(auto, unfolding(crate::specs::Step::store_step))]
-    pub fn commit(&mut self, request: &SlaveRequest<'_>)
-        ensures { self.new ≡ (store_step self.old request.now.slave (meaning request.now.request)).1 }
+    /// Makes a change. One that reaches past the end of its table changes nothing. It takes no memory.
+    #[inline(always)]
+    pub fn commit(&mut self, change: Change<'_>)
+        ensures { self.new ≡ changed self.old change.entry }
     {
-        self.perform(&request.request);
+        let coils = self.coils.as_mut_slice();
+        let registers = self.holding_registers.as_mut_slice();
+        let _ = match change {
+            Change::Nothing => Ok(()),
+            Change::Coil(address, coil) => write_entries(coils, address, &[coil]),
+            Change::Coils(first, states) => write_entries(coils, first, states),
+            Change::Register(address, word) => write_entries(registers, address, &[word]),
+            Change::Registers(first, words) => write_entries(registers, first, words),
+        };
     }
 
-    /// What a request would be answered, whatever its slave.
+    /// What a request comes to, whatever its slave.
+    #[inline(always)]
     #[tactic(auto, unfolding(crate::specs::Step::step_of))]
-    fn foresee(&self, alloc: Global, request: &Request<'_>) -> Result<Response, ServiceError>
-        ensures answers { Foresees self.now (meaning request.now) result }
+    fn plan_request<'a>(
+        &self,
+        alloc: Global,
+        request: &'a Request<'_>,
+    ) -> Result<(Response, Change<'a>), ServiceError>
+        ensures step { PlansRequest self.now (meaning request.now) result }
         ensures memory { result ≡ Err ServiceErrors.NoMemory → NeedsMemory self.now (meaning request.now) }
     {
         match request {
             Request::ReadCoils(address, quantity) => {
                 let table = self.coils.as_slice();
-                let found = read_entries(alloc, table, *address, *quantity, MAX_COILS_READ)?;
-                Ok(Response::ReadCoils(Coils::new(found)))
+                let found = read_entries(alloc, table, *address, *quantity, MAX_READ_COILS)?;
+                let response = Response::ReadCoils(Coils::new(found));
+                Ok((response, Change::Nothing))
             }
             Request::ReadDiscreteInputs(address, quantity) => {
                 let table = self.discrete_inputs.as_slice();
-                let found = read_entries(alloc, table, *address, *quantity, MAX_COILS_READ)?;
-                Ok(Response::ReadDiscreteInputs(Coils::new(found)))
+                let found = read_entries(alloc, table, *address, *quantity, MAX_READ_COILS)?;
+                let response = Response::ReadDiscreteInputs(Coils::new(found));
+                Ok((response, Change::Nothing))
             }
             Request::ReadHoldingRegisters(address, quantity) => {
                 let table = self.holding_registers.as_slice();
-                let found = read_entries(alloc, table, *address, *quantity, MAX_REGISTERS_READ)?;
-                Ok(Response::ReadHoldingRegisters(Words::new(found)))
+                let found = read_entries(alloc, table, *address, *quantity, MAX_READ_REGISTERS)?;
+                let response = Response::ReadHoldingRegisters(Words::new(found));
+                Ok((response, Change::Nothing))
             }
             Request::ReadInputRegisters(address, quantity) => {
                 let table = self.input_registers.as_slice();
-                let found = read_entries(alloc, table, *address, *quantity, MAX_REGISTERS_READ)?;
-                Ok(Response::ReadInputRegisters(Words::new(found)))
+                let found = read_entries(alloc, table, *address, *quantity, MAX_READ_REGISTERS)?;
+                let response = Response::ReadInputRegisters(Words::new(found));
+                Ok((response, Change::Nothing))
             }
             Request::WriteSingleCoil(address, coil) => {
                 check_range(self.coils.len(), *address, 1)?;
-                Ok(Response::WriteSingleCoil(*address, *coil))
+                let response = Response::WriteSingleCoil(*address, *coil);
+                Ok((response, Change::Coil(*address, *coil)))
             }
             Request::WriteSingleRegister(address, word) => {
                 check_range(self.holding_registers.len(), *address, 1)?;
-                Ok(Response::WriteSingleRegister(*address, *word))
+                let response = Response::WriteSingleRegister(*address, *word);
+                Ok((response, Change::Register(*address, *word)))
             }
             Request::WriteMultipleCoils(address, coils) => {
-                check_count(coils.len(), MAX_COILS_WRITTEN)?;
+                let coils = coils.as_slice();
+                check_count(coils.len(), MAX_WRITE_COILS)?;
                 check_range(self.coils.len(), *address, coils.len())?;
-                Ok(Response::WriteMultipleCoils(*address, coils.len() as Quantity))
+                let response = Response::WriteMultipleCoils(*address, coils.len() as Quantity);
+                Ok((response, Change::Coils(*address, coils)))
             }
             Request::WriteMultipleRegisters(address, words) => {
-                check_count(words.len(), MAX_REGISTERS_WRITTEN)?;
+                let words = words.as_slice();
+                check_count(words.len(), MAX_WRITE_REGISTERS)?;
                 check_range(self.holding_registers.len(), *address, words.len())?;
-                Ok(Response::WriteMultipleRegisters(*address, words.len() as Quantity))
+                let response = Response::WriteMultipleRegisters(*address, words.len() as Quantity);
+                Ok((response, Change::Registers(*address, words)))
             }
             Request::MaskWriteRegister(address, and_mask, or_mask) => {
                 check_range(self.holding_registers.len(), *address, 1)?;
-                Ok(Response::MaskWriteRegister(*address, *and_mask, *or_mask))
+                let old = self.holding_registers[usize::from(*address)];
+                let new = mask_word(old, *and_mask, *or_mask);
+                let response = Response::MaskWriteRegister(*address, *and_mask, *or_mask);
+                Ok((response, Change::Register(*address, new)))
             }
             Request::ReadWriteMultipleRegisters(address, quantity, write_address, words) => {
+                let table = self.holding_registers.as_slice();
+                let words = words.as_slice();
                 let found = read_after_write(
                     alloc,
-                    self.holding_registers.as_slice(),
+                    table,
                     *address,
                     *quantity,
                     *write_address,
-                    words.as_slice(),
+                    words,
                 )?;
-                Ok(Response::ReadWriteMultipleRegisters(Words::new(found)))
+                let response = Response::ReadWriteMultipleRegisters(Words::new(found));
+                Ok((response, Change::Registers(*write_address, words)))
             }
             Request::ReportServerId
             | Request::ReadDeviceIdentification(_, _)
             | Request::Custom(_, _) => Err(ServiceError::Exception(ExceptionCode::IllegalFunction)),
         }
     }
-
-    /// The effect of a request, whatever its slave. What is refused changes nothing, so refusals are dropped.
-    #[tactic(auto, unfolding(crate::specs::Step::step_of))]
-    fn perform(&mut self, request: &Request<'_>)
-        ensures { self.new ≡ (step_of self.old (meaning request.now)).1 }
-    {
-        match request {
-            Request::WriteSingleCoil(address, coil) => {
-                let _ = write_entries(self.coils.as_mut_slice(), *address, &[*coil], 1);
-            }
-            Request::WriteSingleRegister(address, word) => {
-                let _ = write_entries(self.holding_registers.as_mut_slice(), *address, &[*word], 1);
-            }
-            Request::WriteMultipleCoils(address, coils) => {
-                let table = self.coils.as_mut_slice();
-                let _ = write_entries(table, *address, coils.as_slice(), MAX_COILS_WRITTEN);
-            }
-            Request::WriteMultipleRegisters(address, words) => {
-                let table = self.holding_registers.as_mut_slice();
-                let _ = write_entries(table, *address, words.as_slice(), MAX_REGISTERS_WRITTEN);
-            }
-            Request::MaskWriteRegister(address, and_mask, or_mask) => {
-                let table = self.holding_registers.as_mut_slice();
-                let _ = mask_register(table, *address, *and_mask, *or_mask);
-            }
-            Request::ReadWriteMultipleRegisters(address, quantity, write_address, words) => {
-                let table = self.holding_registers.as_mut_slice();
-                write_first(table, *address, *quantity, *write_address, words.as_slice());
-            }
-            Request::ReadCoils(_, _)
-            | Request::ReadDiscreteInputs(_, _)
-            | Request::ReadHoldingRegisters(_, _)
-            | Request::ReadInputRegisters(_, _)
-            | Request::ReportServerId
-            | Request::ReadDeviceIdentification(_, _)
-            | Request::Custom(_, _) => {}
-        }
-    }
 }
 
-/// Whether a read and a write are within their bounds (section 6.17).
-fn check_both(
-    size: usize,
-    address: Address,
-    quantity: Quantity,
-    write_address: Address,
-    count: usize,
-) -> Result<(), ExceptionCode>
-    ensures { ChecksBoth size address quantity write_address count result }
+/// A register with the bits changed where the AND mask has 0, to those of the OR mask (section 6.16).
+fn mask_word(word: Word, and_mask: Word, or_mask: Word) -> Word
+    ensures { result ≡ masked and_mask or_mask word }
 {
-    check_count(usize::from(quantity), MAX_REGISTERS_READ)?;
-    check_count(count, MAX_REGISTERS_WRITTEN_FIRST)?;
-    check_range(size, address, usize::from(quantity))?;
-    check_range(size, write_address, count)
-}
-
-/// A register as it is after words were written from a place on.
-fn register_after(table: &[Word], first: usize, words: &[Word], place: usize) -> Word
-    requires { (first + length words.now ≤ length table.now) × (place < length table.now) }
-    ensures { result ≡ slice_index (written first words.now table.now) place }
-{
-    if first <= place && place < first + words.len() {
-        words[place - first]
-    } else {
-        table[place]
-    }
-}
-
-/// The registers that are read after others were written, of the table as it is before (section 6.17).
-#[tactic(auto, using(crate::proofs::Writing::entries_more, crate::proofs::Writing::written_keeps_length))]
-fn read_after_write(
-    alloc: Global,
-    table: &[Word],
-    address: Address,
-    quantity: Quantity,
-    write_address: Address,
-    words: &[Word],
-) -> Result<Vec<Word>, ServiceError>
-    ensures { ReadsAfter (λ found. found.items) table.now address quantity write_address words.now result }
-{
-    check_both(table.len(), address, quantity, write_address, words.len())?;
-    let start = usize::from(address);
-    let count = usize::from(quantity);
-    let mut found = Vec::with_capacity(alloc, count)?;
-    for i in 0..count {
-        found.push_reserved(register_after(table, usize::from(write_address), words, start + i));
-    }
-    Ok(found)
-}
-
-/// Writes registers, where the read that follows is within its bounds too (section 6.17).
-fn write_first(
-    table: &mut [Word],
-    address: Address,
-    quantity: Quantity,
-    write_address: Address,
-    words: &[Word],
-)
-    ensures { WritesFirst table.old address quantity write_address words.now table.new }
-{
-    if check_both(table.len(), address, quantity, write_address, words.len()).is_err() {
-        return;
-    }
-    let first = usize::from(write_address);
-    table[first..first + words.len()].copy_from_slice(words);
+    (word & and_mask) | (or_mask & !and_mask)
 }

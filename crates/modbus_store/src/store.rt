@@ -4,13 +4,11 @@ ghost use Rattle.modbus_frame.specs.Meaning.{meaning};
 ghost use Rattle.modbus_store.specs.Tables.{Tables, written, with_discrete_inputs, with_input_registers};
 ghost use Rattle.modbus_store.specs.Opening.{fits_table, zeros_of, Opens, Sets};
 ghost use Rattle.modbus_service.specs.Answering.{Keeps};
-ghost use Rattle.modbus_store.specs.Step.{device, NeedsMemory, Answers, inside};
+ghost use Rattle.modbus_store.specs.Step.{device, inside};
 
-use crate::apply::{mask_register, read_entries, write_entries, write_then_read};
-use crate::bounds::{MAX_COILS_READ, MAX_COILS_WRITTEN, MAX_REGISTERS_READ, MAX_REGISTERS_WRITTEN};
-use modbus_frame::{
-    Address, Coil, Coils, ExceptionCode, Quantity, Request, Response, SlaveRequest, Word, Words,
-};
+use crate::change::write_entries;
+use crate::plan::Planned;
+use modbus_frame::{Address, Coil, Response, SlaveRequest, Word};
 use modbus_service::{Service, ServiceError};
 use std::alloc::{AllocError, Global};
 use std::marker::Model;
@@ -57,7 +55,7 @@ impl Model for RegisterStore {
     ghost view = { λ store. record { coils = store.coils.items; discrete_inputs = store.discrete_inputs.items; holding_registers = store.holding_registers.items; input_registers = store.input_registers.items; broadcast = store.broadcast } };
 }
 
-/// A table has at most one entry for each address.
+/// The most entries of a table, which has at most one for each address (Modbus Application Protocol V1.1b3, section 4.4).
 const MAX_ENTRIES: usize = 0x10000;
 
 fn is_size(size: usize) -> bool
@@ -159,10 +157,7 @@ impl RegisterStore {
     pub fn set_discrete(&mut self, address: Address, state: Coil) -> Result<(), OutOfRange>
         ensures { Sets (inside (length self.old.discrete_inputs) address 1) self.old (with_discrete_inputs self.old (written address (state ∷ []) self.old.discrete_inputs)) result self.new }
     {
-        match write_entries(self.discrete_inputs.as_mut_slice(), address, &[state], 1) {
-            Ok(()) => Ok(()),
-            Err(_) => Err(OutOfRange),
-        }
+        write_entries(self.discrete_inputs.as_mut_slice(), address, &[state])
     }
 
     /// Sets the input register at an address, as the process behind the device does.
@@ -172,80 +167,7 @@ impl RegisterStore {
     pub fn set_input(&mut self, address: Address, word: Word) -> Result<(), OutOfRange>
         ensures { Sets (inside (length self.old.input_registers) address 1) self.old (with_input_registers self.old (written address (word ∷ []) self.old.input_registers)) result self.new }
     {
-        match write_entries(self.input_registers.as_mut_slice(), address, &[word], 1) {
-            Ok(()) => Ok(()),
-            Err(_) => Err(OutOfRange),
-        }
-    }
-}
-
-impl RegisterStore {
-    /// Answers a request, whatever its slave.
-    #[inline(always)]
-    #[tactic(auto, unfolding(crate::specs::Step::step_of))]
-    fn answer(&mut self, alloc: Global, request: Request<'_>) -> Result<Response, ServiceError>
-        ensures answers { Answers self.old (meaning request.entry) result self.new }
-        ensures memory { result ≡ Err ServiceError.NoMemory → NeedsMemory self.old (meaning request.entry) }
-    {
-        match request {
-            Request::ReadCoils(address, quantity) => {
-                let table = self.coils.as_slice();
-                let found = read_entries(alloc, table, address, quantity, MAX_COILS_READ)?;
-                Ok(Response::ReadCoils(Coils::new(found)))
-            }
-            Request::ReadDiscreteInputs(address, quantity) => {
-                let table = self.discrete_inputs.as_slice();
-                let found = read_entries(alloc, table, address, quantity, MAX_COILS_READ)?;
-                Ok(Response::ReadDiscreteInputs(Coils::new(found)))
-            }
-            Request::ReadHoldingRegisters(address, quantity) => {
-                let table = self.holding_registers.as_slice();
-                let found = read_entries(alloc, table, address, quantity, MAX_REGISTERS_READ)?;
-                Ok(Response::ReadHoldingRegisters(Words::new(found)))
-            }
-            Request::ReadInputRegisters(address, quantity) => {
-                let table = self.input_registers.as_slice();
-                let found = read_entries(alloc, table, address, quantity, MAX_REGISTERS_READ)?;
-                Ok(Response::ReadInputRegisters(Words::new(found)))
-            }
-            Request::WriteSingleCoil(address, coil) => {
-                write_entries(self.coils.as_mut_slice(), address, &[coil], 1)?;
-                Ok(Response::WriteSingleCoil(address, coil))
-            }
-            Request::WriteSingleRegister(address, word) => {
-                write_entries(self.holding_registers.as_mut_slice(), address, &[word], 1)?;
-                Ok(Response::WriteSingleRegister(address, word))
-            }
-            Request::WriteMultipleCoils(address, coils) => {
-                let table = self.coils.as_mut_slice();
-                write_entries(table, address, coils.as_slice(), MAX_COILS_WRITTEN)?;
-                Ok(Response::WriteMultipleCoils(address, coils.len() as Quantity))
-            }
-            Request::WriteMultipleRegisters(address, words) => {
-                let table = self.holding_registers.as_mut_slice();
-                write_entries(table, address, words.as_slice(), MAX_REGISTERS_WRITTEN)?;
-                Ok(Response::WriteMultipleRegisters(address, words.len() as Quantity))
-            }
-            Request::MaskWriteRegister(address, and_mask, or_mask) => {
-                let table = self.holding_registers.as_mut_slice();
-                mask_register(table, address, and_mask, or_mask)?;
-                Ok(Response::MaskWriteRegister(address, and_mask, or_mask))
-            }
-            Request::ReadWriteMultipleRegisters(address, quantity, write_address, words) => {
-                let found = write_then_read(
-                    alloc,
-                    self.holding_registers.as_mut_slice(),
-                    address,
-                    quantity,
-                    write_address,
-                    words.as_slice(),
-                )?;
-                Ok(Response::ReadWriteMultipleRegisters(Words::new(found)))
-            }
-            Request::ReportServerId
-            | Request::ReadDeviceIdentification(_, _)
-            | Request::Custom(_, _) => Err(ServiceError::Exception(ExceptionCode::IllegalFunction)),
-        }
+        write_entries(self.input_registers.as_mut_slice(), address, &[word])
     }
 }
 
@@ -258,7 +180,6 @@ impl RegisterStore {
     /// where a count is out of its bounds, `IllegalDataAddress` where a range is not inside a table (section 7). `NoMemory` where
     /// memory was refused for what is read; the store is then as it was.
     #[inline(always)]
-    #[tactic(auto, unfolding(crate::specs::Step::store_step))]
     pub fn apply(
         &mut self,
         alloc: Global,
@@ -266,13 +187,9 @@ impl RegisterStore {
     ) -> Result<Option<Response>, ServiceError>
         ensures { Keeps device self.old request.entry.slave (meaning request.entry.request) result self.new }
     {
-        let is_silent = self.broadcast && request.slave == 0;
-        match self.answer(alloc, request.request) {
-            Ok(_) if is_silent => Ok(None),
-            Err(ServiceError::Exception(_)) if is_silent => Ok(None),
-            Ok(response) => Ok(Some(response)),
-            Err(error) => Err(error),
-        }
+        let Planned { response, change } = self.plan(alloc, &request)?;
+        self.commit(change);
+        Ok(response)
     }
 }
 

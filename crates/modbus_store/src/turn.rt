@@ -5,12 +5,18 @@ ghost use Rattle.modbus_frame.specs.Meaning.{meaning};
 ghost use Rattle.modbus_store.specs.Outcomes.{outcome_of};
 ghost use Rattle.modbus_store.specs.Legal.{call};
 ghost use Rattle.modbus_store.specs.Turns.{IsDesk, Rests, Extends, Serves, Files};
+ghost use Rattle.modbus_store.specs.Step.{store_step};
+ghost use Rattle.modbus_store.specs.Planning.{changed};
 
+use crate::change::Change;
 use crate::history::{Entry, History, Roomy};
 use crate::lock::Stored;
 use crate::outcome::Outcome;
+use crate::plan::Planned;
 use crate::steps::{Desk, Spot, count, leave, take_turn};
+use crate::store::RegisterStore;
 use modbus_frame::SlaveRequest;
+use modbus_service::ServiceError;
 use std::alloc::{AllocError, Global};
 use std::sync::Wait;
 
@@ -72,6 +78,21 @@ fn with_entry(room: Option<Filed>) -> Option<History>
     }
 }
 
+/// The outcome of a request and the change that it asks for. Want of memory is the one error.
+fn settle<'a>(
+    store: &RegisterStore,
+    alloc: Global,
+    request: &'a SlaveRequest<'_>,
+) -> Result<(Outcome, Change<'a>), AllocError>
+    ensures { IfOk result (λ done. store_step store.now request.now.slave (meaning request.now.request) ≡ (outcome_of done.0, changed store.now done.1)) }
+{
+    match store.plan(alloc, request) {
+        Ok(Planned { response, change }) => Ok((Outcome::of(response), change)),
+        Err(ServiceError::Exception(code)) => Ok((Outcome::Exception(code), Change::Nothing)),
+        Err(ServiceError::NoMemory) => Err(AllocError),
+    }
+}
+
 /// Answers the request. All memory is taken before anything changes.
 fn serve(
     alloc: Global,
@@ -95,8 +116,8 @@ fn serve(
         };
         return Err((stored, AllocError));
     }
-    let outcome = match Outcome::of(store.plan(alloc, request)) {
-        Ok(outcome) => outcome,
+    let (outcome, change) = match settle(&store, alloc, request) {
+        Ok(settled) => settled,
         Err(error) => {
             let stored = Stored {
                 store,
@@ -108,7 +129,7 @@ fn serve(
     };
     match file(alloc, history, number, request, &outcome) {
         Ok(room) => {
-            store.commit(request);
+            store.commit(change);
             let stored = Stored {
                 store,
                 count: count + 1,

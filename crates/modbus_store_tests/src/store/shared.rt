@@ -5,7 +5,7 @@ use modbus_frame::{ExceptionCode, Request, Response, Words};
 use modbus_link::{MemorySink, MemorySource};
 use modbus_server::tcp;
 use modbus_service::{Service, ServiceError};
-use modbus_store::{ClosedStore, History, Outcome, RegisterStore, SharedStore, StoreTable};
+use modbus_store::{ClosedStore, History, Outcome, Planned, RegisterStore, SharedStore, StoreTable};
 use std::alloc::{AllocError, Global};
 use std::borrow::CowSlice;
 use std::sync::Wait;
@@ -118,12 +118,10 @@ fn a_call_in_two_parts_is_planned_and_then_done(rt: HostRuntime) -> Result<(), F
         Request::ReadWriteMultipleRegisters(0, 3, 1, CowSlice::Borrowed(&two)),
     );
     let found = Words::new(Vec::from_slice(alloc, &[7, 20, 30])?);
-    assert_eq!(rt;
-        store.plan(alloc, &both),
-        Ok(Some(Response::ReadWriteMultipleRegisters(found)))
-    );
+    let Planned { response, change } = store.plan(alloc, &both)?;
+    assert_eq!(rt; response, Some(Response::ReadWriteMultipleRegisters(found)));
     assert_eq!(rt; store.holding_register(1), Some(8));
-    store.commit(&both);
+    store.commit(change);
     assert_eq!(rt;
         (
             store.holding_register(0),

@@ -1,6 +1,6 @@
 use Rattle.std.proofs.Common.{◌≡◌, ◌≤◌, ◌+◌, length}
 use Rattle.modbus_store.specs.Tables.{entries, written}
-use Rattle.modbus_store.proofs.plan.read_after_write.Given as goal
+use Rattle.modbus_store.proofs.read.read_after_write.Given as goal
 
 abbrev pub invariant-loop-i : goal.invariant-loop-i
 invariant-loop-i l =

@@ -1,0 +1,61 @@
+//! What a request reads of the tables (Modbus Application Protocol V1.1b3, section 6).
+ghost use Rattle.std.specs.Prelude.{◌≡◌, ◌≤◌, ◌+◌, ◌<◌, ℕ, Bool, List, Ok, Err, length, slice_index};
+ghost use Rattle.modbus_store.specs.Tables.{entries, written};
+ghost use Rattle.modbus_store.specs.Planning.{ReadsAs, ReadsAfter};
+
+use crate::bounds::{check_both, check_count, check_range};
+use modbus_frame::{Address, Quantity, Word};
+use modbus_service::ServiceError;
+use std::alloc::Global;
+
+/// The entries of a table from an address on.
+pub(crate) fn read_entries<T: Copy>(
+    alloc: Global,
+    table: &[T],
+    address: Address,
+    quantity: Quantity,
+    most: usize,
+) -> Result<Vec<T>, ServiceError>
+    ensures { ReadsAs (λ found. found.items) table.now address quantity most result }
+{
+    let count = usize::from(quantity);
+    check_count(count, most)?;
+    check_range(table.len(), address, count)?;
+    let start = usize::from(address);
+    let found = Vec::from_slice(alloc, &table[start..start + count])?;
+    Ok(found)
+}
+
+/// A register as it is after words were written from a place on.
+fn register_after(table: &[Word], first: usize, words: &[Word], place: usize) -> Word
+    requires { (first + length words.now ≤ length table.now) × (place < length table.now) }
+    ensures { result ≡ slice_index (written first words.now table.now) place }
+{
+    if first <= place && place < first + words.len() {
+        words[place - first]
+    } else {
+        table[place]
+    }
+}
+
+/// The registers that are read after others were written, of the table as it is before (section 6.17).
+#[tactic(auto, using(crate::proofs::Writing::entries_more, crate::proofs::Writing::written_keeps_length))]
+pub(crate) fn read_after_write(
+    alloc: Global,
+    table: &[Word],
+    address: Address,
+    quantity: Quantity,
+    write_address: Address,
+    words: &[Word],
+) -> Result<Vec<Word>, ServiceError>
+    ensures { ReadsAfter (λ found. found.items) table.now address quantity write_address words.now result }
+{
+    check_both(table.len(), address, quantity, write_address, words.len())?;
+    let start = usize::from(address);
+    let count = usize::from(quantity);
+    let mut found = Vec::with_capacity(alloc, count)?;
+    for i in 0..count {
+        found.push_reserved(register_after(table, usize::from(write_address), words, start + i));
+    }
+    Ok(found)
+}
