@@ -3,6 +3,7 @@
 use Rattle.std.specs.Prelude.{ℕ, List, codes, Option, Some, None, ◌==◌, if◌then◌else◌}
 use Rattle.modbus_frame.specs.declared.code.FunctionCode.{FunctionCode}
 use Rattle.modbus_frame.specs.declared.code.FunctionCode.TheVariants as function
+use Rattle.modbus_frame.specs.FunctionCodes as number
 use Rattle.modbus_frame.specs.declared.code.ExceptionCode.{ExceptionCode}
 use Rattle.modbus_frame.specs.declared.code.ExceptionCode.TheVariants as exception
 use Rattle.modbus_frame.specs.declared.code.ReadCode.{ReadCode}
@@ -12,49 +13,49 @@ use Rattle.modbus_frame.specs.declared.code.ConformityLevel.TheVariants as level
 
 -- the number of a function
 abbrev pub function_number : FunctionCode → ℕ
-function_number function.ReadCoils = 0x01
-function_number function.ReadDiscreteInputs = 0x02
-function_number function.ReadHoldingRegisters = 0x03
-function_number function.ReadInputRegisters = 0x04
-function_number function.WriteSingleCoil = 0x05
-function_number function.WriteSingleRegister = 0x06
-function_number function.ReadExceptionStatus = 0x07
-function_number function.Diagnostics = 0x08
-function_number function.GetCommEventCounter = 0x0B
-function_number function.GetCommEventLog = 0x0C
-function_number function.WriteMultipleCoils = 0x0F
-function_number function.WriteMultipleRegisters = 0x10
-function_number function.ReportServerId = 0x11
-function_number function.ReadFileRecord = 0x14
-function_number function.WriteFileRecord = 0x15
-function_number function.MaskWriteRegister = 0x16
-function_number function.ReadWriteMultipleRegisters = 0x17
-function_number function.ReadFifoQueue = 0x18
-function_number function.EncapsulatedInterfaceTransport = 0x2B
+function_number function.ReadCoils = number.read_coils
+function_number function.ReadDiscreteInputs = number.read_discrete_inputs
+function_number function.ReadHoldingRegisters = number.read_holding_registers
+function_number function.ReadInputRegisters = number.read_input_registers
+function_number function.WriteSingleCoil = number.write_single_coil
+function_number function.WriteSingleRegister = number.write_single_register
+function_number function.ReadExceptionStatus = number.read_exception_status
+function_number function.Diagnostics = number.diagnostics
+function_number function.GetCommEventCounter = number.get_comm_event_counter
+function_number function.GetCommEventLog = number.get_comm_event_log
+function_number function.WriteMultipleCoils = number.write_multiple_coils
+function_number function.WriteMultipleRegisters = number.write_multiple_registers
+function_number function.ReportServerId = number.report_server_id
+function_number function.ReadFileRecord = number.read_file_record
+function_number function.WriteFileRecord = number.write_file_record
+function_number function.MaskWriteRegister = number.mask_write_register
+function_number function.ReadWriteMultipleRegisters = number.read_write_multiple_registers
+function_number function.ReadFifoQueue = number.read_fifo_queue
+function_number function.EncapsulatedInterfaceTransport = number.encapsulated_interface_transport
 function_number (function.Custom n) = n
 
 -- the function of a number: the named one, else `Custom`
 abbrev pub function_of : ℕ → FunctionCode
 function_of n =
-    if n == 0x01 then function.ReadCoils
-    else if n == 0x02 then function.ReadDiscreteInputs
-    else if n == 0x03 then function.ReadHoldingRegisters
-    else if n == 0x04 then function.ReadInputRegisters
-    else if n == 0x05 then function.WriteSingleCoil
-    else if n == 0x06 then function.WriteSingleRegister
-    else if n == 0x07 then function.ReadExceptionStatus
-    else if n == 0x08 then function.Diagnostics
-    else if n == 0x0B then function.GetCommEventCounter
-    else if n == 0x0C then function.GetCommEventLog
-    else if n == 0x0F then function.WriteMultipleCoils
-    else if n == 0x10 then function.WriteMultipleRegisters
-    else if n == 0x11 then function.ReportServerId
-    else if n == 0x14 then function.ReadFileRecord
-    else if n == 0x15 then function.WriteFileRecord
-    else if n == 0x16 then function.MaskWriteRegister
-    else if n == 0x17 then function.ReadWriteMultipleRegisters
-    else if n == 0x18 then function.ReadFifoQueue
-    else if n == 0x2B then function.EncapsulatedInterfaceTransport
+    if n == number.read_coils then function.ReadCoils
+    else if n == number.read_discrete_inputs then function.ReadDiscreteInputs
+    else if n == number.read_holding_registers then function.ReadHoldingRegisters
+    else if n == number.read_input_registers then function.ReadInputRegisters
+    else if n == number.write_single_coil then function.WriteSingleCoil
+    else if n == number.write_single_register then function.WriteSingleRegister
+    else if n == number.read_exception_status then function.ReadExceptionStatus
+    else if n == number.diagnostics then function.Diagnostics
+    else if n == number.get_comm_event_counter then function.GetCommEventCounter
+    else if n == number.get_comm_event_log then function.GetCommEventLog
+    else if n == number.write_multiple_coils then function.WriteMultipleCoils
+    else if n == number.write_multiple_registers then function.WriteMultipleRegisters
+    else if n == number.report_server_id then function.ReportServerId
+    else if n == number.read_file_record then function.ReadFileRecord
+    else if n == number.write_file_record then function.WriteFileRecord
+    else if n == number.mask_write_register then function.MaskWriteRegister
+    else if n == number.read_write_multiple_registers then function.ReadWriteMultipleRegisters
+    else if n == number.read_fifo_queue then function.ReadFifoQueue
+    else if n == number.encapsulated_interface_transport then function.EncapsulatedInterfaceTransport
     else function.Custom n
 
 -- the number of an exception
@@ -73,15 +74,15 @@ exception_number (exception.Custom n) = n
 -- the exception of a number: the named one, else `Custom`
 abbrev pub exception_of : ℕ → ExceptionCode
 exception_of n =
-    if n == 0x01 then exception.IllegalFunction
-    else if n == 0x02 then exception.IllegalDataAddress
-    else if n == 0x03 then exception.IllegalDataValue
-    else if n == 0x04 then exception.ServerDeviceFailure
-    else if n == 0x05 then exception.Acknowledge
-    else if n == 0x06 then exception.ServerDeviceBusy
-    else if n == 0x08 then exception.MemoryParityError
-    else if n == 0x0A then exception.GatewayPathUnavailable
-    else if n == 0x0B then exception.GatewayTargetDevice
+    if n == exception_number exception.IllegalFunction then exception.IllegalFunction
+    else if n == exception_number exception.IllegalDataAddress then exception.IllegalDataAddress
+    else if n == exception_number exception.IllegalDataValue then exception.IllegalDataValue
+    else if n == exception_number exception.ServerDeviceFailure then exception.ServerDeviceFailure
+    else if n == exception_number exception.Acknowledge then exception.Acknowledge
+    else if n == exception_number exception.ServerDeviceBusy then exception.ServerDeviceBusy
+    else if n == exception_number exception.MemoryParityError then exception.MemoryParityError
+    else if n == exception_number exception.GatewayPathUnavailable then exception.GatewayPathUnavailable
+    else if n == exception_number exception.GatewayTargetDevice then exception.GatewayTargetDevice
     else exception.Custom n
 
 -- the name of an exception as it is shown
@@ -107,10 +108,10 @@ read_code_number read.Specific = 0x04
 -- the read code of a number, if there is one
 abbrev pub read_code_of : ℕ → Option ReadCode
 read_code_of n =
-    if n == 0x01 then Some read.Basic
-    else if n == 0x02 then Some read.Regular
-    else if n == 0x03 then Some read.Extended
-    else if n == 0x04 then Some read.Specific
+    if n == read_code_number read.Basic then Some read.Basic
+    else if n == read_code_number read.Regular then Some read.Regular
+    else if n == read_code_number read.Extended then Some read.Extended
+    else if n == read_code_number read.Specific then Some read.Specific
     else None
 
 -- the number of a conformity level
@@ -125,10 +126,10 @@ level_number level.ExtendedIdentification = 0x83
 -- the conformity level of a number, if there is one
 abbrev pub level_of : ℕ → Option ConformityLevel
 level_of n =
-    if n == 0x01 then Some level.BasicIdentificationStreamOnly
-    else if n == 0x02 then Some level.RegularIdentificationStreamOnly
-    else if n == 0x03 then Some level.ExtendedIdentificationStreamOnly
-    else if n == 0x81 then Some level.BasicIdentification
-    else if n == 0x82 then Some level.RegularIdentification
-    else if n == 0x83 then Some level.ExtendedIdentification
+    if n == level_number level.BasicIdentificationStreamOnly then Some level.BasicIdentificationStreamOnly
+    else if n == level_number level.RegularIdentificationStreamOnly then Some level.RegularIdentificationStreamOnly
+    else if n == level_number level.ExtendedIdentificationStreamOnly then Some level.ExtendedIdentificationStreamOnly
+    else if n == level_number level.BasicIdentification then Some level.BasicIdentification
+    else if n == level_number level.RegularIdentification then Some level.RegularIdentification
+    else if n == level_number level.ExtendedIdentification then Some level.ExtendedIdentification
     else None

@@ -6,52 +6,53 @@ ghost use Rattle.std.specs.Prelude.{◌≡◌, Some};
 ghost use Rattle.std.specs.Fmt.{decimal, styled_decimal};
 ghost use Rattle.modbus_frame.specs.Codes.{function_number, function_of, exception_number, exception_of, exception_text, read_code_number, read_code_of, level_number, level_of};
 
+use crate::function_code;
 use std::error::Error;
 use std::fmt;
 
-/// What a request asks for (Application Protocol V1.1b3, sections 5 and 6).
+/// What a request asks for (Application Protocol V1.1b3, sections 5 and 6). The module [`function_code`] has the numbers.
 ///
 /// [`FunctionCode::new`] never gives [`FunctionCode::Custom`] for a number that has a name, but a caller can write it;
 /// such a value is another value than the named one, though both have one number.
 #[derive(Clone, Copy, Debug, PartialEq, Eq)]
 pub enum FunctionCode {
-    /// `0x01`, section 6.1.
+    /// `READ_COILS`, section 6.1.
     ReadCoils,
-    /// `0x02`, section 6.2.
+    /// `READ_DISCRETE_INPUTS`, section 6.2.
     ReadDiscreteInputs,
-    /// `0x03`, section 6.3.
+    /// `READ_HOLDING_REGISTERS`, section 6.3.
     ReadHoldingRegisters,
-    /// `0x04`, section 6.4.
+    /// `READ_INPUT_REGISTERS`, section 6.4.
     ReadInputRegisters,
-    /// `0x05`, section 6.5.
+    /// `WRITE_SINGLE_COIL`, section 6.5.
     WriteSingleCoil,
-    /// `0x06`, section 6.6.
+    /// `WRITE_SINGLE_REGISTER`, section 6.6.
     WriteSingleRegister,
-    /// `0x07`, section 6.7, serial line only.
+    /// `READ_EXCEPTION_STATUS`, section 6.7, serial line only.
     ReadExceptionStatus,
-    /// `0x08`, section 6.8, serial line only.
+    /// `DIAGNOSTICS`, section 6.8, serial line only.
     Diagnostics,
-    /// `0x0B`, section 6.9, serial line only.
+    /// `GET_COMM_EVENT_COUNTER`, section 6.9, serial line only.
     GetCommEventCounter,
-    /// `0x0C`, section 6.10, serial line only.
+    /// `GET_COMM_EVENT_LOG`, section 6.10, serial line only.
     GetCommEventLog,
-    /// `0x0F`, section 6.11.
+    /// `WRITE_MULTIPLE_COILS`, section 6.11.
     WriteMultipleCoils,
-    /// `0x10`, section 6.12.
+    /// `WRITE_MULTIPLE_REGISTERS`, section 6.12.
     WriteMultipleRegisters,
-    /// `0x11`, section 6.13, serial line only.
+    /// `REPORT_SERVER_ID`, section 6.13, serial line only.
     ReportServerId,
-    /// `0x14`, section 6.14.
+    /// `READ_FILE_RECORD`, section 6.14.
     ReadFileRecord,
-    /// `0x15`, section 6.15.
+    /// `WRITE_FILE_RECORD`, section 6.15.
     WriteFileRecord,
-    /// `0x16`, section 6.16.
+    /// `MASK_WRITE_REGISTER`, section 6.16.
     MaskWriteRegister,
-    /// `0x17`, section 6.17.
+    /// `READ_WRITE_MULTIPLE_REGISTERS`, section 6.17.
     ReadWriteMultipleRegisters,
-    /// `0x18`, section 6.18.
+    /// `READ_FIFO_QUEUE`, section 6.18.
     ReadFifoQueue,
-    /// `0x2B`, section 6.19; device identification (section 6.21) is one of its MEI types.
+    /// `ENCAPSULATED_INTERFACE_TRANSPORT`, section 6.19; device identification (section 6.21) is one of its MEI types.
     EncapsulatedInterfaceTransport,
     /// Any other number.
     Custom(u8),
@@ -63,25 +64,27 @@ impl FunctionCode {
         ensures { result ≡ function_of value }
     {
         match value {
-            0x01 => FunctionCode::ReadCoils,
-            0x02 => FunctionCode::ReadDiscreteInputs,
-            0x03 => FunctionCode::ReadHoldingRegisters,
-            0x04 => FunctionCode::ReadInputRegisters,
-            0x05 => FunctionCode::WriteSingleCoil,
-            0x06 => FunctionCode::WriteSingleRegister,
-            0x07 => FunctionCode::ReadExceptionStatus,
-            0x08 => FunctionCode::Diagnostics,
-            0x0B => FunctionCode::GetCommEventCounter,
-            0x0C => FunctionCode::GetCommEventLog,
-            0x0F => FunctionCode::WriteMultipleCoils,
-            0x10 => FunctionCode::WriteMultipleRegisters,
-            0x11 => FunctionCode::ReportServerId,
-            0x14 => FunctionCode::ReadFileRecord,
-            0x15 => FunctionCode::WriteFileRecord,
-            0x16 => FunctionCode::MaskWriteRegister,
-            0x17 => FunctionCode::ReadWriteMultipleRegisters,
-            0x18 => FunctionCode::ReadFifoQueue,
-            0x2B => FunctionCode::EncapsulatedInterfaceTransport,
+            function_code::READ_COILS => FunctionCode::ReadCoils,
+            function_code::READ_DISCRETE_INPUTS => FunctionCode::ReadDiscreteInputs,
+            function_code::READ_HOLDING_REGISTERS => FunctionCode::ReadHoldingRegisters,
+            function_code::READ_INPUT_REGISTERS => FunctionCode::ReadInputRegisters,
+            function_code::WRITE_SINGLE_COIL => FunctionCode::WriteSingleCoil,
+            function_code::WRITE_SINGLE_REGISTER => FunctionCode::WriteSingleRegister,
+            function_code::READ_EXCEPTION_STATUS => FunctionCode::ReadExceptionStatus,
+            function_code::DIAGNOSTICS => FunctionCode::Diagnostics,
+            function_code::GET_COMM_EVENT_COUNTER => FunctionCode::GetCommEventCounter,
+            function_code::GET_COMM_EVENT_LOG => FunctionCode::GetCommEventLog,
+            function_code::WRITE_MULTIPLE_COILS => FunctionCode::WriteMultipleCoils,
+            function_code::WRITE_MULTIPLE_REGISTERS => FunctionCode::WriteMultipleRegisters,
+            function_code::REPORT_SERVER_ID => FunctionCode::ReportServerId,
+            function_code::READ_FILE_RECORD => FunctionCode::ReadFileRecord,
+            function_code::WRITE_FILE_RECORD => FunctionCode::WriteFileRecord,
+            function_code::MASK_WRITE_REGISTER => FunctionCode::MaskWriteRegister,
+            function_code::READ_WRITE_MULTIPLE_REGISTERS =>
+                FunctionCode::ReadWriteMultipleRegisters,
+            function_code::READ_FIFO_QUEUE => FunctionCode::ReadFifoQueue,
+            function_code::ENCAPSULATED_INTERFACE_TRANSPORT =>
+                FunctionCode::EncapsulatedInterfaceTransport,
             code => FunctionCode::Custom(code),
         }
     }
@@ -91,25 +94,27 @@ impl FunctionCode {
         ensures { result ≡ function_number self }
     {
         match self {
-            FunctionCode::ReadCoils => 0x01,
-            FunctionCode::ReadDiscreteInputs => 0x02,
-            FunctionCode::ReadHoldingRegisters => 0x03,
-            FunctionCode::ReadInputRegisters => 0x04,
-            FunctionCode::WriteSingleCoil => 0x05,
-            FunctionCode::WriteSingleRegister => 0x06,
-            FunctionCode::ReadExceptionStatus => 0x07,
-            FunctionCode::Diagnostics => 0x08,
-            FunctionCode::GetCommEventCounter => 0x0B,
-            FunctionCode::GetCommEventLog => 0x0C,
-            FunctionCode::WriteMultipleCoils => 0x0F,
-            FunctionCode::WriteMultipleRegisters => 0x10,
-            FunctionCode::ReportServerId => 0x11,
-            FunctionCode::ReadFileRecord => 0x14,
-            FunctionCode::WriteFileRecord => 0x15,
-            FunctionCode::MaskWriteRegister => 0x16,
-            FunctionCode::ReadWriteMultipleRegisters => 0x17,
-            FunctionCode::ReadFifoQueue => 0x18,
-            FunctionCode::EncapsulatedInterfaceTransport => 0x2B,
+            FunctionCode::ReadCoils => function_code::READ_COILS,
+            FunctionCode::ReadDiscreteInputs => function_code::READ_DISCRETE_INPUTS,
+            FunctionCode::ReadHoldingRegisters => function_code::READ_HOLDING_REGISTERS,
+            FunctionCode::ReadInputRegisters => function_code::READ_INPUT_REGISTERS,
+            FunctionCode::WriteSingleCoil => function_code::WRITE_SINGLE_COIL,
+            FunctionCode::WriteSingleRegister => function_code::WRITE_SINGLE_REGISTER,
+            FunctionCode::ReadExceptionStatus => function_code::READ_EXCEPTION_STATUS,
+            FunctionCode::Diagnostics => function_code::DIAGNOSTICS,
+            FunctionCode::GetCommEventCounter => function_code::GET_COMM_EVENT_COUNTER,
+            FunctionCode::GetCommEventLog => function_code::GET_COMM_EVENT_LOG,
+            FunctionCode::WriteMultipleCoils => function_code::WRITE_MULTIPLE_COILS,
+            FunctionCode::WriteMultipleRegisters => function_code::WRITE_MULTIPLE_REGISTERS,
+            FunctionCode::ReportServerId => function_code::REPORT_SERVER_ID,
+            FunctionCode::ReadFileRecord => function_code::READ_FILE_RECORD,
+            FunctionCode::WriteFileRecord => function_code::WRITE_FILE_RECORD,
+            FunctionCode::MaskWriteRegister => function_code::MASK_WRITE_REGISTER,
+            FunctionCode::ReadWriteMultipleRegisters =>
+                function_code::READ_WRITE_MULTIPLE_REGISTERS,
+            FunctionCode::ReadFifoQueue => function_code::READ_FIFO_QUEUE,
+            FunctionCode::EncapsulatedInterfaceTransport =>
+                function_code::ENCAPSULATED_INTERFACE_TRANSPORT,
             FunctionCode::Custom(code) => code,
         }
     }
@@ -151,21 +156,42 @@ pub enum ExceptionCode {
     Custom(u8),
 }
 
+/// The numbers, each of which stands here alone.
+impl ExceptionCode {
+    const ILLEGAL_FUNCTION: u8 = 0x01;
+
+    const ILLEGAL_DATA_ADDRESS: u8 = 0x02;
+
+    const ILLEGAL_DATA_VALUE: u8 = 0x03;
+
+    const SERVER_DEVICE_FAILURE: u8 = 0x04;
+
+    const ACKNOWLEDGE: u8 = 0x05;
+
+    const SERVER_DEVICE_BUSY: u8 = 0x06;
+
+    const MEMORY_PARITY_ERROR: u8 = 0x08;
+
+    const GATEWAY_PATH_UNAVAILABLE: u8 = 0x0A;
+
+    const GATEWAY_TARGET_DEVICE: u8 = 0x0B;
+}
+
 impl ExceptionCode {
     /// The exception code of a number: the named one where the standard has one, else [`ExceptionCode::Custom`].
     pub const fn new(value: u8) -> Self
         ensures { result ≡ exception_of value }
     {
         match value {
-            0x01 => ExceptionCode::IllegalFunction,
-            0x02 => ExceptionCode::IllegalDataAddress,
-            0x03 => ExceptionCode::IllegalDataValue,
-            0x04 => ExceptionCode::ServerDeviceFailure,
-            0x05 => ExceptionCode::Acknowledge,
-            0x06 => ExceptionCode::ServerDeviceBusy,
-            0x08 => ExceptionCode::MemoryParityError,
-            0x0A => ExceptionCode::GatewayPathUnavailable,
-            0x0B => ExceptionCode::GatewayTargetDevice,
+            ExceptionCode::ILLEGAL_FUNCTION => ExceptionCode::IllegalFunction,
+            ExceptionCode::ILLEGAL_DATA_ADDRESS => ExceptionCode::IllegalDataAddress,
+            ExceptionCode::ILLEGAL_DATA_VALUE => ExceptionCode::IllegalDataValue,
+            ExceptionCode::SERVER_DEVICE_FAILURE => ExceptionCode::ServerDeviceFailure,
+            ExceptionCode::ACKNOWLEDGE => ExceptionCode::Acknowledge,
+            ExceptionCode::SERVER_DEVICE_BUSY => ExceptionCode::ServerDeviceBusy,
+            ExceptionCode::MEMORY_PARITY_ERROR => ExceptionCode::MemoryParityError,
+            ExceptionCode::GATEWAY_PATH_UNAVAILABLE => ExceptionCode::GatewayPathUnavailable,
+            ExceptionCode::GATEWAY_TARGET_DEVICE => ExceptionCode::GatewayTargetDevice,
             other => ExceptionCode::Custom(other),
         }
     }
@@ -176,15 +202,15 @@ impl From<ExceptionCode> for u8 {
 
     fn from(code: ExceptionCode) -> u8 {
         match code {
-            ExceptionCode::IllegalFunction => 0x01,
-            ExceptionCode::IllegalDataAddress => 0x02,
-            ExceptionCode::IllegalDataValue => 0x03,
-            ExceptionCode::ServerDeviceFailure => 0x04,
-            ExceptionCode::Acknowledge => 0x05,
-            ExceptionCode::ServerDeviceBusy => 0x06,
-            ExceptionCode::MemoryParityError => 0x08,
-            ExceptionCode::GatewayPathUnavailable => 0x0A,
-            ExceptionCode::GatewayTargetDevice => 0x0B,
+            ExceptionCode::IllegalFunction => ExceptionCode::ILLEGAL_FUNCTION,
+            ExceptionCode::IllegalDataAddress => ExceptionCode::ILLEGAL_DATA_ADDRESS,
+            ExceptionCode::IllegalDataValue => ExceptionCode::ILLEGAL_DATA_VALUE,
+            ExceptionCode::ServerDeviceFailure => ExceptionCode::SERVER_DEVICE_FAILURE,
+            ExceptionCode::Acknowledge => ExceptionCode::ACKNOWLEDGE,
+            ExceptionCode::ServerDeviceBusy => ExceptionCode::SERVER_DEVICE_BUSY,
+            ExceptionCode::MemoryParityError => ExceptionCode::MEMORY_PARITY_ERROR,
+            ExceptionCode::GatewayPathUnavailable => ExceptionCode::GATEWAY_PATH_UNAVAILABLE,
+            ExceptionCode::GatewayTargetDevice => ExceptionCode::GATEWAY_TARGET_DEVICE,
             ExceptionCode::Custom(code) => code,
         }
     }
@@ -225,16 +251,27 @@ pub enum ReadCode {
     Specific,
 }
 
+/// The numbers, each of which stands here alone.
+impl ReadCode {
+    const BASIC: u8 = 0x01;
+
+    const REGULAR: u8 = 0x02;
+
+    const EXTENDED: u8 = 0x03;
+
+    const SPECIFIC: u8 = 0x04;
+}
+
 impl ReadCode {
     /// The read code of a number, or `None` where the standard has none.
     pub const fn try_from_value(value: u8) -> Option<Self>
         ensures { result ≡ read_code_of value }
     {
         match value {
-            0x01 => Some(ReadCode::Basic),
-            0x02 => Some(ReadCode::Regular),
-            0x03 => Some(ReadCode::Extended),
-            0x04 => Some(ReadCode::Specific),
+            ReadCode::BASIC => Some(ReadCode::Basic),
+            ReadCode::REGULAR => Some(ReadCode::Regular),
+            ReadCode::EXTENDED => Some(ReadCode::Extended),
+            ReadCode::SPECIFIC => Some(ReadCode::Specific),
             _ => None,
         }
     }
@@ -244,10 +281,10 @@ impl ReadCode {
         ensures { result ≡ read_code_number self }
     {
         match self {
-            ReadCode::Basic => 0x01,
-            ReadCode::Regular => 0x02,
-            ReadCode::Extended => 0x03,
-            ReadCode::Specific => 0x04,
+            ReadCode::Basic => ReadCode::BASIC,
+            ReadCode::Regular => ReadCode::REGULAR,
+            ReadCode::Extended => ReadCode::EXTENDED,
+            ReadCode::Specific => ReadCode::SPECIFIC,
         }
     }
 }
@@ -269,18 +306,41 @@ pub enum ConformityLevel {
     ExtendedIdentification,
 }
 
+/// The numbers, each of which stands here alone.
+impl ConformityLevel {
+    const BASIC_IDENTIFICATION_STREAM_ONLY: u8 = 0x01;
+
+    const REGULAR_IDENTIFICATION_STREAM_ONLY: u8 = 0x02;
+
+    const EXTENDED_IDENTIFICATION_STREAM_ONLY: u8 = 0x03;
+
+    const BASIC_IDENTIFICATION: u8 = 0x81;
+
+    const REGULAR_IDENTIFICATION: u8 = 0x82;
+
+    const EXTENDED_IDENTIFICATION: u8 = 0x83;
+}
+
 impl ConformityLevel {
     /// The conformity level of a number, or `None` where the standard has none.
     pub const fn try_from_value(value: u8) -> Option<Self>
         ensures { result ≡ level_of value }
     {
         match value {
-            0x01 => Some(ConformityLevel::BasicIdentificationStreamOnly),
-            0x02 => Some(ConformityLevel::RegularIdentificationStreamOnly),
-            0x03 => Some(ConformityLevel::ExtendedIdentificationStreamOnly),
-            0x81 => Some(ConformityLevel::BasicIdentification),
-            0x82 => Some(ConformityLevel::RegularIdentification),
-            0x83 => Some(ConformityLevel::ExtendedIdentification),
+            ConformityLevel::BASIC_IDENTIFICATION_STREAM_ONLY => Some(
+                ConformityLevel::BasicIdentificationStreamOnly,
+            ),
+            ConformityLevel::REGULAR_IDENTIFICATION_STREAM_ONLY => Some(
+                ConformityLevel::RegularIdentificationStreamOnly,
+            ),
+            ConformityLevel::EXTENDED_IDENTIFICATION_STREAM_ONLY => Some(
+                ConformityLevel::ExtendedIdentificationStreamOnly,
+            ),
+            ConformityLevel::BASIC_IDENTIFICATION => Some(ConformityLevel::BasicIdentification),
+            ConformityLevel::REGULAR_IDENTIFICATION => Some(ConformityLevel::RegularIdentification),
+            ConformityLevel::EXTENDED_IDENTIFICATION => Some(
+                ConformityLevel::ExtendedIdentification,
+            ),
             _ => None,
         }
     }
@@ -290,12 +350,15 @@ impl ConformityLevel {
         ensures { result ≡ level_number self }
     {
         match self {
-            ConformityLevel::BasicIdentificationStreamOnly => 0x01,
-            ConformityLevel::RegularIdentificationStreamOnly => 0x02,
-            ConformityLevel::ExtendedIdentificationStreamOnly => 0x03,
-            ConformityLevel::BasicIdentification => 0x81,
-            ConformityLevel::RegularIdentification => 0x82,
-            ConformityLevel::ExtendedIdentification => 0x83,
+            ConformityLevel::BasicIdentificationStreamOnly =>
+                ConformityLevel::BASIC_IDENTIFICATION_STREAM_ONLY,
+            ConformityLevel::RegularIdentificationStreamOnly =>
+                ConformityLevel::REGULAR_IDENTIFICATION_STREAM_ONLY,
+            ConformityLevel::ExtendedIdentificationStreamOnly =>
+                ConformityLevel::EXTENDED_IDENTIFICATION_STREAM_ONLY,
+            ConformityLevel::BasicIdentification => ConformityLevel::BASIC_IDENTIFICATION,
+            ConformityLevel::RegularIdentification => ConformityLevel::REGULAR_IDENTIFICATION,
+            ConformityLevel::ExtendedIdentification => ConformityLevel::EXTENDED_IDENTIFICATION,
         }
     }
 }

@@ -18,7 +18,7 @@ pub enum Reason {
     /// The PDU ends before a byte that its kind has.
     #[error("unexpected end")]
     UnexpectedEnd,
-    /// The PDU is longer than 253 bytes.
+    /// The PDU is longer than a PDU may be (section 4.1).
     #[error("size exceeded")]
     SizeExceeded,
     /// There are fewer bytes than the byte count names.
@@ -30,7 +30,7 @@ pub enum Reason {
     /// This word is neither `0xFF00` nor `0x0000`.
     #[error("invalid coil value")]
     InvalidCoil(u16),
-    /// This MEI type of function `0x2B` is not device identification, `0x0E`.
+    /// This MEI type of an encapsulated interface transport is not device identification (section 6.21).
     #[error("unsupported MEI type")]
     UnsupportedMei(u8),
     /// This byte is no read code.
@@ -45,7 +45,8 @@ pub enum Reason {
     /// The value of an object of a device identification ends past the PDU.
     #[error("invalid object length")]
     InvalidObjectLength,
-    /// This function code has no place here: a request has one below `0x80`, an exception one from `0x80` on.
+    /// This function code has no place here: a request has one below [`EXCEPTION_BIT`](crate::function_code::EXCEPTION_BIT), an
+    /// exception one from there on.
     #[error("invalid function")]
     InvalidFunction(u8),
     /// The PDU goes on after its last field.
@@ -91,7 +92,7 @@ impl<T: Drop> From<AllocFailed<T>> for PduError {
 /// A frame was not written.
 #[derive(Clone, Copy, Debug, PartialEq, Eq, thiserror::Error)]
 pub enum EncodeError {
-    /// The PDU would have this many bytes, more than 253.
+    /// The PDU would have this many bytes, more than a PDU may have (section 4.1).
     #[error("PDU of {0} bytes is too long")]
     TooLong(usize),
     /// Memory is wanting.
@@ -205,7 +206,7 @@ pub enum TransportError {
     /// No frame was found among too many bytes.
     #[error("too many retries")]
     TooManyRetries,
-    /// The PDU of the request would have this many bytes, more than 253.
+    /// The PDU of the request would have this many bytes, more than a PDU may have (section 4.1).
     #[error("request PDU size exceeded")]
     RequestTooLong(usize),
     /// A frame was received whose PDU is refused.

@@ -1,5 +1,5 @@
-//! What a device says of itself: the response to Read Device Identification, function `0x2B` with MEI type `0x0E`
-//! (Application Protocol V1.1b3, section 6.21).
+//! What a device says of itself: the response to Read Device Identification, a MEI type of the Encapsulated Interface
+//! Transport (Application Protocol V1.1b3, section 6.21).
 ghost use Rattle.std.specs.Prelude.{◌≡◌, IfOk, IfSome, IsSome, ◌↔◌, IsUtf8};
 
 use crate::code::{ConformityLevel, ReadCode};

@@ -10,6 +10,7 @@ pub use bytes;
 
 mod code;
 mod fault;
+pub mod function_code;
 mod identification;
 pub mod laws;
 mod list;
