@@ -12,6 +12,8 @@ use Rattle.modbus_frame.specs.declared.response.Response.TheVariants as response
 use Rattle.modbus_frame.specs.declared.response.ExceptionResponse.{ExceptionResponse}
 use Rattle.modbus_frame.specs.Answered.{function_answered}
 use Rattle.modbus_frame.specs.Codes.{function_number, read_code_number, level_number}
+use Rattle.modbus_frame.specs.FunctionCodes as number
+use Rattle.modbus_pdu.specs.Limits.{max_pdu, mei_device_identification}
 use Rattle.modbus_pdu.specs.Fields.{words_of, coils_of, packed, packed_size}
 use Rattle.modbus_pdu.specs.Laws.{IsWord}
 use Rattle.modbus_pdu.specs.Decoding.{◌>>=◌, read_code_or}
@@ -25,18 +27,18 @@ use Rattle.modbus_pdu.proofs.FilledCoils.{filled_back}
 use Rattle.modbus_pdu.proofs.ObjectsBack.{objects_back}
 use Rattle.modbus_pdu.proofs.Sizes.{words_length, packed_length}
 
-coils_read_back : (f n : ℕ) (rest : List ℕ) → length rest ≡ n → 2 + n ≤ 253 → coils_read_of (f ∷ n ∷ rest) ≡ Ok (coils_of rest (8 * n))
+coils_read_back : (f n : ℕ) (rest : List ℕ) → length rest ≡ n → 2 + n ≤ max_pdu → coils_read_of (f ∷ n ∷ rest) ≡ Ok (coils_of rest (8 * n))
 unfolding coils_read_of
 coils_read_back f n rest len fits = grind (arith, nat_tests)
 
-words_read_back : (f n : ℕ) (rest : List ℕ) → length rest ≡ 2 * n → 2 + 2 * n ≤ 253 → words_read_of (f ∷ (2 * n) ∷ rest) ≡ Ok (words_of rest n)
+words_read_back : (f n : ℕ) (rest : List ℕ) → length rest ≡ 2 * n → 2 + 2 * n ≤ max_pdu → words_read_of (f ∷ (2 * n) ∷ rest) ≡ Ok (words_of rest n)
 unfolding words_read_of
 words_read_back f n rest len fits =
     let even : (2 * n) % 2 ≡ 0 = omega arith in
     let half : 2 * n / 2 ≡ n = omega arith in
     rw (even, half) (grind (arith, nat_tests))
 
-server_id_back : (id : ℕ) (run : Bool) (extra : List ℕ) → 4 + length extra ≤ 253 → server_id_of (0x11 ∷ (2 + length extra) ∷ id ∷ flag run ∷ extra) ≡ Ok (id, run, extra)
+server_id_back : (id : ℕ) (run : Bool) (extra : List ℕ) → 4 + length extra ≤ max_pdu → server_id_of (number.report_server_id ∷ (2 + length extra) ∷ id ∷ flag run ∷ extra) ≡ Ok (id, run, extra)
 unfolding server_id_of
 server_id_back id true extra fits = grind (arith, nat_tests)
 server_id_back id false extra fits = grind (arith, nat_tests)
@@ -55,43 +57,43 @@ level_back level.BasicIdentification = refl
 level_back level.RegularIdentification = refl
 level_back level.ExtendedIdentification = refl
 
-flag_back : (b : Bool) → eqb (flag b) 0xFF ≡ b
+flag_back : (b : Bool) → eqb (flag b) (flag true) ≡ b
 flag_back true = refl
 flag_back false = refl
 
 -- a device identification, by its fields
-identified : (c l m next n : ℕ) (rest : List ℕ) (r : ReadDeviceIdentificationResponse) → read_code_or c ≡ Ok r.read_code → level_or l ≡ Ok r.conformity_level → eqb m 0xFF ≡ r.more_follows → next ≡ r.next_object_id
-    → objects_at n 7 (0x2B ∷ 0x0E ∷ c ∷ l ∷ m ∷ next ∷ n ∷ rest) ≡ Ok (r.device_id_objects, 7 + length rest) → 7 + length rest ≤ 253
-    → device_identification_of (0x2B ∷ 0x0E ∷ c ∷ l ∷ m ∷ next ∷ n ∷ rest) ≡ Ok r
+identified : (c l m next n : ℕ) (rest : List ℕ) (r : ReadDeviceIdentificationResponse) → read_code_or c ≡ Ok r.read_code → level_or l ≡ Ok r.conformity_level → eqb m (flag true) ≡ r.more_follows → next ≡ r.next_object_id
+    → objects_at n 7 (number.encapsulated_interface_transport ∷ mei_device_identification ∷ c ∷ l ∷ m ∷ next ∷ n ∷ rest) ≡ Ok (r.device_id_objects, 7 + length rest) → 7 + length rest ≤ max_pdu
+    → device_identification_of (number.encapsulated_interface_transport ∷ mei_device_identification ∷ c ∷ l ∷ m ∷ next ∷ n ∷ rest) ≡ Ok r
 unfolding device_identification_of
 identified c l m next n rest r code level more id found fits = rw (code, level, found, more, id) (grind (arith, nat_tests))
 
-device_identification_back : (r : ReadDeviceIdentificationResponse) → length (device_identification_pdu r) ≤ 253 → device_identification_of (device_identification_pdu r) ≡ Ok r
+device_identification_back : (r : ReadDeviceIdentificationResponse) → length (device_identification_pdu r) ≤ max_pdu → device_identification_of (device_identification_pdu r) ≡ Ok r
 unfolding device_identification_pdu
 device_identification_back r fits =
     let c = read_code_number r.read_code in
     let l = level_number r.conformity_level in
     let m = flag r.more_follows in
     let n = length r.device_id_objects in
-    let front = 0x2B ∷ 0x0E ∷ c ∷ l ∷ m ∷ r.next_object_id ∷ n ∷ [] in
+    let front = number.encapsulated_interface_transport ∷ mei_device_identification ∷ c ∷ l ∷ m ∷ r.next_object_id ∷ n ∷ [] in
     identified c l m r.next_object_id n (objects r.device_id_objects) r (read_code_back r.read_code) (level_back r.conformity_level) (flag_back r.more_follows) refl
     (objects_back front r.device_id_objects) (omega (arith, fits))
 
 custom_back : (code : ℕ) (bytes : List ℕ) → (IsModelled code → ⊥) → answered_by code (code ∷ bytes) ≡ Ok (response.Custom code bytes)
 unfolding answered_by
 custom_back code bytes other =
-    let n01 = other_code code 0x01 other refl in
-    let n02 = other_code code 0x02 other refl in
-    let n03 = other_code code 0x03 other refl in
-    let n04 = other_code code 0x04 other refl in
-    let n05 = other_code code 0x05 other refl in
-    let n06 = other_code code 0x06 other refl in
-    let n0F = other_code code 0x0F other refl in
-    let n10 = other_code code 0x10 other refl in
-    let n11 = other_code code 0x11 other refl in
-    let n16 = other_code code 0x16 other refl in
-    let n17 = other_code code 0x17 other refl in
-    let n2B = other_code code 0x2B other refl in
+    let n01 = other_code code number.read_coils other refl in
+    let n02 = other_code code number.read_discrete_inputs other refl in
+    let n03 = other_code code number.read_holding_registers other refl in
+    let n04 = other_code code number.read_input_registers other refl in
+    let n05 = other_code code number.write_single_coil other refl in
+    let n06 = other_code code number.write_single_register other refl in
+    let n0F = other_code code number.write_multiple_coils other refl in
+    let n10 = other_code code number.write_multiple_registers other refl in
+    let n11 = other_code code number.report_server_id other refl in
+    let n16 = other_code code number.mask_write_register other refl in
+    let n17 = other_code code number.read_write_multiple_registers other refl in
+    let n2B = other_code code number.encapsulated_interface_transport other refl in
     rw (n01, n02, n03, n04, n05, n06, n0F, n10, n11, n16, n17, n2B) refl
 
 -- a PDU with a first byte is read by it
@@ -100,35 +102,35 @@ unfolding response_of
 by_code code rest = grind (arith, nat_tests)
 
 -- the fields of a response with words
-with_words : (f : ℕ) (ns : List ℕ) → AllByRecursion IsWord ns → 2 + length (words ns) ≤ 253 → words_read_of (f ∷ (2 * length ns) ∷ words ns) ≡ Ok ns
+with_words : (f : ℕ) (ns : List ℕ) → AllByRecursion IsWord ns → 2 + length (words ns) ≤ max_pdu → words_read_of (f ∷ (2 * length ns) ∷ words ns) ≡ Ok ns
 with_words f ns are fits =
     let len = words_length ns in
     rw (words_read_back f (length ns) (words ns) len (omega (arith, fits, len)), words_back ns are) refl
 
 -- the fields of a response with coils
-with_coils : (f : ℕ) (coils : List Bool) → 2 + length (packed coils) ≤ 253 → coils_read_of (f ∷ packed_size (length coils) ∷ packed coils) ≡ Ok (filled coils)
+with_coils : (f : ℕ) (coils : List Bool) → 2 + length (packed coils) ≤ max_pdu → coils_read_of (f ∷ packed_size (length coils) ∷ packed coils) ≡ Ok (filled coils)
 with_coils f coils fits =
     let len = packed_length coils in
     rw (coils_read_back f (packed_size (length coils)) (packed coils) len (omega (arith, fits, len)), filled_back coils) refl
 
-with_identification : (found : ReadDeviceIdentificationResponse) → length (device_identification_pdu found) ≤ 253 → response_of (device_identification_pdu found) ≡ Ok (response.ReadDeviceIdentification found)
+with_identification : (found : ReadDeviceIdentificationResponse) → length (device_identification_pdu found) ≤ max_pdu → response_of (device_identification_pdu found) ≡ Ok (response.ReadDeviceIdentification found)
 unfolding response_of answered_by device_identification_pdu
 with_identification found fits = rw (device_identification_back found fits) (grind (arith, nat_tests))
 
 pub again : (r : Response) → ResponseReadsBack r
 unfolding answered_by response_pdu two_words_of single_coil_of three_words_of
-again (response.ReadCoils coils) is fits = rw (by_code, with_coils 0x01 coils (omega (arith, fits))) refl
-again (response.ReadDiscreteInputs coils) is fits = rw (by_code, with_coils 0x02 coils (omega (arith, fits))) refl
+again (response.ReadCoils coils) is fits = rw (by_code, with_coils number.read_coils coils (omega (arith, fits))) refl
+again (response.ReadDiscreteInputs coils) is fits = rw (by_code, with_coils number.read_discrete_inputs coils (omega (arith, fits))) refl
 again (response.WriteSingleCoil a true) is fits = rw (by_code, word_back a is) refl
 again (response.WriteSingleCoil a false) is fits = rw (by_code, word_back a is) refl
 again (response.WriteMultipleCoils a q) is fits = rw (by_code, word_back a is.0, word_back q is.1) refl
-again (response.ReadInputRegisters ns) is fits = rw (by_code, with_words 0x04 ns is (omega (arith, fits))) refl
-again (response.ReadHoldingRegisters ns) is fits = rw (by_code, with_words 0x03 ns is (omega (arith, fits))) refl
+again (response.ReadInputRegisters ns) is fits = rw (by_code, with_words number.read_input_registers ns is (omega (arith, fits))) refl
+again (response.ReadHoldingRegisters ns) is fits = rw (by_code, with_words number.read_holding_registers ns is (omega (arith, fits))) refl
 again (response.WriteSingleRegister a w) is fits = rw (by_code, word_back a is.0, word_back w is.1) refl
 again (response.WriteMultipleRegisters a q) is fits = rw (by_code, word_back a is.0, word_back q is.1) refl
 again (response.ReportServerId id run extra) is fits = rw (by_code, server_id_back id run extra (omega (arith, fits))) refl
 again (response.MaskWriteRegister a x y) is fits = rw (by_code, word_back a is.0, word_back x is.1, word_back y is.2) refl
-again (response.ReadWriteMultipleRegisters ns) is fits = rw (by_code, with_words 0x17 ns is (omega (arith, fits))) refl
+again (response.ReadWriteMultipleRegisters ns) is fits = rw (by_code, with_words number.read_write_multiple_registers ns is (omega (arith, fits))) refl
 again (response.ReadDeviceIdentification found) is fits = with_identification found fits
 again (response.Custom code bytes) is fits = rw (by_code, custom_back code bytes is) refl
 
@@ -149,8 +151,8 @@ starts (response.ReadWriteMultipleRegisters ns) = (omega arith, refl)
 starts (response.ReadDeviceIdentification found) = (omega arith, refl)
 starts (response.Custom code bytes) = (omega arith, refl)
 
--- a function code below 80 leaves a PDU to responses
-by_response : (pdu : List ℕ) → 1 ≤ length pdu → get_or pdu 0 0 < 0x80 → response_result_of pdu ≡ (response_of pdu >>= λ answer. Ok (Ok answer))
+-- a function code below the exception bit leaves a PDU to responses
+by_response : (pdu : List ℕ) → 1 ≤ length pdu → get_or pdu 0 0 < number.exception_bit → response_result_of pdu ≡ (response_of pdu >>= λ answer. Ok (Ok answer))
 unfolding response_result_of
 by_response pdu some below = grind (arith, nat_tests)
 
@@ -163,5 +165,5 @@ pub exception_again : (e : ExceptionResponse) → ExceptionReadsBack e
 unfolding response_result_of exception_response_of
 exception_again e below =
     let n = function_number e.function in
-    let same : n + 0x80 - 0x80 ≡ n = omega arith in
+    let same : n + number.exception_bit - number.exception_bit ≡ n = omega arith in
     rw same (grind (arith, nat_tests))

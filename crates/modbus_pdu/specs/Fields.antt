@@ -45,4 +45,4 @@ coil_word false = 0
 
 -- the coil that a word stands for, and every other word is refused (V1.1b3, 6.5)
 abbrev pub coil_of : ℕ → Result Bool Reason
-coil_of word = if word == 0xFF00 then Ok true else if word == 0 then Ok false else Err (InvalidCoil word)
+coil_of word = if word == coil_word true then Ok true else if word == coil_word false then Ok false else Err (InvalidCoil word)

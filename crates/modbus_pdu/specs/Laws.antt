@@ -2,8 +2,10 @@
 use Rattle.std.specs.Prelude.{◌≡◌, ℕ, ◌+◌, ◌*◌, ◌<◌, ◌^◌, length, Ok, ⊤}
 use Rattle.std.specs.List.{AllByRecursion}
 use Rattle.modbus_frame.specs.Meaning.{Asked, ReadCoils, ReadDiscreteInputs, WriteSingleCoil, WriteMultipleCoils, ReadInputRegisters, ReadHoldingRegisters, WriteSingleRegister, WriteMultipleRegisters, ReportServerId, MaskWriteRegister, ReadWriteMultipleRegisters, ReadDeviceIdentification, Custom}
+use Rattle.modbus_frame.specs.FunctionCodes as number
 use Rattle.modbus_pdu.specs.Coding.{Fits}
 use Rattle.modbus_pdu.specs.Fields.{packed_size}
+use Rattle.modbus_pdu.specs.Limits.{two_words_pdu, three_words_pdu, write_head, read_write_head, identification_request}
 use Rattle.modbus_pdu.specs.RequestOf.{request_of, IsModelled}
 use Rattle.modbus_pdu.specs.RequestPdu.{request_pdu}
 
@@ -31,10 +33,10 @@ IsInRange (ReadWriteMultipleRegisters read_address quantity write_address words)
 IsInRange (ReadDeviceIdentification code id) = IsByte id
 IsInRange (Custom code bytes) = IsByte code
 
--- A modelled kind, or a custom function whose code is below 80 and stands for no modelled kind: with
--- any other code the PDU of a custom function reads as that kind, or from 80 on as no request.
+-- A modelled kind, or a custom function whose code is below the exception bit and stands for no modelled kind: with
+-- any other code the PDU of a custom function reads as that kind, or from there on as no request.
 abbrev pub IsReadable : Asked → Type 0
-IsReadable (Custom code bytes) = (code < 0x80) × (IsModelled code → ⊥)
+IsReadable (Custom code bytes) = (code < number.exception_bit) × (IsModelled code → ⊥)
 IsReadable r = ⊤
 
 -- a request that fits is what its PDU reads as
@@ -43,16 +45,16 @@ ReadsBack r = IsReadable r → Fits (request_pdu r) → request_of (request_pdu 
 
 -- How many bytes the PDU of a request has.
 abbrev pub request_size : Asked → ℕ
-request_size (ReadCoils address quantity) = 5
-request_size (ReadDiscreteInputs address quantity) = 5
-request_size (ReadHoldingRegisters address quantity) = 5
-request_size (ReadInputRegisters address quantity) = 5
-request_size (WriteSingleCoil address coil) = 5
-request_size (WriteSingleRegister address word) = 5
-request_size (WriteMultipleCoils address coils) = 6 + packed_size (length coils)
-request_size (WriteMultipleRegisters address words) = 6 + 2 * length words
+request_size (ReadCoils address quantity) = two_words_pdu
+request_size (ReadDiscreteInputs address quantity) = two_words_pdu
+request_size (ReadHoldingRegisters address quantity) = two_words_pdu
+request_size (ReadInputRegisters address quantity) = two_words_pdu
+request_size (WriteSingleCoil address coil) = two_words_pdu
+request_size (WriteSingleRegister address word) = two_words_pdu
+request_size (WriteMultipleCoils address coils) = write_head + packed_size (length coils)
+request_size (WriteMultipleRegisters address words) = write_head + 2 * length words
 request_size ReportServerId = 1
-request_size (MaskWriteRegister address and_mask or_mask) = 7
-request_size (ReadWriteMultipleRegisters read_address quantity write_address words) = 10 + 2 * length words
-request_size (ReadDeviceIdentification code id) = 4
+request_size (MaskWriteRegister address and_mask or_mask) = three_words_pdu
+request_size (ReadWriteMultipleRegisters read_address quantity write_address words) = read_write_head + 2 * length words
+request_size (ReadDeviceIdentification code id) = identification_request
 request_size (Custom code bytes) = 1 + length bytes

@@ -1,4 +1,4 @@
--- The limits of the standard, each with its number (Modbus Application Protocol V1.1b3).
+-- The numbers of a PDU: limits, sizes and the MEI type, each of which stands here alone (Modbus Application Protocol V1.1b3).
 use Rattle.std.specs.Prelude.{ℕ}
 
 -- the most bytes of a PDU (section 4.1)
@@ -24,3 +24,27 @@ max_write_registers = 123
 -- the most registers that a read and write writes (section 6.17)
 abbrev pub max_read_write_registers : ℕ
 max_read_write_registers = 121
+
+-- the MEI type of device identification (section 6.21)
+abbrev pub mei_device_identification : ℕ
+mei_device_identification = 0x0E
+
+-- the bytes of a function code and two words: an address, and a quantity or a value (sections 6.1 to 6.6)
+abbrev pub two_words_pdu : ℕ
+two_words_pdu = 5
+
+-- the bytes of a function code and three words: an address and two masks (section 6.16)
+abbrev pub three_words_pdu : ℕ
+three_words_pdu = 7
+
+-- the bytes before the coils or registers of a write (sections 6.11 and 6.12)
+abbrev pub write_head : ℕ
+write_head = 6
+
+-- the bytes before the registers of a read and write (section 6.17)
+abbrev pub read_write_head : ℕ
+read_write_head = 10
+
+-- the bytes of a request for device identification (section 6.21)
+abbrev pub identification_request : ℕ
+identification_request = 4

@@ -6,7 +6,8 @@ use Rattle.modbus_frame.specs.declared.fault.Reason.{Reason}
 use Rattle.modbus_frame.specs.declared.fault.Reason.TheVariants as reason
 use Rattle.modbus_frame.specs.declared.code.ReadCode.{ReadCode}
 use Rattle.modbus_frame.specs.Meaning.{Asked, ReadCoils, ReadDiscreteInputs, WriteSingleCoil, WriteMultipleCoils, ReadInputRegisters, ReadHoldingRegisters, WriteSingleRegister, WriteMultipleRegisters, ReportServerId, MaskWriteRegister, ReadWriteMultipleRegisters, ReadDeviceIdentification, Custom}
-use Rattle.modbus_pdu.specs.declared.limits.TheConstants.{MAX_PDU}
+use Rattle.modbus_frame.specs.FunctionCodes as number
+use Rattle.modbus_pdu.specs.Limits.{max_pdu, mei_device_identification, two_words_pdu, three_words_pdu, write_head, identification_request}
 use Rattle.modbus_pdu.specs.Fields.{word_at, words_of, coils_of, coil_of}
 use Rattle.modbus_pdu.specs.Decoding.{◌>>=◌, read_code_or}
 
@@ -14,17 +15,17 @@ use Rattle.modbus_pdu.specs.Decoding.{◌>>=◌, read_code_or}
 -- Register (6.1 to 6.4, 6.6): an address at place 1, a quantity or a value at place 3.
 unfoldable pub two_words_of : List ℕ → Result (ℕ × ℕ) Reason
 two_words_of pdu =
-    if nat_lt (length pdu) 5 then Err reason.UnexpectedEnd
-    else if nat_lt 5 (length pdu) then Err reason.UndecodedData
+    if nat_lt (length pdu) two_words_pdu then Err reason.UnexpectedEnd
+    else if nat_lt two_words_pdu (length pdu) then Err reason.UndecodedData
     else Ok (word_at pdu 1, word_at pdu 3)
 
 -- Write Single Coil (6.5): an address at place 1, the word of a coil at place 3. A word that stands
 -- for no coil is told before bytes that are too many.
 unfoldable pub single_coil_of : List ℕ → Result (ℕ × Bool) Reason
 single_coil_of pdu =
-    if nat_lt (length pdu) 5 then Err reason.UnexpectedEnd
+    if nat_lt (length pdu) two_words_pdu then Err reason.UnexpectedEnd
     else (coil_of (word_at pdu 3) >>= λ coil.
-    if nat_lt 5 (length pdu) then Err reason.UndecodedData
+    if nat_lt two_words_pdu (length pdu) then Err reason.UndecodedData
     else Ok (word_at pdu 1, coil))
 
 -- Write Multiple Coils (6.11): an address at place 1, the number of coils at place 3, the byte count
@@ -32,12 +33,12 @@ single_coil_of pdu =
 -- left of them is not looked at.
 unfoldable pub coils_written_of : List ℕ → Result (ℕ × List Bool) Reason
 coils_written_of pdu =
-    if nat_lt MAX_PDU (length pdu) then Err reason.SizeExceeded
-    else if nat_lt (length pdu) 6 then Err reason.UnexpectedEnd
-    else if nat_lt (length pdu) (6 + slice_index pdu 5) then Err reason.TooShort
+    if nat_lt max_pdu (length pdu) then Err reason.SizeExceeded
+    else if nat_lt (length pdu) write_head then Err reason.UnexpectedEnd
+    else if nat_lt (length pdu) (write_head + slice_index pdu 5) then Err reason.TooShort
     else if nat_lt (8 * slice_index pdu 5) (word_at pdu 3) then Err reason.InvalidQuantity
-    else if nat_lt (6 + slice_index pdu 5) (length pdu) then Err reason.UndecodedData
-    else Ok (word_at pdu 1, coils_of (drop 6 pdu) (word_at pdu 3))
+    else if nat_lt (write_head + slice_index pdu 5) (length pdu) then Err reason.UndecodedData
+    else Ok (word_at pdu 1, coils_of (drop write_head pdu) (word_at pdu 3))
 
 -- Registers to the end of the PDU (6.12, 6.17): their number at a place, the byte count two places
 -- on, and the registers from three places on. A byte count other than twice the number is told before
@@ -54,7 +55,7 @@ registers_at place pdu =
 -- Write Multiple Registers (6.12): an address at place 1, registers from place 3 on.
 unfoldable pub words_written_of : List ℕ → Result (ℕ × List ℕ) Reason
 words_written_of pdu =
-    if nat_lt MAX_PDU (length pdu) then Err reason.SizeExceeded
+    if nat_lt max_pdu (length pdu) then Err reason.SizeExceeded
     else (registers_at 3 pdu >>= λ registers. Ok (word_at pdu 1, registers))
 
 -- Report Server ID (6.13): the function code alone.
@@ -64,48 +65,48 @@ only_code_of pdu = if nat_lt 1 (length pdu) then Err reason.UndecodedData else O
 -- Mask Write Register (6.16): an address at place 1, the AND mask at place 3, the OR mask at place 5.
 unfoldable pub three_words_of : List ℕ → Result (ℕ × ℕ × ℕ) Reason
 three_words_of pdu =
-    if nat_lt (length pdu) 7 then Err reason.UnexpectedEnd
-    else if nat_lt 7 (length pdu) then Err reason.UndecodedData
+    if nat_lt (length pdu) three_words_pdu then Err reason.UnexpectedEnd
+    else if nat_lt three_words_pdu (length pdu) then Err reason.UndecodedData
     else Ok (word_at pdu 1, word_at pdu 3, word_at pdu 5)
 
 -- Read/Write Multiple Registers (6.17): the read's address at place 1 and quantity at place 3, the
 -- write's address at place 5, registers from place 7 on.
 unfoldable pub read_write_of : List ℕ → Result (ℕ × ℕ × ℕ × List ℕ) Reason
 read_write_of pdu =
-    if nat_lt MAX_PDU (length pdu) then Err reason.SizeExceeded
+    if nat_lt max_pdu (length pdu) then Err reason.SizeExceeded
     else (registers_at 7 pdu >>= λ registers. Ok (word_at pdu 1, word_at pdu 3, word_at pdu 5, registers))
 
--- Read Device Identification (6.21): the MEI type 0E at place 1, the read code at place 2, the object
+-- Read Device Identification (6.21): the MEI type at place 1, the read code at place 2, the object
 -- id at place 3. The MEI type is told first of all, the size of a PDU next.
 unfoldable pub identification_of : List ℕ → Result (ReadCode × ℕ) Reason
 identification_of pdu =
     if nat_lt (length pdu) 2 then Err reason.UnexpectedEnd
-    else if slice_index pdu 1 == 0x0E then
-    (if nat_lt MAX_PDU (length pdu) then Err reason.SizeExceeded
+    else if slice_index pdu 1 == mei_device_identification then
+    (if nat_lt max_pdu (length pdu) then Err reason.SizeExceeded
     else if nat_lt (length pdu) 3 then Err reason.UnexpectedEnd
     else (read_code_or (slice_index pdu 2) >>= λ code.
-    if nat_lt (length pdu) 4 then Err reason.UnexpectedEnd
-    else if nat_lt 4 (length pdu) then Err reason.UndecodedData
+    if nat_lt (length pdu) identification_request then Err reason.UnexpectedEnd
+    else if nat_lt identification_request (length pdu) then Err reason.UndecodedData
     else Ok (code, slice_index pdu 3)))
     else Err (reason.UnsupportedMei (slice_index pdu 1))
 
--- What the function code asks for (5.1). A code below 80 that stands for none of these kinds is a
--- custom function, whose data is not looked at; codes from 80 on mark exceptions and ask for nothing.
+-- What the function code asks for (5.1). A code below the exception bit that stands for none of these
+-- kinds is a custom function, whose data is not looked at; codes from there on mark exceptions and ask for nothing.
 unfoldable pub asked_by : ℕ → List ℕ → Result Asked Reason
 asked_by code pdu =
-    if code == 0x01 then (two_words_of pdu >>= λ x. Ok (ReadCoils x.0 x.1))
-    else if code == 0x02 then (two_words_of pdu >>= λ x. Ok (ReadDiscreteInputs x.0 x.1))
-    else if code == 0x03 then (two_words_of pdu >>= λ x. Ok (ReadHoldingRegisters x.0 x.1))
-    else if code == 0x04 then (two_words_of pdu >>= λ x. Ok (ReadInputRegisters x.0 x.1))
-    else if code == 0x05 then (single_coil_of pdu >>= λ x. Ok (WriteSingleCoil x.0 x.1))
-    else if code == 0x06 then (two_words_of pdu >>= λ x. Ok (WriteSingleRegister x.0 x.1))
-    else if code == 0x0F then (coils_written_of pdu >>= λ x. Ok (WriteMultipleCoils x.0 x.1))
-    else if code == 0x10 then (words_written_of pdu >>= λ x. Ok (WriteMultipleRegisters x.0 x.1))
-    else if code == 0x11 then only_code_of pdu
-    else if code == 0x16 then (three_words_of pdu >>= λ x. Ok (MaskWriteRegister x.0 x.1 x.2))
-    else if code == 0x17 then (read_write_of pdu >>= λ x. Ok (ReadWriteMultipleRegisters x.0 x.1 x.2 x.3))
-    else if code == 0x2B then (identification_of pdu >>= λ x. Ok (ReadDeviceIdentification x.0 x.1))
-    else if nat_lt code 0x80 then Ok (Custom code (drop 1 pdu))
+    if code == number.read_coils then (two_words_of pdu >>= λ x. Ok (ReadCoils x.0 x.1))
+    else if code == number.read_discrete_inputs then (two_words_of pdu >>= λ x. Ok (ReadDiscreteInputs x.0 x.1))
+    else if code == number.read_holding_registers then (two_words_of pdu >>= λ x. Ok (ReadHoldingRegisters x.0 x.1))
+    else if code == number.read_input_registers then (two_words_of pdu >>= λ x. Ok (ReadInputRegisters x.0 x.1))
+    else if code == number.write_single_coil then (single_coil_of pdu >>= λ x. Ok (WriteSingleCoil x.0 x.1))
+    else if code == number.write_single_register then (two_words_of pdu >>= λ x. Ok (WriteSingleRegister x.0 x.1))
+    else if code == number.write_multiple_coils then (coils_written_of pdu >>= λ x. Ok (WriteMultipleCoils x.0 x.1))
+    else if code == number.write_multiple_registers then (words_written_of pdu >>= λ x. Ok (WriteMultipleRegisters x.0 x.1))
+    else if code == number.report_server_id then only_code_of pdu
+    else if code == number.mask_write_register then (three_words_of pdu >>= λ x. Ok (MaskWriteRegister x.0 x.1 x.2))
+    else if code == number.read_write_multiple_registers then (read_write_of pdu >>= λ x. Ok (ReadWriteMultipleRegisters x.0 x.1 x.2 x.3))
+    else if code == number.encapsulated_interface_transport then (identification_of pdu >>= λ x. Ok (ReadDeviceIdentification x.0 x.1))
+    else if nat_lt code number.exception_bit then Ok (Custom code (drop 1 pdu))
     else Err (reason.InvalidFunction code)
 
 -- the request of a PDU, by its first byte (4.1)
@@ -115,7 +116,7 @@ request_of (code ∷ rest) = asked_by code (code ∷ rest)
 
 -- the function codes of the modelled kinds, each kind but a custom function
 abbrev pub IsModelled : ℕ → Type 0
-IsModelled code = IsTrue (list_any (λ k. k == code) (0x01 ∷ 0x02 ∷ 0x03 ∷ 0x04 ∷ 0x05 ∷ 0x06 ∷ 0x0F ∷ 0x10 ∷ 0x11 ∷ 0x16 ∷ 0x17 ∷ 0x2B ∷ []))
+IsModelled code = IsTrue (list_any (λ k. k == code) (number.read_coils ∷ number.read_discrete_inputs ∷ number.read_holding_registers ∷ number.read_input_registers ∷ number.write_single_coil ∷ number.write_single_register ∷ number.write_multiple_coils ∷ number.write_multiple_registers ∷ number.report_server_id ∷ number.mask_write_register ∷ number.read_write_multiple_registers ∷ number.encapsulated_interface_transport ∷ []))
 
 -- the requests that carry a list of coils, registers or bytes; all others are a few numbers
 abbrev pub CarriesList : Asked → Type 0

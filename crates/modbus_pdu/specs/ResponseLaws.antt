@@ -6,9 +6,11 @@ use Rattle.modbus_frame.specs.Codes.{function_number, function_of, exception_num
 use Rattle.modbus_frame.specs.declared.response.Response.{Response}
 use Rattle.modbus_frame.specs.declared.response.Response.TheVariants as response
 use Rattle.modbus_frame.specs.declared.response.ExceptionResponse.{ExceptionResponse}
+use Rattle.modbus_frame.specs.FunctionCodes as number
 use Rattle.modbus_pdu.specs.Coding.{Fits}
 use Rattle.modbus_pdu.specs.Fields.{packed_size}
 use Rattle.modbus_pdu.specs.Laws.{IsWord}
+use Rattle.modbus_pdu.specs.Limits.{two_words_pdu, three_words_pdu}
 use Rattle.modbus_pdu.specs.RequestOf.{IsModelled}
 use Rattle.modbus_pdu.specs.ResponseOf.{response_of, response_result_of}
 use Rattle.modbus_pdu.specs.ResponsePdu.{response_pdu, exception_pdu}
@@ -44,14 +46,14 @@ with_filled_coils other = other
 abbrev pub ResponseReadsBack : Response → Type 0
 ResponseReadsBack r = IsResponse r → Fits (response_pdu r) → response_of (response_pdu r) ≡ Ok (with_filled_coils r)
 
--- the same of what a server's PDU stands for, where the function code is below 80
+-- the same of what a server's PDU stands for, where the function code is below the exception bit
 abbrev pub ResultReadsBack : Response → Type 0
-ResultReadsBack r = IsResponse r → function_number (function_answered r) < 0x80 → Fits (response_pdu r) → response_result_of (response_pdu r) ≡ Ok (Ok (with_filled_coils r))
+ResultReadsBack r = IsResponse r → function_number (function_answered r) < number.exception_bit → Fits (response_pdu r) → response_result_of (response_pdu r) ≡ Ok (Ok (with_filled_coils r))
 
 -- what is written of an exception is read again, as the codes that its two numbers stand for: a
 -- `Custom` with the number of a named code is read as that one
 abbrev pub ExceptionReadsBack : ExceptionResponse → Type 0
-ExceptionReadsBack e = function_number e.function < 0x80 → response_result_of (exception_pdu e) ≡ Ok (Err (record { function = function_of (function_number e.function); exception = exception_of (exception_number e.exception) }))
+ExceptionReadsBack e = function_number e.function < number.exception_bit → response_result_of (exception_pdu e) ≡ Ok (Err (record { function = function_of (function_number e.function); exception = exception_of (exception_number e.exception) }))
 
 -- How many bytes the PDU of a response has (sections 6.1 to 6.6, 6.11 to 6.13, 6.16, 6.17 and 6.21).
 abbrev pub response_size : Response → ℕ
@@ -60,11 +62,11 @@ response_size (response.ReadDiscreteInputs coils) = 2 + packed_size (length coil
 response_size (response.ReadInputRegisters words) = 2 + 2 * length words
 response_size (response.ReadHoldingRegisters words) = 2 + 2 * length words
 response_size (response.ReadWriteMultipleRegisters words) = 2 + 2 * length words
-response_size (response.WriteSingleCoil address coil) = 5
-response_size (response.WriteSingleRegister address word) = 5
-response_size (response.WriteMultipleCoils address quantity) = 5
-response_size (response.WriteMultipleRegisters address quantity) = 5
+response_size (response.WriteSingleCoil address coil) = two_words_pdu
+response_size (response.WriteSingleRegister address word) = two_words_pdu
+response_size (response.WriteMultipleCoils address quantity) = two_words_pdu
+response_size (response.WriteMultipleRegisters address quantity) = two_words_pdu
 response_size (response.ReportServerId id run extra) = 4 + length extra
-response_size (response.MaskWriteRegister address and_mask or_mask) = 7
+response_size (response.MaskWriteRegister address and_mask or_mask) = three_words_pdu
 response_size (response.ReadDeviceIdentification found) = 7 + sum_by (λ object. 2 + length object.value) found.device_id_objects
 response_size (response.Custom code bytes) = 1 + length bytes

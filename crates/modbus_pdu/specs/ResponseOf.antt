@@ -12,28 +12,30 @@ use Rattle.modbus_frame.specs.declared.response.Response.{Response}
 use Rattle.modbus_frame.specs.declared.response.Response.TheVariants as response
 use Rattle.modbus_frame.specs.declared.response.ExceptionResponse.{ExceptionResponse}
 use Rattle.modbus_frame.specs.Codes.{function_of, exception_of, level_of}
-use Rattle.modbus_pdu.specs.declared.limits.TheConstants.{MAX_PDU}
+use Rattle.modbus_frame.specs.FunctionCodes as number
+use Rattle.modbus_pdu.specs.Limits.{max_pdu, mei_device_identification}
 use Rattle.modbus_pdu.specs.Fields.{words_of, coils_of}
 use Rattle.modbus_pdu.specs.Decoding.{◌>>=◌, read_code_or}
+use Rattle.modbus_pdu.specs.ResponsePdu.{flag}
 use Rattle.modbus_pdu.specs.RequestOf.{two_words_of, single_coil_of, three_words_of}
 
--- 01, 02: at most 253 bytes; the byte count at place 1, and exactly so many bytes of packed coils,
+-- Read Coils, Read Discrete Inputs: at most `max_pdu` bytes; the byte count at place 1, and exactly so many bytes of packed coils,
 -- eight in each (sections 6.1, 6.2)
 unfoldable pub coils_read_of : List ℕ → Result (List Bool) Reason
 coils_read_of pdu =
     let count = slice_index pdu 1 in
-    if nat_lt MAX_PDU (length pdu) then Err reason.SizeExceeded
+    if nat_lt max_pdu (length pdu) then Err reason.SizeExceeded
     else if nat_lt (length pdu) 2 then Err reason.UnexpectedEnd
     else if nat_lt (length pdu) (2 + count) then Err reason.TooShort
     else if nat_lt (2 + count) (length pdu) then Err reason.UndecodedData
     else Ok (coils_of (drop 2 pdu) (8 * count))
 
--- 03, 04, 17: at most 253 bytes; the byte count at place 1, which is even, and exactly so many
--- bytes of words (sections 6.3, 6.4, 6.17)
+-- Read Holding Registers, Read Input Registers, Read/Write Multiple Registers: at most `max_pdu` bytes;
+-- the byte count at place 1, which is even, and exactly so many bytes of words (sections 6.3, 6.4, 6.17)
 unfoldable pub words_read_of : List ℕ → Result (List ℕ) Reason
 words_read_of pdu =
     let count = slice_index pdu 1 in
-    if nat_lt MAX_PDU (length pdu) then Err reason.SizeExceeded
+    if nat_lt max_pdu (length pdu) then Err reason.SizeExceeded
     else if nat_lt (length pdu) 2 then Err reason.UnexpectedEnd
     else if count % 2 == 1 then Err reason.InvalidQuantity
     else if nat_lt (length pdu) (2 + count) then Err reason.UnexpectedEnd
@@ -43,16 +45,16 @@ words_read_of pdu =
 -- the run indicator: FF is on, 00 is off (section 6.13)
 abbrev pub run_status_of : ℕ → Result Bool Reason
 run_status_of status =
-    if status == 0xFF then Ok true
-    else if status == 0x00 then Ok false
+    if status == flag true then Ok true
+    else if status == flag false then Ok false
     else Err (reason.InvalidRunStatus status)
 
--- 11: at most 253 bytes; the byte count at place 1, which counts the server's id at place 2, its
+-- Report Server ID: at most `max_pdu` bytes; the byte count at place 1, which counts the server's id at place 2, its
 -- run indicator at place 3, and the data after these (section 6.13)
 unfoldable pub server_id_of : List ℕ → Result (ℕ × Bool × List ℕ) Reason
 server_id_of pdu =
     let count = slice_index pdu 1 in
-    if nat_lt MAX_PDU (length pdu) then Err reason.SizeExceeded
+    if nat_lt max_pdu (length pdu) then Err reason.SizeExceeded
     else if nat_lt (length pdu) 2 then Err reason.UnexpectedEnd
     else if nat_lt count 2 then Err reason.TooShort
     else if nat_lt (length pdu) 4 then Err reason.UnexpectedEnd
@@ -91,14 +93,14 @@ place_after read = read >>= λ x. Ok x.1
 abbrev pub level_or : ℕ → Result ConformityLevel Reason
 level_or number = elim (level_of number) [ None ↦ Err (reason.InvalidConformity number) | Some level ↦ Ok level ]
 
--- 2B: the MEI type 0E at place 1; at most 253 bytes; the read code, the conformity level, FF where
+-- Read Device Identification: the MEI type at place 1; at most `max_pdu` bytes; the read code, the conformity level, FF where
 -- more follows, the next object's id, the number of objects, and these from place 7 to the end
 -- (sections 6.19, 6.21)
 unfoldable pub device_identification_of : List ℕ → Result ReadDeviceIdentificationResponse Reason
 device_identification_of pdu =
     if nat_lt (length pdu) 2 then Err reason.UnexpectedEnd
-    else if slice_index pdu 1 == 0x0E then
-    (if nat_lt MAX_PDU (length pdu) then Err reason.SizeExceeded
+    else if slice_index pdu 1 == mei_device_identification then
+    (if nat_lt max_pdu (length pdu) then Err reason.SizeExceeded
     else if nat_lt (length pdu) 3 then Err reason.UnexpectedEnd
     else (read_code_or (slice_index pdu 2) >>= λ code.
     if nat_lt (length pdu) 4 then Err reason.UnexpectedEnd
@@ -106,26 +108,26 @@ device_identification_of pdu =
     if nat_lt (length pdu) 7 then Err reason.UnexpectedEnd
     else (objects_at (slice_index pdu 6) 7 pdu >>= λ found.
     if nat_lt found.1 (length pdu) then Err reason.UndecodedData
-    else Ok (record { read_code = code; conformity_level = level; more_follows = slice_index pdu 4 == 0xFF; next_object_id = slice_index pdu 5; device_id_objects = found.0 })))))
+    else Ok (record { read_code = code; conformity_level = level; more_follows = slice_index pdu 4 == flag true; next_object_id = slice_index pdu 5; device_id_objects = found.0 })))))
     else Err (reason.UnsupportedMei (slice_index pdu 1))
 
--- the response of a PDU with this function code. 05, 06, 0F, 10 and 16 are spelled as requests are
--- whose fields they repeat (sections 6.5, 6.6, 6.11, 6.12, 6.16); a code that has no kind of its own
--- is `Custom` with the bytes after it, also one of 80 or above
+-- the response of a PDU with this function code. Writes but for the read and write are spelled as requests
+-- are whose fields they repeat (sections 6.5, 6.6, 6.11, 6.12, 6.16); a code that has no kind of its own
+-- is `Custom` with the bytes after it, also one of the exception bit or above
 unfoldable pub answered_by : ℕ → List ℕ → Result Response Reason
 answered_by code pdu =
-    if code == 0x01 then (coils_read_of pdu >>= λ coils. Ok (response.ReadCoils coils))
-    else if code == 0x02 then (coils_read_of pdu >>= λ coils. Ok (response.ReadDiscreteInputs coils))
-    else if code == 0x03 then (words_read_of pdu >>= λ words. Ok (response.ReadHoldingRegisters words))
-    else if code == 0x04 then (words_read_of pdu >>= λ words. Ok (response.ReadInputRegisters words))
-    else if code == 0x05 then (single_coil_of pdu >>= λ x. Ok (response.WriteSingleCoil x.0 x.1))
-    else if code == 0x06 then (two_words_of pdu >>= λ x. Ok (response.WriteSingleRegister x.0 x.1))
-    else if code == 0x0F then (two_words_of pdu >>= λ x. Ok (response.WriteMultipleCoils x.0 x.1))
-    else if code == 0x10 then (two_words_of pdu >>= λ x. Ok (response.WriteMultipleRegisters x.0 x.1))
-    else if code == 0x11 then (server_id_of pdu >>= λ x. Ok (response.ReportServerId x.0 x.1 x.2))
-    else if code == 0x16 then (three_words_of pdu >>= λ x. Ok (response.MaskWriteRegister x.0 x.1 x.2))
-    else if code == 0x17 then (words_read_of pdu >>= λ words. Ok (response.ReadWriteMultipleRegisters words))
-    else if code == 0x2B then (device_identification_of pdu >>= λ found. Ok (response.ReadDeviceIdentification found))
+    if code == number.read_coils then (coils_read_of pdu >>= λ coils. Ok (response.ReadCoils coils))
+    else if code == number.read_discrete_inputs then (coils_read_of pdu >>= λ coils. Ok (response.ReadDiscreteInputs coils))
+    else if code == number.read_holding_registers then (words_read_of pdu >>= λ words. Ok (response.ReadHoldingRegisters words))
+    else if code == number.read_input_registers then (words_read_of pdu >>= λ words. Ok (response.ReadInputRegisters words))
+    else if code == number.write_single_coil then (single_coil_of pdu >>= λ x. Ok (response.WriteSingleCoil x.0 x.1))
+    else if code == number.write_single_register then (two_words_of pdu >>= λ x. Ok (response.WriteSingleRegister x.0 x.1))
+    else if code == number.write_multiple_coils then (two_words_of pdu >>= λ x. Ok (response.WriteMultipleCoils x.0 x.1))
+    else if code == number.write_multiple_registers then (two_words_of pdu >>= λ x. Ok (response.WriteMultipleRegisters x.0 x.1))
+    else if code == number.report_server_id then (server_id_of pdu >>= λ x. Ok (response.ReportServerId x.0 x.1 x.2))
+    else if code == number.mask_write_register then (three_words_of pdu >>= λ x. Ok (response.MaskWriteRegister x.0 x.1 x.2))
+    else if code == number.read_write_multiple_registers then (words_read_of pdu >>= λ words. Ok (response.ReadWriteMultipleRegisters words))
+    else if code == number.encapsulated_interface_transport then (device_identification_of pdu >>= λ found. Ok (response.ReadDeviceIdentification found))
     else Ok (response.Custom code (drop 1 pdu))
 
 -- the response of a PDU, by its function code (section 6)
@@ -134,21 +136,21 @@ response_of pdu =
     if nat_lt (length pdu) 1 then Err reason.UnexpectedEnd
     else answered_by (slice_index pdu 0) pdu
 
--- the exception of a PDU: the function code plus 80, then the exception code. What follows them
+-- the exception of a PDU: the function code plus the exception bit, then the exception code. What follows them
 -- is not looked at (section 7)
 unfoldable pub exception_response_of : List ℕ → Result ExceptionResponse Reason
 exception_response_of pdu =
     if nat_lt (length pdu) 1 then Err reason.UnexpectedEnd
-    else if nat_lt (slice_index pdu 0) 0x80 then Err (reason.InvalidFunction (slice_index pdu 0))
+    else if nat_lt (slice_index pdu 0) number.exception_bit then Err (reason.InvalidFunction (slice_index pdu 0))
     else if nat_lt (length pdu) 2 then Err reason.UnexpectedEnd
-    else Ok (record { function = function_of (slice_index pdu 0 - 0x80); exception = exception_of (slice_index pdu 1) })
+    else Ok (record { function = function_of (slice_index pdu 0 - number.exception_bit); exception = exception_of (slice_index pdu 1) })
 
--- what a server's PDU stands for: a response, or from the function code 80 on an exception
+-- what a server's PDU stands for: a response, or from the exception bit on an exception
 -- (section 7)
 unfoldable pub response_result_of : List ℕ → Result (Result Response ExceptionResponse) Reason
 response_result_of pdu =
     if nat_lt (length pdu) 1 then Err reason.UnexpectedEnd
-    else if nat_lt (slice_index pdu 0) 0x80 then (response_of pdu >>= λ answer. Ok (Ok answer))
+    else if nat_lt (slice_index pdu 0) number.exception_bit then (response_of pdu >>= λ answer. Ok (Ok answer))
     else (exception_response_of pdu >>= λ refusal. Ok (Err refusal))
 
 -- the responses that carry a list or bytes of their own; all others are a few numbers

@@ -8,6 +8,8 @@ use Rattle.modbus_frame.specs.declared.identification.ReadDeviceIdentificationRe
 use Rattle.modbus_frame.specs.declared.response.Response.{Response}
 use Rattle.modbus_frame.specs.declared.response.Response.TheVariants as response
 use Rattle.modbus_frame.specs.declared.response.ExceptionResponse.{ExceptionResponse}
+use Rattle.modbus_frame.specs.FunctionCodes as number
+use Rattle.modbus_pdu.specs.Limits.{mei_device_identification}
 use Rattle.modbus_pdu.specs.Fields.{packed, packed_size, coil_word}
 use Rattle.modbus_pdu.specs.Writing.{word, words}
 
@@ -28,28 +30,28 @@ objects os = flat_map object os
 -- a device identification: function and MEI type, read code, conformity level, whether more
 -- follows, the next object's id, the number of objects, and these (section 6.21)
 unfoldable pub device_identification_pdu : ReadDeviceIdentificationResponse → List ℕ
-device_identification_pdu r = 0x2B ∷ 0x0E ∷ read_code_number r.read_code ∷ level_number r.conformity_level ∷ flag r.more_follows ∷ r.next_object_id ∷ length r.device_id_objects ∷ objects r.device_id_objects
+device_identification_pdu r = number.encapsulated_interface_transport ∷ mei_device_identification ∷ read_code_number r.read_code ∷ level_number r.conformity_level ∷ flag r.more_follows ∷ r.next_object_id ∷ length r.device_id_objects ∷ objects r.device_id_objects
 
 -- the PDU of a response: its function code, and its fields (section 6). Words are big-endian; coils
 -- are packed, eight a byte, the first one in the lowest bit
 unfoldable pub response_pdu : Response → List ℕ
-response_pdu (response.ReadCoils coils) = 0x01 ∷ packed_size (length coils) ∷ packed coils
-response_pdu (response.ReadDiscreteInputs coils) = 0x02 ∷ packed_size (length coils) ∷ packed coils
-response_pdu (response.ReadHoldingRegisters registers) = 0x03 ∷ (2 * length registers) ∷ words registers
-response_pdu (response.ReadInputRegisters registers) = 0x04 ∷ (2 * length registers) ∷ words registers
-response_pdu (response.WriteSingleCoil address coil) = 0x05 ∷ word address ++ word (coil_word coil)
-response_pdu (response.WriteSingleRegister address register) = 0x06 ∷ word address ++ word register
-response_pdu (response.WriteMultipleCoils address quantity) = 0x0F ∷ word address ++ word quantity
-response_pdu (response.WriteMultipleRegisters address quantity) = 0x10 ∷ word address ++ word quantity
-response_pdu (response.ReportServerId id run extra) = 0x11 ∷ (2 + length extra) ∷ id ∷ flag run ∷ extra
-response_pdu (response.MaskWriteRegister address and_mask or_mask) = 0x16 ∷ word address ++ word and_mask ++ word or_mask
-response_pdu (response.ReadWriteMultipleRegisters registers) = 0x17 ∷ (2 * length registers) ∷ words registers
+response_pdu (response.ReadCoils coils) = number.read_coils ∷ packed_size (length coils) ∷ packed coils
+response_pdu (response.ReadDiscreteInputs coils) = number.read_discrete_inputs ∷ packed_size (length coils) ∷ packed coils
+response_pdu (response.ReadHoldingRegisters registers) = number.read_holding_registers ∷ (2 * length registers) ∷ words registers
+response_pdu (response.ReadInputRegisters registers) = number.read_input_registers ∷ (2 * length registers) ∷ words registers
+response_pdu (response.WriteSingleCoil address coil) = number.write_single_coil ∷ word address ++ word (coil_word coil)
+response_pdu (response.WriteSingleRegister address register) = number.write_single_register ∷ word address ++ word register
+response_pdu (response.WriteMultipleCoils address quantity) = number.write_multiple_coils ∷ word address ++ word quantity
+response_pdu (response.WriteMultipleRegisters address quantity) = number.write_multiple_registers ∷ word address ++ word quantity
+response_pdu (response.ReportServerId id run extra) = number.report_server_id ∷ (2 + length extra) ∷ id ∷ flag run ∷ extra
+response_pdu (response.MaskWriteRegister address and_mask or_mask) = number.mask_write_register ∷ word address ++ word and_mask ++ word or_mask
+response_pdu (response.ReadWriteMultipleRegisters registers) = number.read_write_multiple_registers ∷ (2 * length registers) ∷ words registers
 response_pdu (response.ReadDeviceIdentification found) = device_identification_pdu found
 response_pdu (response.Custom code bytes) = code ∷ bytes
 
--- the PDU of an exception: the function code plus 80, and the exception code (section 7)
+-- the PDU of an exception: the function code plus the exception bit, and the exception code (section 7)
 abbrev pub exception_pdu : ExceptionResponse → List ℕ
-exception_pdu refusal = (function_number refusal.function + 0x80) ∷ exception_number refusal.exception ∷ []
+exception_pdu refusal = (function_number refusal.function + number.exception_bit) ∷ exception_number refusal.exception ∷ []
 
 -- the PDU of what a server answers
 abbrev pub response_result_pdu : Result Response ExceptionResponse → List ℕ

@@ -4,6 +4,7 @@
 ghost use Rattle.std.specs.Prelude.{◌≡◌, ◌+◌, ◌≤◌, length, drop, slice_index, nat_lt, Ok, Err, OnOk, if◌then◌else◌};
 ghost use Rattle.modbus_frame.specs.declared.fault.Reason.TheVariants.{SizeExceeded, UnexpectedEnd, UndecodedData};
 ghost use Rattle.modbus_pdu.specs.Fields.{word_at};
+ghost use Rattle.modbus_pdu.specs.Limits.{max_pdu};
 
 use crate::limits::MAX_PDU;
 use modbus_frame::Reason;
@@ -69,7 +70,7 @@ impl<'a> Cursor<'a> {
     /// The PDU may not be longer than an encoded one can be.
     #[inline]
     pub(crate) fn check_size(&self) -> Result<(), Reason>
-        ensures { result ≡ (if nat_lt MAX_PDU (length self.now.bytes.now)
+        ensures { result ≡ (if nat_lt max_pdu (length self.now.bytes.now)
             then Err SizeExceeded else Ok tt) }
     {
         if self.bytes.len() > MAX_PDU {

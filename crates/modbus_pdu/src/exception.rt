@@ -1,20 +1,19 @@
 //! Exception responses, read from PDUs and written.
 //!
-//! A server that refuses a request answers with the request's function code plus 0x80, and the
+//! A server that refuses a request answers with the request's function code plus `EXCEPTION_BIT`, and the
 //! exception code (MODBUS Application Protocol V1.1b3, section 7).
 ghost use Rattle.std.specs.Prelude.{◌≡◌, ◌+◌, ◌<◌, ◌≤◌, ◌++◌, OnOk, OnErr};
 ghost use Rattle.bytes.specs.Filled.{UsesSpare};
 ghost use Rattle.modbus_frame.specs.Codes.{function_number};
+ghost use Rattle.modbus_frame.specs.FunctionCodes.{exception_bit};
 ghost use Rattle.modbus_pdu.specs.ResponseOf.{exception_response_of};
 ghost use Rattle.modbus_pdu.specs.ResponsePdu.{exception_pdu};
 
 use crate::writing::put_byte;
 use bytes::BytesMut;
+use modbus_frame::function_code::EXCEPTION_BIT;
 use modbus_frame::{ExceptionCode, ExceptionResponse, FunctionCode, Reason};
 use std::alloc::{AllocError, Global};
-
-/// What an exception adds to the function code of the request.
-pub(crate) const EXCEPTION_BIT: u8 = 0x80;
 
 /// How many bytes the PDU of an exception has.
 pub(crate) const EXCEPTION_SIZE: usize = 2;
@@ -22,7 +21,7 @@ pub(crate) const EXCEPTION_SIZE: usize = 2;
 /// The exception of a PDU (section 7).
 ///
 /// `UnexpectedEnd` where one of its two bytes is missing, and `InvalidFunction` with a first byte
-/// below 0x80, also where it is the only one. Bytes after the second are ignored.
+/// below `EXCEPTION_BIT`, also where it is the only one. Bytes after the second are ignored.
 #[tactic(auto, unfolding(crate::specs::ResponseOf::exception_response_of))]
 pub fn decode_exception(pdu: &[u8]) -> Result<ExceptionResponse, Reason>
     ensures exception { result ≡ exception_response_of pdu.now }
@@ -46,7 +45,7 @@ pub fn encode_exception_response_pdu(
     buf: &mut BytesMut,
     response: ExceptionResponse,
 ) -> Result<(), AllocError>
-    requires { function_number response.function < 0x80 }
+    requires { function_number response.function < exception_bit }
     ensures ok { OnOk result (buf.new.items ≡ buf.old.items ++ exception_pdu response) }
     ensures err { OnErr result (buf.new.items ≡ buf.old.items) }
     ensures spare { UsesSpare result buf.old.spare buf.new.spare 2 }
@@ -58,7 +57,7 @@ pub fn encode_exception_response_pdu(
 
 /// Appends the PDU of an exception, where the buffer has room for it.
 pub(crate) fn put_exception(buf: &mut BytesMut, response: ExceptionResponse)
-    requires function { function_number response.function < 0x80 }
+    requires function { function_number response.function < exception_bit }
     requires room { EXCEPTION_SIZE ≤ buf.old.spare }
     ensures items { buf.new.items ≡ buf.old.items ++ exception_pdu response }
     ensures spare { buf.new.spare + EXCEPTION_SIZE ≡ buf.old.spare }

@@ -9,13 +9,13 @@ ghost use Rattle.modbus_pdu.specs.RequestPdu.{request_pdu};
 use modbus_frame::{Request, Word};
 
 /// A request that fits is what its own PDU decodes to: each modelled kind, and each custom function
-/// whose code is below 0x80 and stands for no modelled kind.
+/// whose code is below `EXCEPTION_BIT` and stands for no modelled kind.
 pub fn requests_read_back()
     ensures { (r : Asked) → IsInRange r → ReadsBack r }
 {}
 
 /// This request, if it fits, is what its own PDU decodes to: where its kind is modelled, or where its
-/// code is below 0x80 and stands for no modelled kind.
+/// code is below `EXCEPTION_BIT` and stands for no modelled kind.
 pub fn request_reads_back(request: &Request<'_>)
     ensures { ReadsBack (meaning request.now) }
 {

@@ -1,6 +1,6 @@
 //! Modbus protocol data units: requests as bytes and back, packed coils, and their sizes.
 //!
-//! A PDU is a function code and its data, at most 253 bytes where it is encoded (Modbus
+//! A PDU is a function code and its data, at most `MAX_PDU` bytes where it is encoded (Modbus
 //! Application Protocol V1.1b3, section 4.1). The framings of serial line and TCP stand on this
 //! crate, and add nothing to what a PDU means.
 #![tactic(auto)]
@@ -26,8 +26,9 @@ pub use crate::laws::{
     coils_are_packed, request_reads_back, requests_have_sizes, requests_read_back,
 };
 pub use crate::limits::{
-    MAX_PDU, MAX_READ_COILS, MAX_READ_REGISTERS, MAX_READ_WRITE_REGISTERS, MAX_WRITE_COILS,
-    MAX_WRITE_REGISTERS, TooLong,
+    IDENTIFICATION_REQUEST, MAX_PDU, MAX_READ_COILS, MAX_READ_REGISTERS, MAX_READ_WRITE_REGISTERS,
+    MAX_WRITE_COILS, MAX_WRITE_REGISTERS, MEI_DEVICE_IDENTIFICATION, READ_WRITE_HEAD,
+    THREE_WORDS_PDU, TWO_WORDS_PDU, TooLong, WRITE_HEAD,
 };
 pub use crate::request_decoder::decode_request;
 pub use crate::request_encoder::{encode_request_pdu, put_request_pdu, request_pdu_size};

@@ -1,8 +1,10 @@
-//! The limits of the standard: the size of a PDU and the quantities of coils and registers of a request; and the number that marks
-//! device identification. specs/Limits.antt has each of them once more, and every definition takes it from there.
+//! The numbers of a PDU: its greatest size, the quantities of coils and registers of a request, the sizes of the fixed kinds and of
+//! the heads of the others, and the bytes that stand for something. specs/Limits.antt has each of them once more, and every
+//! definition takes it from there.
 ghost use Rattle.std.specs.Prelude.{◌≡◌, ◌<◌, ◌≤◌, ◌++◌, codes, IfOk, IfErr, Some};
 ghost use Rattle.std.specs.Fmt.{decimal};
 ghost use Rattle.modbus_frame.specs.declared.fault.EncodeError.TheVariants as encode;
+ghost use Rattle.modbus_pdu.specs.Limits.{max_pdu};
 
 use modbus_frame::EncodeError;
 use std::error::Error;
@@ -27,9 +29,33 @@ pub const MAX_WRITE_REGISTERS: usize = 123;
 pub const MAX_READ_WRITE_REGISTERS: usize = 121;
 
 /// The MEI type of device identification (V1.1b3, section 6.21).
-pub(crate) const MEI_DEVICE_IDENTIFICATION: u8 = 0x0E;
+pub const MEI_DEVICE_IDENTIFICATION: u8 = 0x0E;
 
-/// A PDU would have this many bytes, more than the 253 that fit.
+/// The bytes of the PDU of a function code and two words: an address, and a quantity or a value (V1.1b3, sections 6.1 to 6.6; of a
+/// response, sections 6.5, 6.6, 6.11 and 6.12).
+pub const TWO_WORDS_PDU: usize = 5;
+
+/// The bytes of the PDU of a function code and three words: an address and two masks (V1.1b3, section 6.16).
+pub const THREE_WORDS_PDU: usize = 7;
+
+/// The bytes before the coils or registers of a write: the function code, an address, a quantity and the byte count (V1.1b3, sections
+/// 6.11 and 6.12).
+pub const WRITE_HEAD: usize = 6;
+
+/// The bytes before the registers of a read and write: the function code, two addresses, two quantities and the byte count (V1.1b3,
+/// section 6.17).
+pub const READ_WRITE_HEAD: usize = 10;
+
+/// The bytes of the PDU of a request for device identification (V1.1b3, section 6.21).
+pub const IDENTIFICATION_REQUEST: usize = 4;
+
+/// The byte of a run indicator that is on, and of a more follows that is true (V1.1b3, sections 6.13 and 6.21).
+pub(crate) const FLAG_ON: u8 = 0xFF;
+
+/// The byte of a run indicator that is off, and of a more follows that is false.
+pub(crate) const FLAG_OFF: u8 = 0x00;
+
+/// A PDU would have this many bytes, more than `MAX_PDU`.
 ///
 /// A size above `usize::MAX` is told as `usize::MAX`.
 #[derive(Clone, Copy, Debug, PartialEq, Eq)]
@@ -37,10 +63,10 @@ pub struct TooLong(pub usize);
 
 impl fmt::Display for TooLong {
     ghost output = { λ error. Some (codes "a PDU of " ++ decimal error.0
-        ++ codes " bytes exceeds 253 bytes") };
+        ++ codes " bytes exceeds " ++ decimal max_pdu ++ codes " bytes") };
 
     fn fmt<W: fmt::Write>(&self, f: &mut fmt::Formatter<W>) -> fmt::Result {
-        write!(f, "a PDU of {} bytes exceeds 253 bytes", self.0)
+        write!(f, "a PDU of {} bytes exceeds {} bytes", self.0, MAX_PDU)
     }
 }
 
@@ -57,8 +83,8 @@ impl From<TooLong> for EncodeError {
 /// The size, where a PDU may have so many bytes.
 #[inline]
 pub(crate) fn within_limit(size: usize) -> Result<usize, TooLong>
-    ensures fits { IfOk result (λ found. (found ≡ size) × (size ≤ MAX_PDU)) }
-    ensures long { IfErr result (λ error. (MAX_PDU < size) × (error.0 ≡ size)) }
+    ensures fits { IfOk result (λ found. (found ≡ size) × (size ≤ max_pdu)) }
+    ensures long { IfErr result (λ error. (max_pdu < size) × (error.0 ≡ size)) }
 {
     if size <= MAX_PDU {
         Ok(size)

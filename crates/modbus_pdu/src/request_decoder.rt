@@ -4,6 +4,7 @@
 //! its definition says of the places of the whole PDU.
 ghost use Rattle.std.specs.Prelude.{◌≡◌, ◌≢◌, ◌<◌, IfOk, IsOk, IsOkAnd};
 ghost use Rattle.modbus_frame.specs.Codes.{function_number};
+ghost use Rattle.modbus_frame.specs.FunctionCodes.{exception_bit, read_coils, read_discrete_inputs, read_holding_registers, read_input_registers, write_single_coil, write_single_register};
 ghost use Rattle.modbus_frame.specs.Meaning.{meaning, function_asked};
 ghost use Rattle.modbus_pdu.specs.Decoding.{Decodes};
 ghost use Rattle.modbus_pdu.specs.RequestOf.{CarriesList, asked_by, coils_written_of, identification_of, read_write_of, registers_at, request_of, single_coil_of, three_words_of, two_words_of, words_written_of};
@@ -12,35 +13,38 @@ use crate::coils::{coil_to_bool, decode_packed_coils};
 use crate::cursor::Cursor;
 use crate::limits::MEI_DEVICE_IDENTIFICATION;
 use crate::words::decode_words;
+use modbus_frame::function_code::{self, EXCEPTION_BIT};
 use modbus_frame::{Address, Coil, Coils, PduError, Quantity, ReadCode, Reason, Request, Word};
 use std::alloc::Global;
 use std::borrow::CowSlice;
 
 /// The request of a PDU (V1.1b3, sections 6.1 to 6.6, 6.11 to 6.13, 6.16, 6.17 and 6.21).
 ///
-/// A function code below 0x80 that stands for none of these kinds gives a custom request with the
+/// A function code below `EXCEPTION_BIT` that stands for none of these kinds gives a custom request with the
 /// bytes after it. Quantities of reads are not judged.
 ///
 /// `Refused` holds the first reason not to read the PDU, in the order of its fields:
 ///
 /// - `UnexpectedEnd`: a byte is missing;
 /// - `UndecodedData`: there are bytes after the last field;
-/// - `SizeExceeded`: more than 253 bytes, of device identification or a kind that has a byte count;
+/// - `SizeExceeded`: more than `MAX_PDU` bytes, of device identification or a kind that has a byte count;
 /// - `TooShort`: bytes of packed coils are missing;
 /// - `InvalidQuantity`: the number of coils or registers does not agree with the byte count;
 /// - `InvalidCoil`: this word stands for no coil;
-/// - `UnsupportedMei`: this MEI type is not 0x0E;
+/// - `UnsupportedMei`: this MEI type is not that of device identification;
 /// - `InvalidReadCode`: this read code is not one of 1 to 4;
-/// - `InvalidFunction`: this function code is 0x80 or above.
+/// - `InvalidFunction`: this function code is `EXCEPTION_BIT` or above.
 ///
-/// Want of memory comes only where the PDU is a request that carries a list. The function code of a request is below 0x80.
+/// Want of memory comes only where the PDU is a request that carries a list. The function code of a request is
+/// below `EXCEPTION_BIT`.
 #[inline(always)]
 #[tactic(auto, using(crate::proofs::First::no_byte, crate::proofs::First::by_first))]
 pub fn decode_request(alloc: Global, pdu: &[u8]) -> Result<Request<'static>, PduError>
     ensures value { Decodes meaning result (request_of pdu.now) }
     ensures memory { result ≡ Err PduError.NoMemory
         → IsOkAnd (request_of pdu.now) CarriesList }
-    ensures code { IfOk result (λ request. function_number (function_asked (meaning request)) < 0x80) }
+    ensures code { IfOk result (λ request.
+        function_number (function_asked (meaning request)) < exception_bit) }
 {
     let mut cursor = Cursor::new(pdu);
     let code = cursor.byte()?;
@@ -59,30 +63,31 @@ fn request_by_code(
     ensures value { Decodes meaning result (asked_by code cursor.entry.bytes.now) }
     ensures memory { result ≡ Err PduError.NoMemory
         → IsOkAnd (asked_by code cursor.entry.bytes.now) CarriesList }
-    ensures code { IfOk result (λ request. function_number (function_asked (meaning request)) < 0x80) }
+    ensures code { IfOk result (λ request.
+        function_number (function_asked (meaning request)) < exception_bit) }
 {
     match code {
-        0x01 => {
+        function_code::READ_COILS => {
             let (address, quantity) = two_words(cursor)?;
             Ok(Request::ReadCoils(address, quantity))
         }
-        0x02 => {
+        function_code::READ_DISCRETE_INPUTS => {
             let (address, quantity) = two_words(cursor)?;
             Ok(Request::ReadDiscreteInputs(address, quantity))
         }
-        0x03 => {
+        function_code::READ_HOLDING_REGISTERS => {
             let (address, quantity) = two_words(cursor)?;
             Ok(Request::ReadHoldingRegisters(address, quantity))
         }
-        0x04 => {
+        function_code::READ_INPUT_REGISTERS => {
             let (address, quantity) = two_words(cursor)?;
             Ok(Request::ReadInputRegisters(address, quantity))
         }
-        0x05 => {
+        function_code::WRITE_SINGLE_COIL => {
             let (address, coil) = single_coil(cursor)?;
             Ok(Request::WriteSingleCoil(address, coil))
         }
-        0x06 => {
+        function_code::WRITE_SINGLE_REGISTER => {
             let (address, word) = two_words(cursor)?;
             Ok(Request::WriteSingleRegister(address, word))
         }
@@ -100,30 +105,32 @@ fn request_of_other_fields(
     cursor: Cursor<'_>,
 ) -> Result<Request<'static>, PduError>
     requires start { cursor.at ≡ 1 }
-    requires other { (code ≢ 0x01) × (code ≢ 0x02) × (code ≢ 0x03) × (code ≢ 0x04) × (code ≢ 0x05) × (code ≢ 0x06) }
+    requires other { (code ≢ read_coils) × (code ≢ read_discrete_inputs) × (code ≢ read_holding_registers)
+        × (code ≢ read_input_registers) × (code ≢ write_single_coil) × (code ≢ write_single_register) }
     ensures value { Decodes meaning result (asked_by code cursor.entry.bytes.now) }
     ensures memory { result ≡ Err PduError.NoMemory
         → IsOkAnd (asked_by code cursor.entry.bytes.now) CarriesList }
-    ensures code { IfOk result (λ request. function_number (function_asked (meaning request)) < 0x80) }
+    ensures code { IfOk result (λ request.
+        function_number (function_asked (meaning request)) < exception_bit) }
 {
     match code {
-        0x0F => {
+        function_code::WRITE_MULTIPLE_COILS => {
             let (address, coils) = coils_written(alloc, cursor)?;
             Ok(Request::WriteMultipleCoils(address, CowSlice::Owned(coils.into_vec())))
         }
-        0x10 => {
+        function_code::WRITE_MULTIPLE_REGISTERS => {
             let (address, words) = words_written(alloc, cursor)?;
             Ok(Request::WriteMultipleRegisters(address, CowSlice::Owned(words)))
         }
-        0x11 => {
+        function_code::REPORT_SERVER_ID => {
             cursor.finish()?;
             Ok(Request::ReportServerId)
         }
-        0x16 => {
+        function_code::MASK_WRITE_REGISTER => {
             let (address, and_mask, or_mask) = three_words(cursor)?;
             Ok(Request::MaskWriteRegister(address, and_mask, or_mask))
         }
-        0x17 => {
+        function_code::READ_WRITE_MULTIPLE_REGISTERS => {
             let (read_address, quantity, write_address, words) = read_write(alloc, cursor)?;
             Ok(Request::ReadWriteMultipleRegisters(
                 read_address,
@@ -132,11 +139,11 @@ fn request_of_other_fields(
                 CowSlice::Owned(words),
             ))
         }
-        0x2B => {
+        function_code::ENCAPSULATED_INTERFACE_TRANSPORT => {
             let (code, id) = identification(cursor)?;
             Ok(Request::ReadDeviceIdentification(code, id))
         }
-        0x80.. => Err(PduError::Refused(Reason::InvalidFunction(code))),
+        EXCEPTION_BIT.. => Err(PduError::Refused(Reason::InvalidFunction(code))),
         _ => {
             let data = Vec::from_slice(alloc, cursor.rest())?;
             Ok(Request::Custom(code, CowSlice::Owned(data)))

@@ -3,28 +3,32 @@ ghost use Rattle.std.specs.Prelude.{◌≡◌, ◌≤◌, ◌+◌, ◌*◌, ◌+
 ghost use Rattle.bytes.specs.Filled.{UsesSpare};
 ghost use Rattle.modbus_frame.specs.Meaning.{meaning};
 ghost use Rattle.modbus_pdu.specs.Coding.{Fits, told_size};
+ghost use Rattle.modbus_pdu.specs.Limits.{max_pdu};
 ghost use Rattle.modbus_pdu.specs.RequestPdu.{counted_registers, request_pdu};
 
 use crate::coils::{bool_to_coil, packed_coils_size, put_packed_coils};
-use crate::limits::{MAX_PDU, MEI_DEVICE_IDENTIFICATION, TooLong, within_limit};
+use crate::limits::{
+    IDENTIFICATION_REQUEST, MEI_DEVICE_IDENTIFICATION, READ_WRITE_HEAD, THREE_WORDS_PDU,
+    TWO_WORDS_PDU, TooLong, WRITE_HEAD, within_limit,
+};
 use crate::writing::{put_byte, put_word, put_words};
 use bytes::BytesMut;
 use modbus_frame::{Request, Word};
 use std::alloc::{AllocError, Global};
 
-/// How many bytes the PDU of the request has, at most 253 (V1.1b3, section 4.1).
+/// How many bytes the PDU of the request has, at most `MAX_PDU` (V1.1b3, section 4.1).
 ///
 /// `TooLong` holds the size of a PDU that does not fit.
 pub fn request_pdu_size(request: &Request<'_>) -> Result<usize, TooLong>
     ensures fits { IfOk result (λ size. (size ≡ length (request_pdu (meaning request.now)))
-        × (size ≤ MAX_PDU)) }
-    ensures long { IfErr result (λ error. (MAX_PDU < length (request_pdu (meaning request.now)))
+        × (size ≤ max_pdu)) }
+    ensures long { IfErr result (λ error. (max_pdu < length (request_pdu (meaning request.now)))
         × (error.0 ≡ told_size (request_pdu (meaning request.now)))) }
 {
     within_limit(request_len(request))
 }
 
-/// Appends the PDU of a request whose size is at most 253 bytes (V1.1b3, sections 6.1 to 6.6, 6.11
+/// Appends the PDU of a request whose size is at most `MAX_PDU` bytes (V1.1b3, sections 6.1 to 6.6, 6.11
 /// to 6.13, 6.16, 6.17 and 6.21).
 ///
 /// The one error is want of memory, which leaves the bytes of the buffer as they were and comes
@@ -56,24 +60,24 @@ fn request_len(request: &Request<'_>) -> usize
         | Request::ReadHoldingRegisters(_, _)
         | Request::ReadInputRegisters(_, _)
         | Request::WriteSingleCoil(_, _)
-        | Request::WriteSingleRegister(_, _) => 5,
-        Request::WriteMultipleCoils(_, coils) => 6 + packed_coils_size(coils.as_slice()),
+        | Request::WriteSingleRegister(_, _) => TWO_WORDS_PDU,
+        Request::WriteMultipleCoils(_, coils) => WRITE_HEAD + packed_coils_size(coils.as_slice()),
         Request::WriteMultipleRegisters(_, registers) => registers
             .len()
             .saturating_mul(2)
-            .saturating_add(6),
+            .saturating_add(WRITE_HEAD),
         Request::ReportServerId => 1,
-        Request::MaskWriteRegister(_, _, _) => 7,
+        Request::MaskWriteRegister(_, _, _) => THREE_WORDS_PDU,
         Request::ReadWriteMultipleRegisters(_, _, _, registers) => registers
             .len()
             .saturating_mul(2)
-            .saturating_add(10),
-        Request::ReadDeviceIdentification(_, _) => 4,
+            .saturating_add(READ_WRITE_HEAD),
+        Request::ReadDeviceIdentification(_, _) => IDENTIFICATION_REQUEST,
         Request::Custom(_, data) => data.len().saturating_add(1),
     }
 }
 
-/// Appends the PDU of a request whose size is at most 253 bytes (V1.1b3, sections 6.1 to 6.6, 6.11
+/// Appends the PDU of a request whose size is at most `MAX_PDU` bytes (V1.1b3, sections 6.1 to 6.6, 6.11
 /// to 6.13, 6.16, 6.17 and 6.21), where the buffer has room for it.
 #[inline(always)]
 #[tactic(auto, using(crate::proofs::Sizes::sizes), unfolding(crate::specs::RequestPdu::request_pdu))]

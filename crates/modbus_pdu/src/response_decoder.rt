@@ -8,22 +8,17 @@ ghost use Rattle.modbus_pdu.specs.ResponseOf.{AnswerCarriesMemory, CarriesMemory
 
 use crate::coils::decode_packed_coils;
 use crate::cursor::Cursor;
-use crate::exception::{EXCEPTION_BIT, decode_exception};
-use crate::limits::{MAX_PDU, MEI_DEVICE_IDENTIFICATION};
+use crate::exception::decode_exception;
+use crate::limits::{FLAG_OFF, FLAG_ON, MAX_PDU, MEI_DEVICE_IDENTIFICATION};
 use crate::request_decoder::{single_coil, three_words, two_words};
 use crate::words::decode_words;
 use bytes::Bytes;
+use modbus_frame::function_code::{self, EXCEPTION_BIT};
 use modbus_frame::{
     Coils, ConformityLevel, Data, DeviceIdObject, DeviceIdObjects, PduError, ReadCode,
     ReadDeviceIdentificationResponse, Reason, Response, ResponsePdu, Words,
 };
 use std::alloc::Global;
-
-/// The bytes of a more follows that is true, and of a run indicator that is on.
-const ON: u8 = 0xFF;
-
-/// The byte of a run indicator that is off.
-const OFF: u8 = 0x00;
 
 /// The coils after the byte count, eight in each byte.
 #[tactic(auto, unfolding(crate::specs::ResponseOf::coils_read_of))]
@@ -71,8 +66,8 @@ fn run_status(status: u8) -> Result<bool, Reason>
     ensures { result ≡ run_status_of status }
 {
     match status {
-        ON => Ok(true),
-        OFF => Ok(false),
+        FLAG_ON => Ok(true),
+        FLAG_OFF => Ok(false),
         _ => Err(Reason::InvalidRunStatus(status)),
     }
 }
@@ -193,7 +188,7 @@ fn device_identification(
     let Some(conformity_level) = ConformityLevel::try_from_value(number) else {
         return Err(PduError::Refused(Reason::InvalidConformity(number)));
     };
-    let more_follows = cursor.byte()? == ON;
+    let more_follows = cursor.byte()? == FLAG_ON;
     let next_object_id = cursor.byte()?;
     let count = cursor.byte()?;
     // All bytes are judged before memory is asked for.
@@ -219,51 +214,51 @@ fn answered(alloc: Global, code: u8, pdu: &Bytes, cursor: Cursor<'_>) -> Result<
     ensures memory { result ≡ Err PduError.NoMemory → IsOkAnd (answered_by code pdu.now) CarriesMemory }
 {
     match code {
-        0x01 => {
+        function_code::READ_COILS => {
             let coils = coils_read(alloc, cursor)?;
             Ok(Response::ReadCoils(coils))
         }
-        0x02 => {
+        function_code::READ_DISCRETE_INPUTS => {
             let coils = coils_read(alloc, cursor)?;
             Ok(Response::ReadDiscreteInputs(coils))
         }
-        0x03 => {
+        function_code::READ_HOLDING_REGISTERS => {
             let words = words_read(alloc, cursor)?;
             Ok(Response::ReadHoldingRegisters(words))
         }
-        0x04 => {
+        function_code::READ_INPUT_REGISTERS => {
             let words = words_read(alloc, cursor)?;
             Ok(Response::ReadInputRegisters(words))
         }
-        0x05 => {
+        function_code::WRITE_SINGLE_COIL => {
             let (address, coil) = single_coil(cursor)?;
             Ok(Response::WriteSingleCoil(address, coil))
         }
-        0x06 => {
+        function_code::WRITE_SINGLE_REGISTER => {
             let (address, word) = two_words(cursor)?;
             Ok(Response::WriteSingleRegister(address, word))
         }
-        0x0F => {
+        function_code::WRITE_MULTIPLE_COILS => {
             let (address, quantity) = two_words(cursor)?;
             Ok(Response::WriteMultipleCoils(address, quantity))
         }
-        0x10 => {
+        function_code::WRITE_MULTIPLE_REGISTERS => {
             let (address, quantity) = two_words(cursor)?;
             Ok(Response::WriteMultipleRegisters(address, quantity))
         }
-        0x11 => {
+        function_code::REPORT_SERVER_ID => {
             let (id, run, extra) = server_id(alloc, cursor)?;
             Ok(Response::ReportServerId(id, run, extra))
         }
-        0x16 => {
+        function_code::MASK_WRITE_REGISTER => {
             let (address, and_mask, or_mask) = three_words(cursor)?;
             Ok(Response::MaskWriteRegister(address, and_mask, or_mask))
         }
-        0x17 => {
+        function_code::READ_WRITE_MULTIPLE_REGISTERS => {
             let words = words_read(alloc, cursor)?;
             Ok(Response::ReadWriteMultipleRegisters(words))
         }
-        0x2B => {
+        function_code::ENCAPSULATED_INTERFACE_TRANSPORT => {
             let found = device_identification(alloc, pdu)?;
             Ok(Response::ReadDeviceIdentification(found))
         }
@@ -276,7 +271,7 @@ fn answered(alloc: Global, code: u8, pdu: &Bytes, cursor: Cursor<'_>) -> Result<
 
 /// The response of a PDU (section 6), or the first reason that refuses it.
 ///
-/// Function codes that have no kind of their own give `Custom`, also those of 0x80 and above.
+/// Function codes that have no kind of their own give `Custom`, also those of `EXCEPTION_BIT` and above.
 /// `NoMemory` comes only for want of memory, and only where the PDU is a response that carries a list
 /// or bytes of its own.
 #[tactic(auto, unfolding(crate::specs::ResponseOf::response_of))]
@@ -289,7 +284,7 @@ pub fn decode_response(alloc: Global, pdu: Bytes) -> Result<Response, PduError>
     answered(alloc, code, &pdu, cursor)
 }
 
-/// What a server's PDU stands for: a response, or from the function code 0x80 on an exception
+/// What a server's PDU stands for: a response, or from the function code `EXCEPTION_BIT` on an exception
 /// (section 7). Else the first reason that refuses it.
 ///
 /// An empty PDU is `UnexpectedEnd`. `NoMemory` comes only for want of memory, and only where the PDU

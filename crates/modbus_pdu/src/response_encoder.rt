@@ -8,18 +8,24 @@ ghost use Rattle.std.specs.List.{AllByRecursion};
 ghost use Rattle.std.specs.Result.{ForErr};
 ghost use Rattle.bytes.specs.Filled.{UsesSpare};
 ghost use Rattle.modbus_frame.specs.Codes.{function_number};
+ghost use Rattle.modbus_frame.specs.FunctionCodes.{exception_bit};
 ghost use Rattle.modbus_pdu.specs.Coding.{Fits, told_size};
 ghost use Rattle.modbus_pdu.specs.Fields.{packed, packed_size};
+ghost use Rattle.modbus_pdu.specs.Limits.{max_pdu};
 ghost use Rattle.modbus_pdu.specs.Writing.{words};
 ghost use Rattle.modbus_pdu.specs.ResponsePdu.{flag, objects, device_identification_pdu, response_pdu, response_result_pdu};
 
 use crate::coils::{bool_to_coil, packed_coils_size, put_packed_coils};
 use crate::exception::{EXCEPTION_SIZE, encode_exception_response_pdu, put_exception};
-use crate::limits::{MAX_PDU, MEI_DEVICE_IDENTIFICATION, TooLong, within_limit};
+use crate::limits::{
+    FLAG_OFF, FLAG_ON, MEI_DEVICE_IDENTIFICATION, THREE_WORDS_PDU, TWO_WORDS_PDU, TooLong,
+    within_limit,
+};
 use crate::writing::{put_byte, put_word, put_words};
 use bytes::BytesMut;
 use modbus_frame::{
     Coil, DeviceIdObject, ExceptionResponse, ReadDeviceIdentificationResponse, Response, Word,
+    function_code,
 };
 use std::alloc::{AllocError, Global};
 
@@ -55,9 +61,9 @@ fn response_len(response: &Response) -> usize
         Response::WriteSingleCoil(_, _)
         | Response::WriteMultipleCoils(_, _)
         | Response::WriteSingleRegister(_, _)
-        | Response::WriteMultipleRegisters(_, _) => 5,
+        | Response::WriteMultipleRegisters(_, _) => TWO_WORDS_PDU,
         Response::ReportServerId(_, _, extra) => extra.as_slice().len().saturating_add(4),
-        Response::MaskWriteRegister(_, _, _) => 7,
+        Response::MaskWriteRegister(_, _, _) => THREE_WORDS_PDU,
         Response::ReadDeviceIdentification(found) => objects_len(
             found.device_id_objects.as_slice(),
         ).saturating_add(7),
@@ -65,26 +71,28 @@ fn response_len(response: &Response) -> usize
     }
 }
 
-/// How many bytes the PDU of the response has, where they are at most 253 (section 4.1).
+/// How many bytes the PDU of the response has, where they are at most `MAX_PDU` (section 4.1).
 ///
 /// `TooLong` tells the size where it is more, and usize::MAX where it is more than that.
 pub fn response_pdu_size(response: &Response) -> Result<usize, TooLong>
-    ensures fits { IfOk result (λ size. (size ≡ length (response_pdu response.now)) × (size ≤ MAX_PDU)) }
-    ensures long { IfErr result (λ error. (MAX_PDU < length (response_pdu response.now))
+    ensures fits { IfOk result (λ size. (size ≡ length (response_pdu response.now))
+        × (size ≤ max_pdu)) }
+    ensures long { IfErr result (λ error. (max_pdu < length (response_pdu response.now))
         × (error.0 ≡ told_size (response_pdu response.now))) }
 {
     within_limit(response_len(response))
 }
 
-/// How many bytes the PDU of a response or an exception has, where they are at most 253
+/// How many bytes the PDU of a response or an exception has, where they are at most `MAX_PDU`
 /// (section 4.1). An exception always fits.
 ///
 /// `TooLong` tells the size where it is more, and usize::MAX where it is more than that.
 pub fn response_result_pdu_size(
     answer: &Result<Response, ExceptionResponse>,
 ) -> Result<usize, TooLong>
-    ensures fits { IfOk result (λ size. (size ≡ length (response_result_pdu answer.now)) × (size ≤ MAX_PDU)) }
-    ensures long { IfErr result (λ error. (MAX_PDU < length (response_result_pdu answer.now))
+    ensures fits { IfOk result (λ size. (size ≡ length (response_result_pdu answer.now))
+        × (size ≤ max_pdu)) }
+    ensures long { IfErr result (λ error. (max_pdu < length (response_result_pdu answer.now))
         × (error.0 ≡ told_size (response_result_pdu answer.now))) }
 {
     match answer {
@@ -121,7 +129,7 @@ fn put_words_read(buf: &mut BytesMut, code: u8, registers: &[Word])
 fn flag_byte(is_on: bool) -> u8
     ensures { result ≡ flag is_on }
 {
-    if is_on { 0xFF } else { 0x00 }
+    if is_on { FLAG_ON } else { FLAG_OFF }
 }
 
 /// Each object: its id, its length and its value.
@@ -148,7 +156,7 @@ fn put_device_identification(buf: &mut BytesMut, found: &ReadDeviceIdentificatio
     ensures spare { buf.new.spare + length (device_identification_pdu found.now) ≡ buf.old.spare }
 {
     let objects = found.device_id_objects.as_slice();
-    put_byte(buf, 0x2B);
+    put_byte(buf, function_code::ENCAPSULATED_INTERFACE_TRANSPORT);
     put_byte(buf, MEI_DEVICE_IDENTIFICATION);
     put_byte(buf, found.read_code.value());
     put_byte(buf, found.conformity_level.value());
@@ -168,44 +176,64 @@ fn put_response(buf: &mut BytesMut, response: &Response)
     ensures spare { buf.new.spare + length (response_pdu response.now) ≡ buf.old.spare }
 {
     match response {
-        Response::ReadCoils(coils) => put_coils_read(buf, 0x01, coils.as_slice()),
-        Response::ReadDiscreteInputs(coils) => put_coils_read(buf, 0x02, coils.as_slice()),
-        Response::ReadHoldingRegisters(words) => put_words_read(buf, 0x03, words.as_slice()),
-        Response::ReadInputRegisters(words) => put_words_read(buf, 0x04, words.as_slice()),
+        Response::ReadCoils(coils) => put_coils_read(
+            buf,
+            function_code::READ_COILS,
+            coils.as_slice(),
+        ),
+        Response::ReadDiscreteInputs(coils) => put_coils_read(
+            buf,
+            function_code::READ_DISCRETE_INPUTS,
+            coils.as_slice(),
+        ),
+        Response::ReadHoldingRegisters(words) => put_words_read(
+            buf,
+            function_code::READ_HOLDING_REGISTERS,
+            words.as_slice(),
+        ),
+        Response::ReadInputRegisters(words) => put_words_read(
+            buf,
+            function_code::READ_INPUT_REGISTERS,
+            words.as_slice(),
+        ),
         Response::WriteSingleCoil(address, coil) => {
-            put_byte(buf, 0x05);
+            put_byte(buf, function_code::WRITE_SINGLE_COIL);
             put_word(buf, *address);
             put_word(buf, bool_to_coil(*coil));
         }
         Response::WriteSingleRegister(address, word) => {
-            put_byte(buf, 0x06);
+            put_byte(buf, function_code::WRITE_SINGLE_REGISTER);
             put_word(buf, *address);
             put_word(buf, *word);
         }
         Response::WriteMultipleCoils(address, quantity) => {
-            put_byte(buf, 0x0F);
+            put_byte(buf, function_code::WRITE_MULTIPLE_COILS);
             put_word(buf, *address);
             put_word(buf, *quantity);
         }
         Response::WriteMultipleRegisters(address, quantity) => {
-            put_byte(buf, 0x10);
+            put_byte(buf, function_code::WRITE_MULTIPLE_REGISTERS);
             put_word(buf, *address);
             put_word(buf, *quantity);
         }
         Response::ReportServerId(id, run, extra) => {
-            put_byte(buf, 0x11);
+            put_byte(buf, function_code::REPORT_SERVER_ID);
             put_byte(buf, (2 + extra.as_slice().len()) as u8);
             put_byte(buf, *id);
             put_byte(buf, flag_byte(*run));
             buf.extend_reserved(extra.as_slice());
         }
         Response::MaskWriteRegister(address, and_mask, or_mask) => {
-            put_byte(buf, 0x16);
+            put_byte(buf, function_code::MASK_WRITE_REGISTER);
             put_word(buf, *address);
             put_word(buf, *and_mask);
             put_word(buf, *or_mask);
         }
-        Response::ReadWriteMultipleRegisters(words) => put_words_read(buf, 0x17, words.as_slice()),
+        Response::ReadWriteMultipleRegisters(words) => put_words_read(
+            buf,
+            function_code::READ_WRITE_MULTIPLE_REGISTERS,
+            words.as_slice(),
+        ),
         Response::ReadDeviceIdentification(found) => put_device_identification(buf, found),
         Response::Custom(code, data) => {
             put_byte(buf, *code);
@@ -235,7 +263,7 @@ pub fn encode_response_pdu(
 }
 
 /// Appends the PDU of a response or an exception that fits, for which `response_result_pdu_size` is
-/// `Ok` (sections 6 and 7). The function of an exception is below 0x80.
+/// `Ok` (sections 6 and 7). The function of an exception is below `EXCEPTION_BIT`.
 ///
 /// The one error is want of memory, which leaves the bytes of the buffer as they were and comes only where the buffer had no room
 /// for the whole PDU. What memory it takes is of the buffer's own allocator.
@@ -245,7 +273,8 @@ pub fn encode_response_result_pdu(
     buf: &mut BytesMut,
     answer: &Result<Response, ExceptionResponse>,
 ) -> Result<(), AllocError>
-    requires function { ForErr answer.now (λ refusal. function_number refusal.function < 0x80) }
+    requires function { ForErr answer.now (λ refusal.
+        function_number refusal.function < exception_bit) }
     requires fits { Fits (response_result_pdu answer.now) }
     ensures ok { OnOk result (buf.new.items ≡ buf.old.items ++ response_result_pdu answer.now) }
     ensures err { OnErr result (buf.new.items ≡ buf.old.items) }
@@ -258,10 +287,11 @@ pub fn encode_response_result_pdu(
 }
 
 /// Appends the PDU of a response or an exception that fits, for which `response_result_pdu_size` is
-/// `Ok` (sections 6 and 7), where the buffer has room for it. The function of an exception is below 0x80.
+/// `Ok` (sections 6 and 7), where the buffer has room for it. The function of an exception is below `EXCEPTION_BIT`.
 #[inline(always)]
 pub fn put_response_result_pdu(buf: &mut BytesMut, answer: &Result<Response, ExceptionResponse>)
-    requires function { ForErr answer.now (λ refusal. function_number refusal.function < 0x80) }
+    requires function { ForErr answer.now (λ refusal.
+        function_number refusal.function < exception_bit) }
     requires fits { Fits (response_result_pdu answer.now) }
     requires room { length (response_result_pdu answer.now) ≤ buf.old.spare }
     ensures items { buf.new.items ≡ buf.old.items ++ response_result_pdu answer.now }
