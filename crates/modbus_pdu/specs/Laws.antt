@@ -5,7 +5,7 @@ use Rattle.modbus_frame.specs.Meaning.{Asked, ReadCoils, ReadDiscreteInputs, Wri
 use Rattle.modbus_frame.specs.FunctionCodes as number
 use Rattle.modbus_pdu.specs.Coding.{Fits}
 use Rattle.modbus_pdu.specs.Fields.{packed_size}
-use Rattle.modbus_pdu.specs.Limits.{two_words_pdu, three_words_pdu, write_head, read_write_head, identification_request}
+use Rattle.modbus_pdu.specs.Limits.{code_pdu, two_words_pdu, three_words_pdu, write_head, read_write_head, identification_request}
 use Rattle.modbus_pdu.specs.RequestOf.{request_of, IsModelled}
 use Rattle.modbus_pdu.specs.RequestPdu.{request_pdu}
 
@@ -53,8 +53,8 @@ request_size (WriteSingleCoil address coil) = two_words_pdu
 request_size (WriteSingleRegister address word) = two_words_pdu
 request_size (WriteMultipleCoils address coils) = write_head + packed_size (length coils)
 request_size (WriteMultipleRegisters address words) = write_head + 2 * length words
-request_size ReportServerId = 1
+request_size ReportServerId = code_pdu
 request_size (MaskWriteRegister address and_mask or_mask) = three_words_pdu
 request_size (ReadWriteMultipleRegisters read_address quantity write_address words) = read_write_head + 2 * length words
 request_size (ReadDeviceIdentification code id) = identification_request
-request_size (Custom code bytes) = 1 + length bytes
+request_size (Custom code bytes) = code_pdu + length bytes

@@ -29,6 +29,18 @@ max_read_write_registers = 121
 abbrev pub mei_device_identification : ℕ
 mei_device_identification = 0x0E
 
+-- the bytes of a function code alone (sections 6.7, 6.9, 6.10 and 6.13)
+abbrev pub code_pdu : ℕ
+code_pdu = 1
+
+-- the bytes of a function code and a byte: an exception (section 7), or a status (section 6.7)
+abbrev pub one_byte_pdu : ℕ
+one_byte_pdu = 2
+
+-- the bytes of a function code and a word: an address (section 6.18)
+abbrev pub one_word_pdu : ℕ
+one_word_pdu = 3
+
 -- the bytes of a function code and two words: an address, and a quantity or a value (sections 6.1 to 6.6)
 abbrev pub two_words_pdu : ℕ
 two_words_pdu = 5
@@ -48,3 +60,15 @@ read_write_head = 10
 -- the bytes of a request for device identification (section 6.21)
 abbrev pub identification_request : ℕ
 identification_request = 4
+
+-- the bytes before the coils, registers or other data of a response: the function code and the byte count (sections 6.1 to 6.4, 6.17)
+abbrev pub read_head : ℕ
+read_head = 2
+
+-- the bytes before the data of a server: the function code, the byte count, an id and the run indicator (section 6.13)
+abbrev pub server_id_head : ℕ
+server_id_head = 4
+
+-- the bytes before the objects of a device identification, the last of which is their number (section 6.21)
+abbrev pub identification_head : ℕ
+identification_head = 7

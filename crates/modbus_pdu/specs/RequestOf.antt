@@ -7,7 +7,7 @@ use Rattle.modbus_frame.specs.declared.fault.Reason.TheVariants as reason
 use Rattle.modbus_frame.specs.declared.code.ReadCode.{ReadCode}
 use Rattle.modbus_frame.specs.Meaning.{Asked, ReadCoils, ReadDiscreteInputs, WriteSingleCoil, WriteMultipleCoils, ReadInputRegisters, ReadHoldingRegisters, WriteSingleRegister, WriteMultipleRegisters, ReportServerId, MaskWriteRegister, ReadWriteMultipleRegisters, ReadDeviceIdentification, Custom}
 use Rattle.modbus_frame.specs.FunctionCodes as number
-use Rattle.modbus_pdu.specs.Limits.{max_pdu, mei_device_identification, two_words_pdu, three_words_pdu, write_head, identification_request}
+use Rattle.modbus_pdu.specs.Limits.{max_pdu, mei_device_identification, code_pdu, two_words_pdu, three_words_pdu, write_head, identification_request}
 use Rattle.modbus_pdu.specs.Fields.{word_at, words_of, coils_of, coil_of}
 use Rattle.modbus_pdu.specs.Decoding.{◌>>=◌, read_code_or}
 
@@ -60,7 +60,7 @@ words_written_of pdu =
 
 -- Report Server ID (6.13): the function code alone.
 unfoldable pub only_code_of : List ℕ → Result Asked Reason
-only_code_of pdu = if nat_lt 1 (length pdu) then Err reason.UndecodedData else Ok ReportServerId
+only_code_of pdu = if nat_lt code_pdu (length pdu) then Err reason.UndecodedData else Ok ReportServerId
 
 -- Mask Write Register (6.16): an address at place 1, the AND mask at place 3, the OR mask at place 5.
 unfoldable pub three_words_of : List ℕ → Result (ℕ × ℕ × ℕ) Reason

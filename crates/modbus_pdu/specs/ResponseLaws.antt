@@ -10,7 +10,7 @@ use Rattle.modbus_frame.specs.FunctionCodes as number
 use Rattle.modbus_pdu.specs.Coding.{Fits}
 use Rattle.modbus_pdu.specs.Fields.{packed_size}
 use Rattle.modbus_pdu.specs.Laws.{IsWord}
-use Rattle.modbus_pdu.specs.Limits.{two_words_pdu, three_words_pdu}
+use Rattle.modbus_pdu.specs.Limits.{code_pdu, two_words_pdu, three_words_pdu, read_head, server_id_head, identification_head}
 use Rattle.modbus_pdu.specs.RequestOf.{IsModelled}
 use Rattle.modbus_pdu.specs.ResponseOf.{response_of, response_result_of}
 use Rattle.modbus_pdu.specs.ResponsePdu.{response_pdu, exception_pdu}
@@ -57,16 +57,16 @@ ExceptionReadsBack e = function_number e.function < number.exception_bit → res
 
 -- How many bytes the PDU of a response has (sections 6.1 to 6.6, 6.11 to 6.13, 6.16, 6.17 and 6.21).
 abbrev pub response_size : Response → ℕ
-response_size (response.ReadCoils coils) = 2 + packed_size (length coils)
-response_size (response.ReadDiscreteInputs coils) = 2 + packed_size (length coils)
-response_size (response.ReadInputRegisters words) = 2 + 2 * length words
-response_size (response.ReadHoldingRegisters words) = 2 + 2 * length words
-response_size (response.ReadWriteMultipleRegisters words) = 2 + 2 * length words
+response_size (response.ReadCoils coils) = read_head + packed_size (length coils)
+response_size (response.ReadDiscreteInputs coils) = read_head + packed_size (length coils)
+response_size (response.ReadInputRegisters words) = read_head + 2 * length words
+response_size (response.ReadHoldingRegisters words) = read_head + 2 * length words
+response_size (response.ReadWriteMultipleRegisters words) = read_head + 2 * length words
 response_size (response.WriteSingleCoil address coil) = two_words_pdu
 response_size (response.WriteSingleRegister address word) = two_words_pdu
 response_size (response.WriteMultipleCoils address quantity) = two_words_pdu
 response_size (response.WriteMultipleRegisters address quantity) = two_words_pdu
-response_size (response.ReportServerId id run extra) = 4 + length extra
+response_size (response.ReportServerId id run extra) = server_id_head + length extra
 response_size (response.MaskWriteRegister address and_mask or_mask) = three_words_pdu
-response_size (response.ReadDeviceIdentification found) = 7 + sum_by (λ object. 2 + length object.value) found.device_id_objects
-response_size (response.Custom code bytes) = 1 + length bytes
+response_size (response.ReadDeviceIdentification found) = identification_head + sum_by (λ object. 2 + length object.value) found.device_id_objects
+response_size (response.Custom code bytes) = code_pdu + length bytes

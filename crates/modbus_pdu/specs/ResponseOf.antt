@@ -13,7 +13,7 @@ use Rattle.modbus_frame.specs.declared.response.Response.TheVariants as response
 use Rattle.modbus_frame.specs.declared.response.ExceptionResponse.{ExceptionResponse}
 use Rattle.modbus_frame.specs.Codes.{function_of, exception_of, level_of}
 use Rattle.modbus_frame.specs.FunctionCodes as number
-use Rattle.modbus_pdu.specs.Limits.{max_pdu, mei_device_identification}
+use Rattle.modbus_pdu.specs.Limits.{max_pdu, mei_device_identification, one_byte_pdu, read_head, server_id_head, identification_head}
 use Rattle.modbus_pdu.specs.Fields.{words_of, coils_of}
 use Rattle.modbus_pdu.specs.Decoding.{◌>>=◌, read_code_or}
 use Rattle.modbus_pdu.specs.ResponsePdu.{flag}
@@ -25,10 +25,10 @@ unfoldable pub coils_read_of : List ℕ → Result (List Bool) Reason
 coils_read_of pdu =
     let count = slice_index pdu 1 in
     if nat_lt max_pdu (length pdu) then Err reason.SizeExceeded
-    else if nat_lt (length pdu) 2 then Err reason.UnexpectedEnd
-    else if nat_lt (length pdu) (2 + count) then Err reason.TooShort
-    else if nat_lt (2 + count) (length pdu) then Err reason.UndecodedData
-    else Ok (coils_of (drop 2 pdu) (8 * count))
+    else if nat_lt (length pdu) read_head then Err reason.UnexpectedEnd
+    else if nat_lt (length pdu) (read_head + count) then Err reason.TooShort
+    else if nat_lt (read_head + count) (length pdu) then Err reason.UndecodedData
+    else Ok (coils_of (drop read_head pdu) (8 * count))
 
 -- Read Holding Registers, Read Input Registers, Read/Write Multiple Registers: at most `max_pdu` bytes;
 -- the byte count at place 1, which is even, and exactly so many bytes of words (sections 6.3, 6.4, 6.17)
@@ -36,11 +36,11 @@ unfoldable pub words_read_of : List ℕ → Result (List ℕ) Reason
 words_read_of pdu =
     let count = slice_index pdu 1 in
     if nat_lt max_pdu (length pdu) then Err reason.SizeExceeded
-    else if nat_lt (length pdu) 2 then Err reason.UnexpectedEnd
+    else if nat_lt (length pdu) read_head then Err reason.UnexpectedEnd
     else if count % 2 == 1 then Err reason.InvalidQuantity
-    else if nat_lt (length pdu) (2 + count) then Err reason.UnexpectedEnd
-    else if nat_lt (2 + count) (length pdu) then Err reason.UndecodedData
-    else Ok (words_of (drop 2 pdu) (count / 2))
+    else if nat_lt (length pdu) (read_head + count) then Err reason.UnexpectedEnd
+    else if nat_lt (read_head + count) (length pdu) then Err reason.UndecodedData
+    else Ok (words_of (drop read_head pdu) (count / 2))
 
 -- the run indicator: FF is on, 00 is off (section 6.13)
 abbrev pub run_status_of : ℕ → Result Bool Reason
@@ -55,13 +55,13 @@ unfoldable pub server_id_of : List ℕ → Result (ℕ × Bool × List ℕ) Reas
 server_id_of pdu =
     let count = slice_index pdu 1 in
     if nat_lt max_pdu (length pdu) then Err reason.SizeExceeded
-    else if nat_lt (length pdu) 2 then Err reason.UnexpectedEnd
+    else if nat_lt (length pdu) read_head then Err reason.UnexpectedEnd
     else if nat_lt count 2 then Err reason.TooShort
-    else if nat_lt (length pdu) 4 then Err reason.UnexpectedEnd
+    else if nat_lt (length pdu) server_id_head then Err reason.UnexpectedEnd
     else (run_status_of (slice_index pdu 3) >>= λ run.
-    if nat_lt (length pdu) (2 + count) then Err reason.UnexpectedEnd
-    else if nat_lt (2 + count) (length pdu) then Err reason.UndecodedData
-    else Ok (slice_index pdu 2, run, drop 4 pdu))
+    if nat_lt (length pdu) (read_head + count) then Err reason.UnexpectedEnd
+    else if nat_lt (read_head + count) (length pdu) then Err reason.UndecodedData
+    else Ok (slice_index pdu 2, run, drop server_id_head pdu))
 
 -- the value of the object at a place: so many bytes as the byte after its id tells
 abbrev pub value_at : List ℕ → ℕ → List ℕ
@@ -94,7 +94,7 @@ abbrev pub level_or : ℕ → Result ConformityLevel Reason
 level_or number = elim (level_of number) [ None ↦ Err (reason.InvalidConformity number) | Some level ↦ Ok level ]
 
 -- Read Device Identification: the MEI type at place 1; at most `max_pdu` bytes; the read code, the conformity level, FF where
--- more follows, the next object's id, the number of objects, and these from place 7 to the end
+-- more follows, the next object's id, the number of objects, and these to the end
 -- (sections 6.19, 6.21)
 unfoldable pub device_identification_of : List ℕ → Result ReadDeviceIdentificationResponse Reason
 device_identification_of pdu =
@@ -105,8 +105,8 @@ device_identification_of pdu =
     else (read_code_or (slice_index pdu 2) >>= λ code.
     if nat_lt (length pdu) 4 then Err reason.UnexpectedEnd
     else (level_or (slice_index pdu 3) >>= λ level.
-    if nat_lt (length pdu) 7 then Err reason.UnexpectedEnd
-    else (objects_at (slice_index pdu 6) 7 pdu >>= λ found.
+    if nat_lt (length pdu) identification_head then Err reason.UnexpectedEnd
+    else (objects_at (slice_index pdu 6) identification_head pdu >>= λ found.
     if nat_lt found.1 (length pdu) then Err reason.UndecodedData
     else Ok (record { read_code = code; conformity_level = level; more_follows = slice_index pdu 4 == flag true; next_object_id = slice_index pdu 5; device_id_objects = found.0 })))))
     else Err (reason.UnsupportedMei (slice_index pdu 1))
@@ -142,7 +142,7 @@ unfoldable pub exception_response_of : List ℕ → Result ExceptionResponse Rea
 exception_response_of pdu =
     if nat_lt (length pdu) 1 then Err reason.UnexpectedEnd
     else if nat_lt (slice_index pdu 0) number.exception_bit then Err (reason.InvalidFunction (slice_index pdu 0))
-    else if nat_lt (length pdu) 2 then Err reason.UnexpectedEnd
+    else if nat_lt (length pdu) one_byte_pdu then Err reason.UnexpectedEnd
     else Ok (record { function = function_of (slice_index pdu 0 - number.exception_bit); exception = exception_of (slice_index pdu 1) })
 
 -- what a server's PDU stands for: a response, or from the exception bit on an exception

@@ -6,17 +6,16 @@ ghost use Rattle.std.specs.Prelude.{◌≡◌, ◌+◌, ◌<◌, ◌≤◌, ◌+
 ghost use Rattle.bytes.specs.Filled.{UsesSpare};
 ghost use Rattle.modbus_frame.specs.Codes.{function_number};
 ghost use Rattle.modbus_frame.specs.FunctionCodes.{exception_bit};
+ghost use Rattle.modbus_pdu.specs.Limits.{one_byte_pdu};
 ghost use Rattle.modbus_pdu.specs.ResponseOf.{exception_response_of};
 ghost use Rattle.modbus_pdu.specs.ResponsePdu.{exception_pdu};
 
+use crate::limits::ONE_BYTE_PDU;
 use crate::writing::put_byte;
 use bytes::BytesMut;
 use modbus_frame::function_code::EXCEPTION_BIT;
 use modbus_frame::{ExceptionCode, ExceptionResponse, FunctionCode, Reason};
 use std::alloc::{AllocError, Global};
-
-/// How many bytes the PDU of an exception has.
-pub(crate) const EXCEPTION_SIZE: usize = 2;
 
 /// The exception of a PDU (section 7).
 ///
@@ -48,9 +47,9 @@ pub fn encode_exception_response_pdu(
     requires { function_number response.function < exception_bit }
     ensures ok { OnOk result (buf.new.items ≡ buf.old.items ++ exception_pdu response) }
     ensures err { OnErr result (buf.new.items ≡ buf.old.items) }
-    ensures spare { UsesSpare result buf.old.spare buf.new.spare 2 }
+    ensures spare { UsesSpare result buf.old.spare buf.new.spare one_byte_pdu }
 {
-    buf.reserve(EXCEPTION_SIZE)?;
+    buf.reserve(ONE_BYTE_PDU)?;
     put_exception(buf, response);
     Ok(())
 }
@@ -58,9 +57,9 @@ pub fn encode_exception_response_pdu(
 /// Appends the PDU of an exception, where the buffer has room for it.
 pub(crate) fn put_exception(buf: &mut BytesMut, response: ExceptionResponse)
     requires function { function_number response.function < exception_bit }
-    requires room { EXCEPTION_SIZE ≤ buf.old.spare }
+    requires room { one_byte_pdu ≤ buf.old.spare }
     ensures items { buf.new.items ≡ buf.old.items ++ exception_pdu response }
-    ensures spare { buf.new.spare + EXCEPTION_SIZE ≡ buf.old.spare }
+    ensures spare { buf.new.spare + one_byte_pdu ≡ buf.old.spare }
 {
     put_byte(buf, response.function.value() + EXCEPTION_BIT);
     put_byte(buf, response.exception.into());

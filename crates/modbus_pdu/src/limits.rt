@@ -31,6 +31,15 @@ pub const MAX_READ_WRITE_REGISTERS: usize = 121;
 /// The MEI type of device identification (V1.1b3, section 6.21).
 pub const MEI_DEVICE_IDENTIFICATION: u8 = 0x0E;
 
+/// The bytes of the PDU of a function code alone (V1.1b3, sections 6.7, 6.9, 6.10 and 6.13).
+pub const CODE_PDU: usize = 1;
+
+/// The bytes of the PDU of a function code and a byte: an exception (V1.1b3, section 7), or a status (section 6.7).
+pub const ONE_BYTE_PDU: usize = 2;
+
+/// The bytes of the PDU of a function code and a word: an address (V1.1b3, section 6.18).
+pub const ONE_WORD_PDU: usize = 3;
+
 /// The bytes of the PDU of a function code and two words: an address, and a quantity or a value (V1.1b3, sections 6.1 to 6.6; of a
 /// response, sections 6.5, 6.6, 6.11 and 6.12).
 pub const TWO_WORDS_PDU: usize = 5;
@@ -48,6 +57,16 @@ pub const READ_WRITE_HEAD: usize = 10;
 
 /// The bytes of the PDU of a request for device identification (V1.1b3, section 6.21).
 pub const IDENTIFICATION_REQUEST: usize = 4;
+
+/// The bytes before the coils, registers or other data of a response: the function code and the byte count (V1.1b3, sections 6.1 to
+/// 6.4 and 6.17).
+pub const READ_HEAD: usize = 2;
+
+/// The bytes before the data of a server: the function code, the byte count, an id and the run indicator (V1.1b3, section 6.13).
+pub(crate) const SERVER_ID_HEAD: usize = 4;
+
+/// The bytes before the objects of a device identification, the last of which is their number (V1.1b3, section 6.21).
+pub const IDENTIFICATION_HEAD: usize = 7;
 
 /// The byte of a run indicator that is on, and of a more follows that is true (V1.1b3, sections 6.13 and 6.21).
 pub(crate) const FLAG_ON: u8 = 0xFF;

@@ -8,7 +8,7 @@ ghost use Rattle.modbus_pdu.specs.RequestPdu.{counted_registers, request_pdu};
 
 use crate::coils::{bool_to_coil, packed_coils_size, put_packed_coils};
 use crate::limits::{
-    IDENTIFICATION_REQUEST, MEI_DEVICE_IDENTIFICATION, READ_WRITE_HEAD, THREE_WORDS_PDU,
+    CODE_PDU, IDENTIFICATION_REQUEST, MEI_DEVICE_IDENTIFICATION, READ_WRITE_HEAD, THREE_WORDS_PDU,
     TWO_WORDS_PDU, TooLong, WRITE_HEAD, within_limit,
 };
 use crate::writing::{put_byte, put_word, put_words};
@@ -66,14 +66,14 @@ fn request_len(request: &Request<'_>) -> usize
             .len()
             .saturating_mul(2)
             .saturating_add(WRITE_HEAD),
-        Request::ReportServerId => 1,
+        Request::ReportServerId => CODE_PDU,
         Request::MaskWriteRegister(_, _, _) => THREE_WORDS_PDU,
         Request::ReadWriteMultipleRegisters(_, _, _, registers) => registers
             .len()
             .saturating_mul(2)
             .saturating_add(READ_WRITE_HEAD),
         Request::ReadDeviceIdentification(_, _) => IDENTIFICATION_REQUEST,
-        Request::Custom(_, data) => data.len().saturating_add(1),
+        Request::Custom(_, data) => data.len().saturating_add(CODE_PDU),
     }
 }
 

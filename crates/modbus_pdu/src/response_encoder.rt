@@ -16,10 +16,10 @@ ghost use Rattle.modbus_pdu.specs.Writing.{words};
 ghost use Rattle.modbus_pdu.specs.ResponsePdu.{flag, objects, device_identification_pdu, response_pdu, response_result_pdu};
 
 use crate::coils::{bool_to_coil, packed_coils_size, put_packed_coils};
-use crate::exception::{EXCEPTION_SIZE, encode_exception_response_pdu, put_exception};
+use crate::exception::{encode_exception_response_pdu, put_exception};
 use crate::limits::{
-    FLAG_OFF, FLAG_ON, MEI_DEVICE_IDENTIFICATION, THREE_WORDS_PDU, TWO_WORDS_PDU, TooLong,
-    within_limit,
+    CODE_PDU, FLAG_OFF, FLAG_ON, IDENTIFICATION_HEAD, MEI_DEVICE_IDENTIFICATION, ONE_BYTE_PDU,
+    READ_HEAD, SERVER_ID_HEAD, THREE_WORDS_PDU, TWO_WORDS_PDU, TooLong, within_limit,
 };
 use crate::writing::{put_byte, put_word, put_words};
 use bytes::BytesMut;
@@ -50,24 +50,27 @@ fn response_len(response: &Response) -> usize
     match response {
         Response::ReadCoils(coils) | Response::ReadDiscreteInputs(coils) => packed_coils_size(
             coils.as_slice(),
-        ).saturating_add(2),
+        ).saturating_add(READ_HEAD),
         Response::ReadInputRegisters(words)
         | Response::ReadHoldingRegisters(words)
         | Response::ReadWriteMultipleRegisters(words) => words
             .as_slice()
             .len()
             .saturating_mul(2)
-            .saturating_add(2),
+            .saturating_add(READ_HEAD),
         Response::WriteSingleCoil(_, _)
         | Response::WriteMultipleCoils(_, _)
         | Response::WriteSingleRegister(_, _)
         | Response::WriteMultipleRegisters(_, _) => TWO_WORDS_PDU,
-        Response::ReportServerId(_, _, extra) => extra.as_slice().len().saturating_add(4),
+        Response::ReportServerId(_, _, extra) => extra
+            .as_slice()
+            .len()
+            .saturating_add(SERVER_ID_HEAD),
         Response::MaskWriteRegister(_, _, _) => THREE_WORDS_PDU,
         Response::ReadDeviceIdentification(found) => objects_len(
             found.device_id_objects.as_slice(),
-        ).saturating_add(7),
-        Response::Custom(_, data) => data.len().saturating_add(1),
+        ).saturating_add(IDENTIFICATION_HEAD),
+        Response::Custom(_, data) => data.len().saturating_add(CODE_PDU),
     }
 }
 
@@ -97,7 +100,7 @@ pub fn response_result_pdu_size(
 {
     match answer {
         Ok(response) => response_pdu_size(response),
-        Err(_) => Ok(EXCEPTION_SIZE),
+        Err(_) => Ok(ONE_BYTE_PDU),
     }
 }
 
