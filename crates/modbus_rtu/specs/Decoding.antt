@@ -1,6 +1,5 @@
 -- What the decoders take out of a buffer, and what then stands in it and in the record of dropped bytes.
 use Rattle.std.specs.Prelude.{◌≡◌, ◌≢◌, ℕ, ◌+◌, ◌*◌, ◌<◌, ◌≤◌, ◌⊎◌, if◌then◌else◌, nat_lt, List, [], ◌∷◌, ◌++◌, fold, length, take, drop, slice_index, Option, Some, None, Result, Ok, Err, IsOkAnd}
-use Rattle.modbus_rtu.specs.declared.search.TheConstants.{TRIES}
 use Rattle.modbus_frame.specs.declared.fault.Reason.{Reason}
 use Rattle.modbus_frame.specs.declared.fault.PduError.{PduError}
 use Rattle.modbus_frame.specs.declared.fault.PduError.TheVariants as pdu_errors
@@ -12,10 +11,11 @@ use Rattle.modbus_rtu.specs.declared.inbox.RtuError.{RtuError}
 use Rattle.modbus_rtu.specs.declared.inbox.RtuError.TheVariants as errors
 use Rattle.modbus_rtu.specs.Checksum.{crc}
 use Rattle.modbus_rtu.specs.Next.{IsNextBy}
+use Rattle.modbus_rtu.specs.Limits.{overhead, max_retries, max_dropped}
 
--- The record after a byte is dropped. It has at most 256 bytes: a full one is emptied first.
+-- The record after a byte is dropped. It has at most `max_dropped` bytes: a full one is emptied first.
 abbrev pub recorded : List ℕ → ℕ → List ℕ
-recorded dropped byte = if nat_lt (length dropped) 256 then dropped ++ byte ∷ [] else byte ∷ []
+recorded dropped byte = if nat_lt (length dropped) max_dropped then dropped ++ byte ∷ [] else byte ∷ []
 
 -- the record after these bytes are dropped one after another
 abbrev pub all_recorded : List ℕ → List ℕ → List ℕ
@@ -37,23 +37,23 @@ sum_sent n bytes = slice_index bytes (n + 1) + 256 * slice_index bytes (n + 2)
 -- changes: where the frame isn't whole, where its checksum is wrong, and where memory is wanting for it.
 abbrev pub DecodesFrame : ℕ → List ℕ → List ℕ → Result (Option (ℕ × List ℕ)) FrameFault → List ℕ → List ℕ → Type 0
 DecodesFrame n old before (Ok (Some frame)) new after =
-    (n + 3 ≤ length old) × (sum_made n old ≡ sum_sent n old) × (frame ≡ frame_of n old) × (new ≡ drop (n + 3) old) × (after ≡ [])
-DecodesFrame n old before (Ok None) new after = (length old < n + 3) × (new ≡ old) × (after ≡ before)
+    (n + overhead ≤ length old) × (sum_made n old ≡ sum_sent n old) × (frame ≡ frame_of n old) × (new ≡ drop (n + overhead) old) × (after ≡ [])
+DecodesFrame n old before (Ok None) new after = (length old < n + overhead) × (new ≡ old) × (after ≡ before)
 DecodesFrame n old before (Err (fault.Crc mismatch)) new after =
-    (n + 3 ≤ length old) × (sum_made n old ≢ sum_sent n old) × (mismatch.expected ≡ sum_sent n old) × (mismatch.actual ≡ sum_made n old) × (new ≡ old) × (after ≡ before)
+    (n + overhead ≤ length old) × (sum_made n old ≢ sum_sent n old) × (mismatch.expected ≡ sum_sent n old) × (mismatch.actual ≡ sum_made n old) × (new ≡ old) × (after ≡ before)
 DecodesFrame n old before (Err fault.NoMemory) new after =
-    (n + 3 ≤ length old) × (sum_made n old ≡ sum_sent n old) × (new ≡ old) × (after ≡ before)
+    (n + overhead ≤ length old) × (sum_made n old ≡ sum_sent n old) × (new ≡ old) × (after ≡ before)
 
 -- The same of a decoder that looks for the next frame, by what judges the bytes from an offset on. The frame is given with all bytes
--- before it; where the search waits, the bad offsets before the open one are dropped; twenty bad offsets are dropped too. Where
+-- before it; where the search waits, the bad offsets before the open one are dropped; `max_retries` bad offsets are dropped too. Where
 -- memory is wanting for a frame, the bad offsets before it are dropped, and it stays.
 abbrev pub DecodesBy : (List ℕ → Verdict) → List ℕ → List ℕ → Result (Option (ℕ × List ℕ)) RtuError → List ℕ → List ℕ → Type 0
 DecodesBy judge old before (Ok (Some frame)) new after =
-    (start : ℕ) × (n : ℕ) × IsNextBy judge old (Frame start n) × (frame ≡ (slice_index old start, take n (drop (start + 1) old))) × (new ≡ drop (start + (n + 3)) old) × (after ≡ [])
+    (start : ℕ) × (n : ℕ) × IsNextBy judge old (Frame start n) × (frame ≡ (slice_index old start, take n (drop (start + 1) old))) × (new ≡ drop (start + (n + overhead)) old) × (after ≡ [])
 DecodesBy judge old before (Ok None) new after =
     (bad : ℕ) × IsNextBy judge old (Waiting bad) × (new ≡ drop bad old) × (after ≡ all_recorded before (take bad old))
 DecodesBy judge old before (Err errors.TooManyRetries) new after =
-    IsNextBy judge old TooManyRetries × (new ≡ drop TRIES old) × (after ≡ all_recorded before (take TRIES old))
+    IsNextBy judge old TooManyRetries × (new ≡ drop max_retries old) × (after ≡ all_recorded before (take max_retries old))
 DecodesBy judge old before (Err (errors.Invalid reason)) new after = ⊥
 DecodesBy judge old before (Err errors.NoMemory) new after =
     (start : ℕ) × (n : ℕ) × IsNextBy judge old (Frame start n) × (new ≡ drop start old) × (after ≡ all_recorded before (take start old))
@@ -68,13 +68,13 @@ error_of pdu_errors.NoMemory = errors.NoMemory
 -- wanting for what its PDU stands for, which is then something that carries memory.
 abbrev pub ReadsBy : {A M : Type 0} → (List ℕ → Verdict) → (List ℕ → Result M Reason) → (M → Type 0) → (A → ℕ) → (A → M) → List ℕ → Result (Option A) RtuError → List ℕ → Type 0
 ReadsBy judge read carries slave meaning old (Ok (Some adu)) new =
-    (start : ℕ) × (n : ℕ) × IsNextBy judge old (Frame start n) × (slave adu ≡ slice_index old start) × (read (take n (drop (start + 1) old)) ≡ Ok (meaning adu)) × (new ≡ drop (start + (n + 3)) old)
+    (start : ℕ) × (n : ℕ) × IsNextBy judge old (Frame start n) × (slave adu ≡ slice_index old start) × (read (take n (drop (start + 1) old)) ≡ Ok (meaning adu)) × (new ≡ drop (start + (n + overhead)) old)
 ReadsBy judge read carries slave meaning old (Ok None) new =
     (bad : ℕ) × IsNextBy judge old (Waiting bad) × (new ≡ drop bad old)
 ReadsBy judge read carries slave meaning old (Err errors.TooManyRetries) new =
-    IsNextBy judge old TooManyRetries × (new ≡ drop TRIES old)
+    IsNextBy judge old TooManyRetries × (new ≡ drop max_retries old)
 ReadsBy judge read carries slave meaning old (Err (errors.Invalid reason)) new =
-    (start : ℕ) × (n : ℕ) × IsNextBy judge old (Frame start n) × (read (take n (drop (start + 1) old)) ≡ Err reason) × (new ≡ drop (start + (n + 3)) old)
+    (start : ℕ) × (n : ℕ) × IsNextBy judge old (Frame start n) × (read (take n (drop (start + 1) old)) ≡ Err reason) × (new ≡ drop (start + (n + overhead)) old)
 ReadsBy judge read carries slave meaning old (Err errors.NoMemory) new =
     (start : ℕ) × (n : ℕ) × IsNextBy judge old (Frame start n)
-    × ((new ≡ drop start old) ⊎ (IsOkAnd (read (take n (drop (start + 1) old))) carries × (new ≡ drop (start + (n + 3)) old)))
+    × ((new ≡ drop start old) ⊎ (IsOkAnd (read (take n (drop (start + 1) old))) carries × (new ≡ drop (start + (n + overhead)) old)))

@@ -4,7 +4,10 @@ use Rattle.std.specs.Option.{option_map}
 use Rattle.modbus_rtu.specs.declared.length.NoLength.{NoLength}
 use Rattle.modbus_rtu.specs.declared.verdict.Verdict.{Verdict}
 use Rattle.modbus_rtu.specs.declared.verdict.Verdict.TheVariants.{Open, Bad, Good}
+use Rattle.modbus_frame.specs.FunctionCodes as number
+use Rattle.modbus_pdu.specs.Limits.{mei_device_identification, code_pdu, one_word_pdu, two_words_pdu, three_words_pdu, write_head, read_write_head, identification_request}
 use Rattle.modbus_rtu.specs.Checksum.{crc}
+use Rattle.modbus_rtu.specs.Limits.{overhead}
 
 -- The slave address, the PDU, and the checksum of both with its low byte first (MODBUS over Serial Line V1.02, section 2.5.1).
 unfoldable pub frame : ℕ → List ℕ → List ℕ
@@ -14,22 +17,26 @@ frame slave pdu = let sum = crc (slave ∷ pdu) in slave ∷ pdu ++ sum % 256 �
 -- code stands at place 1.
 pub data Rule : Type 0 where
   fixed : ℕ → Rule
-  -- so many, and the byte at that place
+  -- so many, the last of which is a byte count, and as many as it says. The slave address moves it on to that place
   counted : ℕ → Rule
-  -- 4 where the MEI type at place 2 is 0E, that of device identification; no length for another type
+  -- by the MEI type at place 2: a length where it is that of device identification, and none for another type
   identification : Rule
   unknown : Rule
 
 -- The rule of a function code (Modbus Application Protocol V1.1b3, section 6).
 unfoldable pub rule : ℕ → Rule
 rule code =
-    if nat_le 0x01 code && nat_le code 0x06 then fixed 5 else
-    if code == 0x07 || code == 0x0B || code == 0x0C || code == 0x11 then fixed 1 else
-    if code == 0x0F || code == 0x10 then counted 6 else
-    if code == 0x16 then fixed 7 else
-    if code == 0x17 then counted 10 else
-    if code == 0x18 then fixed 3 else
-    if code == 0x2B then identification else
+    if code == number.read_coils || code == number.read_discrete_inputs || code == number.read_holding_registers
+    || code == number.read_input_registers || code == number.write_single_coil || code == number.write_single_register
+    then fixed two_words_pdu else
+    if code == number.read_exception_status || code == number.get_comm_event_counter || code == number.get_comm_event_log
+    || code == number.report_server_id
+    then fixed code_pdu else
+    if code == number.write_multiple_coils || code == number.write_multiple_registers then counted write_head else
+    if code == number.mask_write_register then fixed three_words_pdu else
+    if code == number.read_write_multiple_registers then counted read_write_head else
+    if code == number.read_fifo_queue then fixed one_word_pdu else
+    if code == number.encapsulated_interface_transport then identification else
     unknown
 
 -- The head of a PDU: its length; `Ok None` where a byte that the rule needs is missing; `Err` where there is none.
@@ -38,7 +45,7 @@ Head = Result (Option ℕ) NoLength
 
 abbrev pub identified : ℕ → Option ℕ → Head
 identified code None = Ok None
-identified code (Some mei) = if mei == 0x0E then Ok (Some 4) else Err (record { 0 = code })
+identified code (Some mei) = if mei == mei_device_identification then Ok (Some identification_request) else Err (record { 0 = code })
 
 abbrev pub head_by : ℕ → List ℕ → Rule → Head
 head_by code adu (fixed n) = Ok (Some n)
@@ -60,7 +67,7 @@ abbrev pub verdict_by : List ℕ → Head → Verdict
 verdict_by adu (Ok None) = Open
 verdict_by adu (Err no_length) = Bad
 verdict_by adu (Ok (Some n)) =
-    if nat_lt (length adu) (n + 3) then Open else
+    if nat_lt (length adu) (n + overhead) then Open else
     if crc (take (n + 1) adu) == slice_index adu (n + 1) + 256 * slice_index adu (n + 2) then Good n else Bad
 
 -- the same, by a rule that gives the head of a list

@@ -1,7 +1,5 @@
 -- What stands at the front of the bytes that a reader holds.
 use Rattle.std.specs.Prelude.{◌≡◌, ℕ, ◌+◌, ◌<◌, ◌≤◌, List, [], ◌∷◌, ◌++◌, length, take, drop, slice_index, Result, Ok, Err}
-use Rattle.modbus_rtu.specs.declared.search.TheConstants.{TRIES}
-use Rattle.modbus_rtu.specs.declared.length.TheConstants.{CAPACITY}
 use Rattle.modbus_rtu.specs.declared.verdict.Verdict.TheVariants.{Open}
 use Rattle.modbus_rtu.specs.declared.search.Next.TheVariants as next
 use Rattle.modbus_rtu.specs.declared.front.Front.{Front}
@@ -10,14 +8,15 @@ use Rattle.modbus_rtu.specs.declared.front.Crowd.{Crowd}
 use Rattle.modbus_rtu.specs.Frame.{verdict}
 use Rattle.modbus_rtu.specs.Next.{IsNext}
 use Rattle.modbus_rtu.specs.Stands.{StandsFor, IsTakenNext, IsFirstCrowd, IsUsedUp}
+use Rattle.modbus_rtu.specs.Limits.{overhead, capacity, max_retries}
 
 -- The next frame, which lies within the held bytes; or so many bad offsets before an open one, with fewer bytes from there on than
--- the longest frame has; or twenty bad offsets.
+-- the longest frame has; or `max_retries` bad offsets.
 abbrev pub Finds : List ℕ → Result Front Crowd → Type 0
 Finds held (Ok (front.Frame slave pdu end)) =
-    (start : ℕ) × (n : ℕ) × IsNext held (next.Frame start n) × (slave ≡ slice_index held start) × (pdu.now ≡ take n (drop (start + 1) held)) × (end ≡ start + (n + 3)) × (end ≤ length held)
-Finds held (Ok (front.Waiting dropped)) = IsNext held (next.Waiting dropped) × (dropped ≤ length held) × (length held < dropped + CAPACITY)
-Finds held (Err crowd) = IsNext held next.TooManyRetries × (TRIES ≤ length held)
+    (start : ℕ) × (n : ℕ) × IsNext held (next.Frame start n) × (slave ≡ slice_index held start) × (pdu.now ≡ take n (drop (start + 1) held)) × (end ≡ start + (n + overhead)) × (end ≤ length held)
+Finds held (Ok (front.Waiting dropped)) = IsNext held (next.Waiting dropped) × (dropped ≤ length held) × (length held < dropped + capacity)
+Finds held (Err crowd) = IsNext held next.TooManyRetries × (max_retries ≤ length held)
 
 -- what this says of the bytes that were given so far, and what the bytes behind it then stand for
 abbrev pub FindsIn : List ℕ → List ℕ → List (ℕ × List ℕ) → List ℕ → Result Front Crowd → Type 0

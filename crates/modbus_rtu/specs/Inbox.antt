@@ -1,6 +1,5 @@
 -- What one call of an inbox does.
 use Rattle.std.specs.Prelude.{◌≡◌, ℕ, ◌+◌, List, [], ◌∷◌, ◌++◌, take, drop, slice_index, Option, Some, None, Result, Ok, Err}
-use Rattle.modbus_rtu.specs.declared.search.TheConstants.{TRIES}
 use Rattle.modbus_rtu.specs.declared.verdict.Verdict.TheVariants.{Open}
 use Rattle.modbus_rtu.specs.declared.search.Next.TheVariants.{Frame, Waiting, TooManyRetries}
 use Rattle.modbus_rtu.specs.declared.inbox.RtuFrame.{RtuFrame}
@@ -9,18 +8,19 @@ use Rattle.modbus_rtu.specs.declared.inbox.RtuError.TheVariants as errors
 use Rattle.modbus_rtu.specs.Frame.{verdict}
 use Rattle.modbus_rtu.specs.Next.{IsNext}
 use Rattle.modbus_rtu.specs.Stands.{StandsFor, IsFirstCrowd, IsUsedUp}
+use Rattle.modbus_rtu.specs.Limits.{overhead, max_retries}
 
 -- the slave address and the PDU of a frame
 abbrev pub parts : RtuFrame → ℕ × List ℕ
 parts frame = (frame.slave, frame.pdu.items)
 
 -- From the bytes held before, what is answered, and the bytes held after: a frame is taken off with all bytes before it; where the
--- search waits, the bad offsets before the open one are dropped; twenty bad offsets are dropped too.
+-- search waits, the bad offsets before the open one are dropped; `max_retries` bad offsets are dropped too.
 abbrev pub TakesFrame : List ℕ → Result (Option RtuFrame) RtuError → List ℕ → Type 0
 TakesFrame old (Ok (Some frame)) new =
-    (start : ℕ) × (n : ℕ) × IsNext old (Frame start n) × (parts frame ≡ (slice_index old start, take n (drop (start + 1) old))) × (new ≡ drop (start + (n + 3)) old)
+    (start : ℕ) × (n : ℕ) × IsNext old (Frame start n) × (parts frame ≡ (slice_index old start, take n (drop (start + 1) old))) × (new ≡ drop (start + (n + overhead)) old)
 TakesFrame old (Ok None) new = (dropped : ℕ) × IsNext old (Waiting dropped) × (new ≡ drop dropped old)
-TakesFrame old (Err errors.TooManyRetries) new = IsNext old TooManyRetries × (new ≡ drop TRIES old)
+TakesFrame old (Err errors.TooManyRetries) new = IsNext old TooManyRetries × (new ≡ drop max_retries old)
 TakesFrame old (Err (errors.Invalid reason)) new = ⊥
 TakesFrame old (Err errors.NoMemory) new = ⊥
 

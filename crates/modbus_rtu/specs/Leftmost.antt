@@ -6,6 +6,7 @@ use Rattle.std.specs.Prelude.{◌≡◌, ◌≢◌, ℕ, ◌+◌, ◌<◌, ◌�
 use Rattle.std.specs.List.Sorted.{IsStrictlyIncreasing}
 use Rattle.modbus_rtu.specs.declared.verdict.Verdict.TheVariants.{Open, Good}
 use Rattle.modbus_rtu.specs.Frame.{verdict}
+use Rattle.modbus_rtu.specs.Limits.{overhead}
 
 -- a good offset, whatever the length of its PDU
 abbrev pub IsGood : List ℕ → ℕ → Type 0
@@ -13,7 +14,7 @@ IsGood bytes i = (n : ℕ) × (verdict bytes i ≡ Good n)
 
 -- i lies in the frame at f, after its first byte
 abbrev pub Covers : List ℕ → ℕ → ℕ → Type 0
-Covers bytes f i = (n : ℕ) × (verdict bytes f ≡ Good n) × (f < i) × (i < f + (n + 3))
+Covers bytes f i = (n : ℕ) × (verdict bytes f ≡ Good n) × (f < i) × (i < f + (n + overhead))
 
 -- none of these frames covers i
 abbrev pub IsUncovered : List ℕ → List ℕ → ℕ → Type 0

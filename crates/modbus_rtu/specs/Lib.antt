@@ -3,6 +3,7 @@ pub mod Frame
 pub mod ResponseHead
 pub mod Next
 pub mod Leftmost
+pub mod Limits
 pub mod Place
 pub mod Stands
 pub mod Framed

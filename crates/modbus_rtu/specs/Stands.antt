@@ -1,13 +1,13 @@
 -- What a reader that holds bytes stands for: the bytes that it was given so far, the cuts between its reads, and the frames that it
 -- gave away.
 use Rattle.std.specs.Prelude.{◌≡◌, ℕ, ◌+◌, ◌-◌, ◌<◌, ◌≤◌, List, map, take, drop, slice_index, Contains}
-use Rattle.modbus_rtu.specs.declared.search.TheConstants.{TRIES}
 use Rattle.modbus_link.specs.Reads.{last_cut_but_one, IsRead, AreCuts}
 use Rattle.modbus_rtu.specs.declared.verdict.Verdict.{Verdict}
 use Rattle.modbus_rtu.specs.declared.verdict.Verdict.TheVariants.{Open, Bad, Good}
 use Rattle.modbus_rtu.specs.Frame.{verdict}
 use Rattle.modbus_rtu.specs.Leftmost.{IsLeftmost}
 use Rattle.modbus_rtu.specs.Place.{IsCrowd, IsPlace, frames_below}
+use Rattle.modbus_rtu.specs.Limits.{max_retries}
 
 -- the slave address and the PDU of the frame at an offset
 abbrev pub pdu_len_of : Verdict → ℕ
@@ -22,16 +22,16 @@ frame_at bytes f = (slice_index bytes f, take (pdu_len_of (verdict bytes f)) (dr
 abbrev pub HasCrowd : List ℕ → List ℕ → ℕ → Type 0
 HasCrowd bytes cuts k = (b : ℕ) × (e : ℕ) × IsRead 0 cuts b e × IsCrowd (take b bytes) (take e bytes) k
 
--- The crowd at k is the first one, and the frames given away are those before its twentieth offset.
+-- The crowd at k is the first one, and the frames given away are those before its last offset.
 pub record IsFirstCrowd (bytes cuts : List ℕ) (taken : List (ℕ × List ℕ)) (k : ℕ) : Type 0 where
   pub crowd : HasCrowd bytes cuts k
   pub first : (j : ℕ) → HasCrowd bytes cuts j → k ≤ j
-  pub took : (frames : List ℕ) (stop : ℕ) → IsLeftmost bytes frames stop → taken ≡ map (frame_at bytes) (frames_below (k + (TRIES - 1)) frames)
+  pub took : (frames : List ℕ) (stop : ℕ) → IsLeftmost bytes frames stop → taken ≡ map (frame_at bytes) (frames_below (k + (max_retries - 1)) frames)
 
--- The frame that is given away after these is the next delivered one, and it begins below the twentieth offset of each crowd.
+-- The frame that is given away after these is the next delivered one, and it begins below the last offset of each crowd.
 pub record IsTakenNext (bytes cuts : List ℕ) (taken : List (ℕ × List ℕ)) (frame : ℕ × List ℕ) : Type 0 where
   pub offset : ℕ
-  pub calm : (k : ℕ) → HasCrowd bytes cuts k → offset < k + (TRIES - 1)
+  pub calm : (k : ℕ) → HasCrowd bytes cuts k → offset < k + (max_retries - 1)
   pub within : (frames : List ℕ) (stop : ℕ) → IsLeftmost bytes frames stop → Contains frames offset
   pub is : frame_at bytes offset ≡ frame
   pub earlier : (frames : List ℕ) (stop : ℕ) → IsLeftmost bytes frames stop → taken ≡ map (frame_at bytes) (frames_below offset frames)
@@ -52,5 +52,5 @@ pub record StandsFor (bytes cuts held : List ℕ) (taken : List (ℕ × List ℕ
   pub place : ℕ
   pub at : IsPlace (take (last_cut_but_one 0 cuts) bytes) bytes place
   pub holds : held ≡ drop place bytes
-  pub calm : (k : ℕ) → HasCrowd bytes cuts k → place < k + TRIES
+  pub calm : (k : ℕ) → HasCrowd bytes cuts k → place < k + max_retries
   pub took : (frames : List ℕ) (stop : ℕ) → IsLeftmost bytes frames stop → taken ≡ map (frame_at bytes) (frames_below place frames)

@@ -9,10 +9,11 @@ ghost use Rattle.modbus_pdu.specs.RequestOf.{CarriesList, request_of};
 ghost use Rattle.modbus_pdu.specs.ResponseOf.{AnswerCarriesMemory, response_result_of};
 ghost use Rattle.modbus_pdu.specs.RequestPdu.{request_pdu};
 ghost use Rattle.modbus_pdu.specs.ResponsePdu.{response_result_pdu};
-ghost use Rattle.modbus_rtu.specs.declared.length.TheConstants.{CAPACITY};
 ghost use Rattle.modbus_rtu.specs.Frame.{frame, verdict_of};
 ghost use Rattle.modbus_rtu.specs.ResponseHead.{response_verdict};
 ghost use Rattle.modbus_rtu.specs.Decoding.{ReadsBy};
+ghost use Rattle.modbus_frame.specs.FunctionCodes.{exception_bit};
+ghost use Rattle.modbus_rtu.specs.Limits.{capacity, longest_identification};
 
 use crate::decoder::{RequestDecoder, ResponseDecoder};
 use crate::encoder::{encode_request_frame, encode_response_frame};
@@ -43,10 +44,10 @@ impl ClientCodec {
     }
 
     /// Takes off the next frame of a response, with all bytes before it, and reads its PDU: a response or an exception. `None` where
-    /// there is no whole frame; the bytes that begin none are dropped, and fewer than 65545 bytes are left.
+    /// there is no whole frame; the bytes that begin none are dropped, and fewer than `LONGEST_IDENTIFICATION` bytes are left.
     ///
     /// # Errors
-    /// `TooManyRetries` exactly where no frame stands at the first twenty offsets; they are dropped. `Invalid` with the reason,
+    /// `TooManyRetries` exactly where no frame stands at the first `MAX_RETRIES` offsets; they are dropped. `Invalid` with the reason,
     /// exactly where the PDU of the next frame is refused; the frame is gone. `NoMemory` where memory is refused for a frame; then
     /// the bytes before it are gone, and it stays, or is gone too where its PDU is a response that carries a list or bytes.
     #[tactic(auto, unfolding(crate::specs::ResponseHead::response_verdict))]
@@ -56,7 +57,7 @@ impl ClientCodec {
         buf: &mut BytesMut,
     ) -> Result<Option<rtu::ResponseAdu>, RtuError>
         ensures reads { ReadsBy response_verdict response_result_of AnswerCarriesMemory (λ adu. adu.hdr.slave_id) (λ adu. adu.pdu.0) buf.old.items result buf.new.items }
-        ensures short { result ≡ Ok None → length buf.new.items < 65545 }
+        ensures short { result ≡ Ok None → length buf.new.items < longest_identification }
     {
         let Some((slave_id, pdu)) = self.decoder.decode(alloc, buf)? else {
             return Ok(None);
@@ -71,7 +72,7 @@ impl ClientCodec {
     /// Appends the frame of a request: its slave address, its PDU, and the checksum of both.
     ///
     /// # Errors
-    /// `TooLong` with the size of the PDU in bytes, exactly where that is above 253. `NoMemory` where memory is refused. The bytes
+    /// `TooLong` with the size of the PDU in bytes, exactly where that is above `MAX_PDU`. `NoMemory` where memory is refused. The bytes
     /// of the buffer are then as they were.
     pub fn encode(
         &mut self,
@@ -95,10 +96,10 @@ impl ServerCodec {
     }
 
     /// Takes off the next frame of a request, with all bytes before it, and reads its PDU. `None` where there is no whole frame; the
-    /// bytes that begin none are dropped, and fewer than 268 bytes are left.
+    /// bytes that begin none are dropped, and fewer than `CAPACITY` bytes are left.
     ///
     /// # Errors
-    /// `TooManyRetries` exactly where no frame stands at the first twenty offsets; they are dropped. `Invalid` with the reason,
+    /// `TooManyRetries` exactly where no frame stands at the first `MAX_RETRIES` offsets; they are dropped. `Invalid` with the reason,
     /// exactly where the PDU of the next frame is refused; the frame is gone. `NoMemory` where memory is refused for a frame; then
     /// the bytes before it are gone, and it stays, or is gone too where its PDU is a request that carries a list.
     #[tactic(auto, unfolding(crate::specs::Frame::verdict_of))]
@@ -108,7 +109,7 @@ impl ServerCodec {
         buf: &mut BytesMut,
     ) -> Result<Option<rtu::RequestAdu<'static>>, RtuError>
         ensures reads { ReadsBy verdict_of request_of CarriesList (λ adu. adu.hdr.slave_id) (λ adu. meaning adu.pdu.0) buf.old.items result buf.new.items }
-        ensures short { result ≡ Ok None → length buf.new.items < CAPACITY }
+        ensures short { result ≡ Ok None → length buf.new.items < capacity }
     {
         let Some((slave_id, pdu)) = self.decoder.decode(alloc, buf)? else {
             return Ok(None);
@@ -121,10 +122,10 @@ impl ServerCodec {
     }
 
     /// Appends the frame of a response or an exception: its slave address, its PDU, and the checksum of both. The function of an
-    /// exception is below 0x80.
+    /// exception is below `EXCEPTION_BIT`.
     ///
     /// # Errors
-    /// `TooLong` with the size of the PDU in bytes, exactly where that is above 253. `NoMemory` where memory is refused, only where the
+    /// `TooLong` with the size of the PDU in bytes, exactly where that is above `MAX_PDU`. `NoMemory` where memory is refused, only where the
     /// buffer had no room for the whole frame. The bytes of the buffer are then as they were.
     pub fn encode(
         &mut self,
@@ -132,7 +133,7 @@ impl ServerCodec {
         adu: rtu::ResponseAdu,
         buf: &mut BytesMut,
     ) -> Result<(), EncodeError>
-        requires { ForErr adu.pdu.0 (λ refusal. function_number refusal.function < 0x80) }
+        requires { ForErr adu.pdu.0 (λ refusal. function_number refusal.function < exception_bit) }
         ensures encodes { Encodes (frame adu.hdr.slave_id (response_result_pdu adu.pdu.0)) (response_result_pdu adu.pdu.0) buf.old.items result buf.new.items }
         ensures memory { result ≡ Err EncodeError.NoMemory → buf.old.spare < length (frame adu.hdr.slave_id (response_result_pdu adu.pdu.0)) }
         ensures kept { self.new ≡ self.old }

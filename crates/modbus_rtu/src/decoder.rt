@@ -6,12 +6,13 @@ ghost use Rattle.std.specs.Prelude.{◌≡◌, ℕ, ◌+◌, ◌<◌, ◌≤◌,
 ghost use Rattle.modbus_rtu.specs.Frame.{judged_by};
 ghost use Rattle.modbus_rtu.specs.Decoding.{recorded, all_recorded, frame_of, sum_made, sum_sent, DecodesFrame, DecodesBy};
 ghost use Rattle.modbus_rtu.specs.declared.decoder.FrameFault.TheVariants as fault;
+ghost use Rattle.modbus_rtu.specs.Limits.{overhead, max_dropped};
 
 use crate::crc::{CrcMismatch, check_crc};
 use crate::inbox::RtuError;
 use crate::length::{LengthRule, OVERHEAD, RequestRule};
 use crate::response_length::ResponseRule;
-use crate::search::{Next, TRIES, next_frame_by};
+use crate::search::{MAX_RETRIES, Next, next_frame_by};
 use arrayvec::ArrayVec;
 use bytes::{Bytes, BytesMut};
 use modbus_frame::SlaveId;
@@ -73,9 +74,9 @@ impl Default for FrameDecoder {
 
 /// Takes the frame off the front of a buffer: its slave address, and its PDU.
 fn take_frame(buf: &mut BytesMut, pdu_len: usize) -> Result<(SlaveId, Bytes), AllocError>
-    requires { pdu_len + 3 ≤ length buf.old.items }
+    requires { pdu_len + overhead ≤ length buf.old.items }
     ensures ok { IfOk result (λ frame. frame ≡ frame_of pdu_len buf.old.items) }
-    ensures rest { OnOk result (buf.new.items ≡ drop (pdu_len + 3) buf.old.items) }
+    ensures rest { OnOk result (buf.new.items ≡ drop (pdu_len + overhead) buf.old.items) }
     ensures err { OnErr result (buf.new.items ≡ buf.old.items) }
 {
     let slave = buf.as_slice()[0];
@@ -87,7 +88,7 @@ fn take_frame(buf: &mut BytesMut, pdu_len: usize) -> Result<(SlaveId, Bytes), Al
 
 /// Compares the checksum of a frame at the front of bytes with the one that it carries.
 fn check_frame(adu: &[u8], pdu_len: usize) -> Result<(), CrcMismatch>
-    requires { pdu_len + 3 ≤ length adu.now }
+    requires { pdu_len + overhead ≤ length adu.now }
     ensures variant { IsOk result ↔ (sum_made pdu_len adu.now ≡ sum_sent pdu_len adu.now) }
     ensures expected { IfErr result (λ mismatch. mismatch.expected ≡ sum_sent pdu_len adu.now) }
     ensures actual { IfErr result (λ mismatch. mismatch.actual ≡ sum_made pdu_len adu.now) }
@@ -109,7 +110,7 @@ impl FrameDecoder {
     /// The bytes that were dropped since the last frame was given, or since the record was full and so was emptied.
     pub fn dropped_bytes(&self) -> &[u8]
         ensures exact { result.now ≡ self.now }
-        ensures most { length result.now ≤ 256 }
+        ensures most { length result.now ≤ max_dropped }
     {
         self.dropped.as_slice()
     }
@@ -127,7 +128,7 @@ impl FrameDecoder {
         buf: &mut BytesMut,
         pdu_len: usize,
     ) -> Result<Option<(SlaveId, Bytes)>, FrameFault>
-        requires { pdu_len + 3 ≤ usize.MAX }
+        requires { pdu_len + overhead ≤ usize.MAX }
         ensures decodes { DecodesFrame pdu_len buf.old.items self.old result buf.new.items self.new }
     {
         if buf.len() < pdu_len + OVERHEAD {
@@ -139,7 +140,7 @@ impl FrameDecoder {
         Ok(Some(frame))
     }
 
-    /// Drops the first byte of the buffer, where no frame stands, and records it. A record of 256 bytes is emptied first.
+    /// Drops the first byte of the buffer, where no frame stands, and records it. A full record is emptied first.
     pub fn recover_on_error(&mut self, buf: &mut BytesMut)
         requires { 0 < length buf.old.items }
         ensures buffer { buf.new.items ≡ drop 1 buf.old.items }
@@ -175,7 +176,7 @@ impl FrameDecoder {
     {
         match next_frame_by(rule, buf.as_slice()) {
             Next::TooManyRetries => {
-                self.drop_bytes(buf, TRIES);
+                self.drop_bytes(buf, MAX_RETRIES);
                 Err(RtuError::TooManyRetries)
             }
             Next::Waiting { dropped } => {
@@ -199,10 +200,10 @@ pub struct Decoder<R> {
     frames: FrameDecoder,
 }
 
-/// Takes the frames of requests out of a buffer. Fewer than 268 bytes wait.
+/// Takes the frames of requests out of a buffer. Fewer than `CAPACITY` bytes wait.
 pub type RequestDecoder = Decoder<RequestRule>;
 
-/// Takes the frames of responses out of a buffer. Fewer than 65545 bytes wait.
+/// Takes the frames of responses out of a buffer. Fewer than `LONGEST_IDENTIFICATION` bytes wait.
 pub type ResponseDecoder = Decoder<ResponseRule>;
 
 /// A contract sees the recorded bytes.
@@ -235,20 +236,20 @@ impl<R: LengthRule + Default> Decoder<R> {
 }
 
 impl<R: LengthRule> Decoder<R> {
-    /// The bytes that were dropped since the last frame was given, or since the record of 256 bytes was full and so was emptied.
+    /// The bytes that were dropped since the last frame was given, or since the record was full and so was emptied.
     pub fn dropped_bytes(&self) -> &[u8]
         ensures exact { result.now ≡ self.now }
-        ensures most { length result.now ≤ 256 }
+        ensures most { length result.now ≤ max_dropped }
     {
         self.frames.dropped_bytes()
     }
 
-    /// Takes off the next frame, with all bytes before it: the first good offset after fewer than twenty bad ones. Gives its slave
+    /// Takes off the next frame, with all bytes before it: the first good offset after fewer than `MAX_RETRIES` bad ones. Gives its slave
     /// address and its PDU. `None` where an open offset comes first; the bad ones before it are dropped, and fewer bytes are left
     /// than the longest frame has that is waited for.
     ///
     /// # Errors
-    /// `TooManyRetries` exactly where the first twenty offsets are bad; they are dropped. `NoMemory` where memory is refused for a
+    /// `TooManyRetries` exactly where the first `MAX_RETRIES` offsets are bad; they are dropped. `NoMemory` where memory is refused for a
     /// frame; the bad offsets before it are dropped. `Invalid` never.
     pub fn decode(
         &mut self,

@@ -8,6 +8,7 @@ ghost use Rattle.modbus_pdu.specs.RequestPdu.{request_pdu};
 ghost use Rattle.modbus_pdu.specs.ResponsePdu.{response_result_pdu};
 ghost use Rattle.modbus_rtu.specs.Checksum.{crc};
 ghost use Rattle.modbus_rtu.specs.Frame.{frame};
+ghost use Rattle.modbus_frame.specs.FunctionCodes.{exception_bit};
 
 use crate::crc::calc_crc;
 use crate::length::OVERHEAD;
@@ -33,7 +34,7 @@ fn put_checksum(buf: &mut BytesMut, start: usize)
 /// Appends the frame of a request: its slave address, its PDU, and the checksum of both.
 ///
 /// # Errors
-/// `TooLong` with the size of the PDU in bytes, exactly where that is above 253. `NoMemory` where memory is refused. The bytes of
+/// `TooLong` with the size of the PDU in bytes, exactly where that is above `MAX_PDU`. `NoMemory` where memory is refused. The bytes of
 /// the buffer are then as they were.
 #[tactic(auto, unfolding(crate::specs::Frame::frame))]
 pub fn encode_request_frame(
@@ -54,10 +55,10 @@ pub fn encode_request_frame(
     Ok(())
 }
 
-/// Appends the frame of a response or an exception: its slave address, its PDU, and the checksum of both. The function of an exception is below 0x80.
+/// Appends the frame of a response or an exception: its slave address, its PDU, and the checksum of both. The function of an exception is below `EXCEPTION_BIT`.
 ///
 /// # Errors
-/// `TooLong` with the size of the PDU in bytes, exactly where that is above 253. `NoMemory` where memory is refused, only where the buffer
+/// `TooLong` with the size of the PDU in bytes, exactly where that is above `MAX_PDU`. `NoMemory` where memory is refused, only where the buffer
 /// had no room for the whole frame. The bytes of the buffer are then as they were.
 #[inline(always)]
 #[tactic(auto, unfolding(crate::specs::Frame::frame))]
@@ -67,7 +68,7 @@ pub fn encode_response_frame(
     answer: &Result<Response, ExceptionResponse>,
     buf: &mut BytesMut,
 ) -> Result<(), EncodeError>
-    requires { ForErr answer.now (λ refusal. function_number refusal.function < 0x80) }
+    requires { ForErr answer.now (λ refusal. function_number refusal.function < exception_bit) }
     ensures encodes { Encodes (frame slave (response_result_pdu answer.now)) (response_result_pdu answer.now) buf.old.items result buf.new.items }
     ensures memory { result ≡ Err EncodeError.NoMemory → buf.old.spare < length (frame slave (response_result_pdu answer.now)) }
 

@@ -1,6 +1,7 @@
 //! What stands at the front of the bytes that a reader holds: the next frame, lent from where it lies.
 ghost use Rattle.std.specs.Prelude.{◌≡◌, ◌+◌, ◌≤◌, ◌++◌, length};
 ghost use Rattle.modbus_rtu.specs.Front.{Finds};
+ghost use Rattle.modbus_rtu.specs.Limits.{capacity};
 
 use crate::length::{CAPACITY, OVERHEAD};
 use crate::search::{Next, next_frame};
@@ -22,7 +23,7 @@ pub enum Front<'a> {
     },
 }
 
-/// No frame stands at the first `TRIES` offsets.
+/// No frame stands at the first `MAX_RETRIES` offsets.
 #[derive(Clone, Copy, Debug, PartialEq, Eq)]
 pub struct Crowd;
 
@@ -44,7 +45,7 @@ pub(crate) fn find(held: &[u8]) -> Result<Front<'_>, Crowd>
 
 /// Copies two pieces of bytes one behind the other.
 fn join<'a>(first: &[u8], second: &[u8], seam: &'a mut [u8; CAPACITY]) -> &'a [u8]
-    requires { length first.now + length second.now ≤ CAPACITY }
+    requires { length first.now + length second.now ≤ capacity }
     ensures { result.now ≡ first.now ++ second.now }
 {
     let end = first.len() + second.len();
@@ -61,7 +62,7 @@ fn find_across<'a>(
     second: &[u8],
     seam: &'a mut [u8; CAPACITY],
 ) -> Result<Front<'a>, Crowd>
-    requires { length first.now + length second.now ≤ CAPACITY }
+    requires { length first.now + length second.now ≤ capacity }
     ensures { Finds (first.now ++ second.now) result }
 {
     find(join(first, second, seam))
@@ -76,7 +77,7 @@ pub(crate) fn find_in_two<'a>(
     second: &'a [u8],
     seam: &'a mut [u8; CAPACITY],
 ) -> Result<Front<'a>, Crowd>
-    requires { length first.now + length second.now ≤ CAPACITY }
+    requires { length first.now + length second.now ≤ capacity }
     ensures { Finds (first.now ++ second.now) result }
 {
     match find(first) {

@@ -9,10 +9,11 @@ ghost use Rattle.modbus_rtu.specs.Frame.{verdict};
 ghost use Rattle.modbus_rtu.specs.Stands.{StandsFor, IsTakenNext};
 ghost use Rattle.modbus_rtu.specs.Front.{Finds, FindsIn};
 ghost use Rattle.modbus_rtu.specs.Inbox.{parts, TakesFrame, StandsAfter};
+ghost use Rattle.modbus_rtu.specs.Limits.{most_pdu, capacity};
 
 use crate::front::{Crowd, Front, find_in_two};
 use crate::length::{CAPACITY, MOST_PDU};
-use crate::search::TRIES;
+use crate::search::MAX_RETRIES;
 use arrayvec::ArrayVec;
 use circular_buffer::HeapCircularBuffer;
 use modbus_frame::{PduError, Reason, SlaveId};
@@ -30,7 +31,7 @@ pub struct RtuFrame {
 /// Why no frame is given.
 #[derive(Clone, Copy, Debug, PartialEq, Eq)]
 pub enum RtuError {
-    /// No frame stands at `TRIES` offsets one after another.
+    /// No frame stands at `MAX_RETRIES` offsets one after another.
     TooManyRetries,
     /// The PDU of a frame is refused for this reason.
     Invalid(Reason),
@@ -57,7 +58,7 @@ impl From<PduError> for RtuError {
     }
 }
 
-/// The bytes that were read and not used yet, at most 268.
+/// The bytes that were read and not used yet, at most `CAPACITY`.
 ///
 /// They lie in a ring, whose room is taken when the inbox is opened, so no byte is moved when others are taken off.
 #[derive(Drop)]
@@ -67,22 +68,22 @@ pub struct Inbox {
 
 /// A contract sees the bytes that are held.
 impl Model for Inbox {
+    ghost use Rattle.modbus_rtu.specs.Limits.{capacity};
     ghost use Rattle.std.specs.Prelude.{◌≡◌, ℕ, ◌≤◌, List, length};
-    ghost use Rattle.modbus_rtu.specs.declared.length.TheConstants.{CAPACITY};
 
     ghost Value = { List ℕ };
 
     ghost view = { λ inbox. inbox.ring.items };
 
     ghost invariant = { λ inbox. record {
-      room : inbox.ring.capacity ≡ CAPACITY;
-      within : length inbox.ring.items ≤ CAPACITY;
+      room : inbox.ring.capacity ≡ capacity;
+      within : length inbox.ring.items ≤ capacity;
     } };
 }
 
 /// Copies the PDU of a frame.
 fn copy_pdu(pdu: &[u8]) -> ArrayVec<u8, MOST_PDU>
-    requires { length pdu.now ≤ MOST_PDU }
+    requires { length pdu.now ≤ most_pdu }
     ensures { result.items ≡ pdu.now }
 {
     match ArrayVec::try_from(pdu) {
@@ -122,7 +123,7 @@ impl Inbox {
     #[inline]
     pub fn held(&self) -> usize
         ensures exact { result ≡ length self.now }
-        ensures most { result ≤ CAPACITY }
+        ensures most { result ≤ capacity }
     {
         self.ring.len()
     }
@@ -130,8 +131,8 @@ impl Inbox {
     /// How many bytes fit behind those that are held: the room of the next read.
     #[inline]
     pub fn room(&self) -> usize
-        ensures exact { result ≡ CAPACITY - length self.now }
-        ensures most { length self.now ≤ CAPACITY }
+        ensures exact { result ≡ capacity - length self.now }
+        ensures most { length self.now ≤ capacity }
     {
         CAPACITY - self.held()
     }
@@ -146,7 +147,7 @@ impl Inbox {
 
     /// Appends bytes for which there is room.
     pub fn append(&mut self, piece: &[u8])
-        requires { length self.old + length piece.now ≤ CAPACITY }
+        requires { length self.old + length piece.now ≤ capacity }
         ensures { self.new ≡ self.old ++ piece.now }
     {
         self.ring.extend_from_slice(piece);
@@ -162,20 +163,20 @@ impl Inbox {
         self.ring.truncate_front(left);
     }
 
-    /// Reads from the source into a room of 268 bytes less those that are held, appends what it gave, and answers how many bytes that
+    /// Reads from the source into a room of `CAPACITY` bytes less those that are held, appends what it gave, and answers how many bytes that
     /// were: 0 exactly where the input has ended. It takes no memory.
     ///
     /// # Errors
     /// `Failed`, only where the source's count of faults rose; then nothing was read, and the same bytes are held.
     pub fn fill<S: Source>(&mut self, source: &mut S) -> Result<usize, Failed>
-        requires { length self.old < CAPACITY }
-        ensures reads { (piece : List ℕ) × ReadsPiece (S.input source.old) (S.input source.new) (CAPACITY - length self.old) piece result × (self.new ≡ self.old ++ piece) }
+        requires { length self.old < capacity }
+        ensures reads { (piece : List ℕ) × ReadsPiece (S.input source.old) (S.input source.new) (capacity - length self.old) piece result × (self.new ≡ self.old ++ piece) }
         ensures sink { S.output source.new ≡ S.output source.old }
         ensures cause { OnErr result (Rose (S.input source.old).faults (S.input source.new).faults) }
         ensures err { OnErr result (self.new ≡ self.old) }
 
         // Whatever the source tells, no more is held than fits.
-        ensures most { length self.new ≤ CAPACITY }
+        ensures most { length self.new ≤ capacity }
 
         // Where nothing can be taken off, what the inbox stands for goes on by the piece that was read.
         ensures stands { (piece : List ℕ) → self.new ≡ self.old ++ piece → 0 < length piece → (bytes cuts : List ℕ) (taken : List (ℕ × List ℕ)) → StandsFor bytes cuts self.old taken → verdict self.old 0 ≡ Open → StandsFor (bytes ++ piece) (cuts ++ length (bytes ++ piece) ∷ []) self.new taken }
@@ -188,16 +189,16 @@ impl Inbox {
     }
 
     /// What the search of the held bytes finds: the next frame, with its PDU lent from where it lies, or that bytes are waited for.
-    /// Nothing is taken off: `advance` by `end`, by `dropped`, or by `TRIES` in a crowd does that.
+    /// Nothing is taken off: `advance` by `end`, by `dropped`, or by `MAX_RETRIES` in a crowd does that.
     ///
     /// A frame that lies at the end of the ring and goes on at its front is copied to `seam`, and its PDU is lent from there.
     ///
     /// # Errors
-    /// `Crowd` exactly where no frame stands at the first `TRIES` offsets.
+    /// `Crowd` exactly where no frame stands at the first `MAX_RETRIES` offsets.
     #[inline(always)]
     pub fn front<'a>(&'a self, seam: &'a mut [u8; CAPACITY]) -> Result<Front<'a>, Crowd>
         ensures finds { Finds self.now result }
-        ensures most { length self.now ≤ CAPACITY }
+        ensures most { length self.now ≤ capacity }
 
         // In terms of all bytes that were given so far: which frame it is, and what the bytes behind it then stand for.
         ensures stands { (bytes cuts : List ℕ) (taken : List (ℕ × List ℕ)) → StandsFor bytes cuts self.now taken → FindsIn bytes cuts taken self.now result }
@@ -209,12 +210,12 @@ impl Inbox {
     /// The search, and what it takes off.
     fn take_next(&mut self) -> Result<Option<RtuFrame>, RtuError>
         ensures gives { TakesFrame self.old result self.new }
-        ensures room { IfOk result (λ found. IfNone found (length self.new < CAPACITY)) }
+        ensures room { IfOk result (λ found. IfNone found (length self.new < capacity)) }
     {
         let mut seam = [0; CAPACITY];
         match self.front(&mut seam) {
             Err(Crowd) => {
-                self.advance(TRIES);
+                self.advance(MAX_RETRIES);
                 Err(RtuError::TooManyRetries)
             }
             Ok(Front::Waiting { dropped }) => {
@@ -229,18 +230,18 @@ impl Inbox {
         }
     }
 
-    /// Takes off the next frame: the first good offset after fewer than twenty bad ones, with all bytes before it. `None` where
+    /// Takes off the next frame: the first good offset after fewer than `MAX_RETRIES` bad ones, with all bytes before it. `None` where
     /// an open offset comes first; the bad ones before it are dropped. It takes no memory.
     ///
     /// # Errors
-    /// `TooManyRetries` exactly where the first twenty offsets are bad, and these are dropped. `Invalid` and `NoMemory` never.
+    /// `TooManyRetries` exactly where the first `MAX_RETRIES` offsets are bad, and these are dropped. `Invalid` and `NoMemory` never.
     pub fn next(&mut self) -> Result<Option<RtuFrame>, RtuError>
         ensures gives { TakesFrame self.old result self.new }
         ensures causes { IfErr result (λ error. error ≡ RtuError.TooManyRetries) }
         ensures shrinks { IfOk result (λ found. IfSome found (λ frame. length self.new < length self.old)) }
 
         // Where there is no frame, a read has room, and what is held begins with the open offset.
-        ensures room { IfOk result (λ found. IfNone found (length self.new < CAPACITY)) }
+        ensures room { IfOk result (λ found. IfNone found (length self.new < capacity)) }
         ensures open { result ≡ Ok None → verdict self.new 0 ≡ Open }
 
         // In terms of all bytes that were given so far: which frame it is, and what the inbox then stands for.

@@ -3,7 +3,6 @@ ghost use Rattle.std.specs.Prelude.{◌*◌, ◌≡◌, ◌≢◌, ◌↔◌, �
 ghost use Rattle.std.specs.List.{AllByRecursion};
 ghost use Rattle.modbus_rtu.specs.declared.verdict.Verdict.{Verdict};
 ghost use Rattle.modbus_rtu.specs.declared.verdict.Verdict.TheVariants.{Open, Bad, Good};
-ghost use Rattle.modbus_rtu.specs.declared.search.TheConstants.{TRIES};
 ghost use Rattle.modbus_rtu.specs.declared.search.Next.{Next};
 ghost use Rattle.modbus_rtu.specs.declared.search.Next.TheVariants.{Frame, Waiting, TooManyRetries};
 ghost use Rattle.modbus_rtu.specs.declared.crc_table.TheConstants.{BYTE_SHIFTS};
@@ -17,6 +16,7 @@ ghost use Rattle.modbus_rtu.specs.Stands.{StandsFor, IsTakenNext, IsUsedUp, IsFi
 ghost use Rattle.modbus_rtu.specs.Quiet.{IsQuietLine};
 ghost use Rattle.modbus_frame.specs.Meaning.{Asked};
 ghost use Rattle.modbus_rtu.specs.Framed.{HasHead, IsModelledAsk, message_of, stream_of, IsWholeReading};
+ghost use Rattle.modbus_rtu.specs.Limits.{overhead, max_retries};
 
 /// The checksum goes by whole bytes: a byte's eight bit steps move the high half of the register down, and add what eight bit steps make
 /// of its low half and the byte (MODBUS over Serial Line V1.02, appendix B).
@@ -40,19 +40,19 @@ pub fn verdicts_stay()
 pub fn verdicts_by_offset()
     ensures from { (bytes : List ℕ) (start i : ℕ) → verdict (drop start bytes) i ≡ verdict bytes (start + i) }
     ensures end { (bytes : List ℕ) (i : ℕ) → length bytes ≤ i → verdict bytes i ≡ Open }
-    ensures whole { (bytes : List ℕ) (i n : ℕ) → verdict bytes i ≡ Good n → i + (n + 3) ≤ length bytes }
+    ensures whole { (bytes : List ℕ) (i n : ℕ) → verdict bytes i ≡ Good n → i + (n + overhead) ≤ length bytes }
 {}
 
 /// What stands at the front of bytes that are read as a response: nothing at all is open, and a frame lies within the bytes.
 pub fn responses_by_front()
     ensures end { response_verdict [] ≡ Open }
-    ensures whole { (bytes : List ℕ) (n : ℕ) → response_verdict bytes ≡ Good n → n + 3 ≤ length bytes }
+    ensures whole { (bytes : List ℕ) (n : ℕ) → response_verdict bytes ≡ Good n → n + overhead ≤ length bytes }
 {}
 
 /// The frame of a response whose first bytes tell its length is read whatever follows it, and each shorter front of it waits.
 pub fn responses_in_pieces()
     ensures frame { (slave : ℕ) (pdu more : List ℕ) → HasResponseHead (slave, pdu) → response_verdict (frame slave pdu ++ more) ≡ Good (length pdu) }
-    ensures front { (slave : ℕ) (pdu : List ℕ) (k : ℕ) → HasResponseHead (slave, pdu) → k < length pdu + 3 → response_verdict (take k (frame slave pdu)) ≡ Open }
+    ensures front { (slave : ℕ) (pdu : List ℕ) (k : ℕ) → HasResponseHead (slave, pdu) → k < length pdu + overhead → response_verdict (take k (frame slave pdu)) ≡ Open }
 {}
 
 /// Each list has exactly one leftmost reading.
@@ -88,7 +88,7 @@ pub fn frames_in_order()
 
 /// The offsets of a crowd are bad and uncovered in every list that the bytes begin.
 pub fn crowds_stay()
-    ensures { (bytes cuts more frames : List ℕ) (k stop : ℕ) → HasCrowd bytes cuts k → IsLeftmost (bytes ++ more) frames stop → (i : ℕ) → k ≤ i → i < k + TRIES → (verdict (bytes ++ more) i ≡ Bad) × IsUncovered (bytes ++ more) frames i }
+    ensures { (bytes cuts more frames : List ℕ) (k stop : ℕ) → HasCrowd bytes cuts k → IsLeftmost (bytes ++ more) frames stop → (i : ℕ) → k ≤ i → i < k + max_retries → (verdict (bytes ++ more) i ≡ Bad) × IsUncovered (bytes ++ more) frames i }
 {}
 
 /// One search has exactly one answer, whatever judges the offsets.
@@ -118,7 +118,7 @@ pub fn standing()
     ensures opening { StandsFor [] [] [] [] }
 
     // It takes off a frame with all bytes before it,
-    ensures frame { (bytes cuts held : List ℕ) (taken : List (ℕ × List ℕ)) (start n : ℕ) → StandsFor bytes cuts held taken → IsNext held (Frame start n) → StandsFor bytes cuts (drop (start + (n + 3)) held) (taken ++ (slice_index held start, take n (drop (start + 1) held)) ∷ []) }
+    ensures frame { (bytes cuts held : List ℕ) (taken : List (ℕ × List ℕ)) (start n : ℕ) → StandsFor bytes cuts held taken → IsNext held (Frame start n) → StandsFor bytes cuts (drop (start + (n + overhead)) held) (taken ++ (slice_index held start, take n (drop (start + 1) held)) ∷ []) }
 
     // or drops the bad offsets before an open one; then all delivered frames are taken.
     ensures waiting { (bytes cuts held : List ℕ) (taken : List (ℕ × List ℕ)) (dropped : ℕ) → StandsFor bytes cuts held taken → IsNext held (Waiting dropped) → StandsFor bytes cuts (drop dropped held) taken × IsUsedUp bytes cuts (drop dropped held) taken }
@@ -126,9 +126,9 @@ pub fn standing()
     // So it is wherever the held bytes begin open.
     ensures used_up { (bytes cuts held : List ℕ) (taken : List (ℕ × List ℕ)) → StandsFor bytes cuts held taken → verdict held 0 ≡ Open → IsUsedUp bytes cuts held taken }
 
-    // Twenty bad offsets are the first crowd, and a crowd that no frame precedes is found so.
+    // `MAX_RETRIES` bad offsets are the first crowd, and a crowd that no frame precedes is found so.
     ensures crowd { (bytes cuts held : List ℕ) (taken : List (ℕ × List ℕ)) → StandsFor bytes cuts held taken → IsNext held TooManyRetries → (k : ℕ) × IsFirstCrowd bytes cuts taken k }
-    ensures found { (bytes cuts held : List ℕ) (taken : List (ℕ × List ℕ)) (k : ℕ) → (s : StandsFor bytes cuts held taken) → HasCrowd bytes cuts k → ((frames : List ℕ) (stop : ℕ) → IsLeftmost bytes frames stop → (f : ℕ) → Contains frames f → s.place ≤ f → f < k + (TRIES - 1) → ⊥) → IsNext held TooManyRetries }
+    ensures found { (bytes cuts held : List ℕ) (taken : List (ℕ × List ℕ)) (k : ℕ) → (s : StandsFor bytes cuts held taken) → HasCrowd bytes cuts k → ((frames : List ℕ) (stop : ℕ) → IsLeftmost bytes frames stop → (f : ℕ) → Contains frames f → s.place ≤ f → f < k + (max_retries - 1) → ⊥) → IsNext held TooManyRetries }
 
     // A read that gave bytes, made where the held bytes begin open, appends them and is one more cut.
     ensures read { (bytes cuts held more : List ℕ) (taken : List (ℕ × List ℕ)) → StandsFor bytes cuts held taken → verdict held 0 ≡ Open → 0 < length more → StandsFor (bytes ++ more) (cuts ++ length (bytes ++ more) ∷ []) (held ++ more) taken }

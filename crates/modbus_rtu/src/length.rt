@@ -2,8 +2,14 @@
 ghost use Rattle.std.specs.Prelude.{◌≡◌, ℕ, ◌+◌, ◌<◌, ◌≤◌, List, IfOk, IfSome, IsErr, Ok, None, length, slice_get};
 ghost use Rattle.std.specs.Option.{option_map};
 ghost use Rattle.modbus_rtu.specs.Frame.{Head, head};
+ghost use Rattle.modbus_pdu.specs.Limits.{read_write_head};
+ghost use Rattle.modbus_rtu.specs.Limits.{slave_address, overhead, max_byte_count, most_pdu, capacity};
 
-use modbus_pdu::MAX_PDU;
+use modbus_frame::function_code;
+use modbus_pdu::{
+    CODE_PDU, IDENTIFICATION_REQUEST, MAX_PDU, MEI_DEVICE_IDENTIFICATION, ONE_WORD_PDU,
+    READ_WRITE_HEAD, THREE_WORDS_PDU, TWO_WORDS_PDU, WRITE_HEAD,
+};
 use std::error::Error;
 use std::fmt;
 
@@ -19,27 +25,35 @@ impl fmt::Display for NoLength {
 
 impl Error for NoLength {}
 
-/// The most bytes that the PDU of a request frame has: that of a read and write of 255 bytes (V1.1b3, section 6.17).
-pub const MOST_PDU: usize = 265;
+/// How many bytes a slave address has, which stands before the PDU.
+pub(crate) const SLAVE_ADDRESS: usize = 1;
 
-/// How many bytes a frame has besides its PDU: the slave address and the checksum.
-pub(crate) const OVERHEAD: usize = 3;
+/// How many bytes a checksum has, which stands behind the PDU.
+pub(crate) const CHECKSUM: usize = 2;
 
-/// The bytes of the longest request frame, which are the most that an inbox holds.
+/// How many bytes a frame has besides its PDU.
+pub(crate) const OVERHEAD: usize = SLAVE_ADDRESS + CHECKSUM;
+
+/// The greatest byte count.
+pub(crate) const MAX_BYTE_COUNT: usize = 255;
+
+/// The most bytes that the head of a request tells of its PDU: those of a read and write (V1.1b3, section 6.17).
+pub const MOST_PDU: usize = READ_WRITE_HEAD + MAX_BYTE_COUNT;
+
+/// The bytes of the longest request frame that is waited for, which are the most that an inbox holds: 268.
 pub const CAPACITY: usize = MOST_PDU + OVERHEAD;
 
-/// The bytes of the longest response frame, whose PDU has at most 253 (V1.1b3, section 4.1).
+/// The bytes of the longest response frame: 256 (V1.1b3, section 4.1).
 pub const LONGEST_RESPONSE: usize = MAX_PDU + OVERHEAD;
 
-/// The MEI type of Read Device Identification.
-pub(crate) const MEI_DEVICE_IDENTIFICATION: u8 = 0x0E;
-
-/// A length that counts the byte at a place: so many bytes, and as many as that byte says.
-pub(crate) fn counted_len(adu: &[u8], place: u8) -> Option<usize>
-    ensures { result ≡ option_map (λ byte. place + byte) (slice_get adu.now place) }
+/// A length that a byte count tells, the last byte of a head: the bytes of the head, and as many as it says.
+pub(crate) fn counted_len(adu: &[u8], head: usize) -> Option<usize>
+    requires { head ≤ max_byte_count }
+    ensures { result ≡ option_map (λ byte. head + byte) (slice_get adu.now head) }
 {
-    let place = usize::from(place);
-    adu.get(place).map(|byte| place + usize::from(*byte))
+    // The slave address before the head moves its last byte on to the place behind it.
+    let byte_count = *adu.get(head)?;
+    Some(head + usize::from(byte_count))
 }
 
 /// The length in bytes of the PDU of a request, in bytes that begin with the slave address. `None` where a byte that tells it
@@ -52,24 +66,34 @@ pub(crate) fn counted_len(adu: &[u8], place: u8) -> Option<usize>
 pub fn request_pdu_len(adu: &[u8]) -> Result<Option<usize>, NoLength>
     ensures exact { result ≡ head adu.now }
 
-    // The longest PDU is that of a read and write of 255 bytes, and no rule needs a byte past its tenth place.
-    ensures most { IfOk result (λ found. IfSome found (λ n. n ≤ MOST_PDU)) }
-    ensures missing { result ≡ Ok None → length adu.now < 11 }
+    // The longest PDU is that of a read and write, and no rule needs a byte past its head.
+    ensures most { IfOk result (λ found. IfSome found (λ n. n ≤ most_pdu)) }
+    ensures missing { result ≡ Ok None → length adu.now < slave_address + read_write_head }
     ensures coded { IsErr result → 1 < length adu.now }
 {
     let Some(&code) = adu.get(1) else {
         return Ok(None);
     };
     match code {
-        0x01..=0x06 => Ok(Some(5)),
-        0x07 | 0x0B | 0x0C | 0x11 => Ok(Some(1)),
-        0x0F | 0x10 => Ok(counted_len(adu, 6)),
-        0x16 => Ok(Some(7)),
-        0x17 => Ok(counted_len(adu, 10)),
-        0x18 => Ok(Some(3)),
-        0x2B => match adu.get(2) {
+        function_code::READ_COILS
+        | function_code::READ_DISCRETE_INPUTS
+        | function_code::READ_HOLDING_REGISTERS
+        | function_code::READ_INPUT_REGISTERS
+        | function_code::WRITE_SINGLE_COIL
+        | function_code::WRITE_SINGLE_REGISTER => Ok(Some(TWO_WORDS_PDU)),
+        function_code::READ_EXCEPTION_STATUS
+        | function_code::GET_COMM_EVENT_COUNTER
+        | function_code::GET_COMM_EVENT_LOG
+        | function_code::REPORT_SERVER_ID => Ok(Some(CODE_PDU)),
+        function_code::WRITE_MULTIPLE_COILS | function_code::WRITE_MULTIPLE_REGISTERS => Ok(
+            counted_len(adu, WRITE_HEAD),
+        ),
+        function_code::MASK_WRITE_REGISTER => Ok(Some(THREE_WORDS_PDU)),
+        function_code::READ_WRITE_MULTIPLE_REGISTERS => Ok(counted_len(adu, READ_WRITE_HEAD)),
+        function_code::READ_FIFO_QUEUE => Ok(Some(ONE_WORD_PDU)),
+        function_code::ENCAPSULATED_INTERFACE_TRANSPORT => match adu.get(2) {
             None => Ok(None),
-            Some(&MEI_DEVICE_IDENTIFICATION) => Ok(Some(4)),
+            Some(&MEI_DEVICE_IDENTIFICATION) => Ok(Some(IDENTIFICATION_REQUEST)),
             Some(_) => Err(NoLength(code)),
         },
         _ => Err(NoLength(code)),
@@ -92,11 +116,12 @@ pub trait LengthRule {
         ensures exact { result ≡ head adu.now }
 
         // Bytes wait for more only while they are fewer than the longest frame.
-        ensures most { IfOk result (λ found. IfSome found (λ n. length adu.now < n + 3 → n + 3 ≤ longest)) }
+        ensures most { IfOk result (λ found. IfSome found (λ n.
+            length adu.now < n + overhead → n + overhead ≤ longest)) }
         ensures missing { result ≡ Ok None → length adu.now < longest }
 
-        // The frame of a PDU has three bytes more, and a function code stands at place 1.
-        ensures fits { IfOk result (λ found. IfSome found (λ n. n + 3 ≤ usize.MAX)) }
+        // The frame of a PDU is longer than it, and a function code stands at place 1.
+        ensures fits { IfOk result (λ found. IfSome found (λ n. n + overhead ≤ usize.MAX)) }
         ensures coded { IsErr result → 1 < length adu.now };
 }
 
@@ -105,11 +130,11 @@ pub trait LengthRule {
 pub struct RequestRule;
 
 impl LengthRule for RequestRule {
-    ghost use Rattle.modbus_rtu.specs.declared.length.TheConstants.{CAPACITY};
+    ghost use Rattle.modbus_rtu.specs.Limits.{capacity};
 
     ghost head = { head };
 
-    ghost longest = { CAPACITY };
+    ghost longest = { capacity };
 
     #[inline(always)]
     fn pdu_len(&self, adu: &[u8]) -> Result<Option<usize>, NoLength> {

@@ -2,7 +2,7 @@
 //! (MODBUS over Serial Line V1.02, section 2.5.1).
 //!
 //! A line carries noise, and its bytes come in pieces. The definitions say which frames a whole list of bytes has, whatever its
-//! pieces; the laws say how that reading goes on when bytes follow; and the inbox keeps to it with at most 268 bytes in hand.
+//! pieces; the laws say how that reading goes on when bytes follow; and the inbox keeps to it with at most `CAPACITY` bytes in hand.
 #![tactic(auto)]
 
 mod codec;
@@ -27,6 +27,6 @@ pub use crate::inbox::{Inbox, RtuError, RtuFrame};
 pub use crate::length::{
     CAPACITY, LONGEST_RESPONSE, LengthRule, MOST_PDU, NoLength, RequestRule, request_pdu_len,
 };
-pub use crate::response_length::{ResponseRule, response_pdu_len};
-pub use crate::search::{Next, TRIES, next_frame, next_frame_by};
+pub use crate::response_length::{LONGEST_IDENTIFICATION, ResponseRule, response_pdu_len};
+pub use crate::search::{MAX_RETRIES, Next, next_frame, next_frame_by};
 pub use crate::verdict::{Verdict, judge, judge_by};

@@ -1,13 +1,13 @@
 //! The search for the next frame in the bytes that a reader holds.
-ghost use Rattle.modbus_rtu.specs.declared.length.TheConstants.{CAPACITY};
 ghost use Rattle.modbus_rtu.specs.Frame.{judged_by};
 ghost use Rattle.modbus_rtu.specs.Next.{IsNext, IsNextBy, IsWithin};
+ghost use Rattle.modbus_rtu.specs.Limits.{capacity};
 
 use crate::length::{LengthRule, RequestRule};
 use crate::verdict::{Verdict, judge_by};
 
 /// How many offsets one search tries.
-pub const TRIES: usize = 20;
+pub const MAX_RETRIES: usize = 20;
 
 /// What a search finds.
 #[derive(Clone, Copy, Debug, PartialEq, Eq)]
@@ -17,7 +17,7 @@ pub enum Next {
     Frame { start: usize, pdu_len: usize },
     /// No frame yet: none stands at so many offsets, and the next offset waits for bytes.
     Waiting { dropped: usize },
-    /// No frame stands at the first `TRIES` offsets.
+    /// No frame stands at the first `MAX_RETRIES` offsets.
     TooManyRetries,
 }
 
@@ -27,7 +27,7 @@ pub fn next_frame_by<R: LengthRule>(rule: &R, held: &[u8]) -> Next
     ensures exact { IsNextBy (judged_by R.head) held.now result }
     ensures within { IsWithin R.longest held.now result }
 {
-    for start in 0..TRIES {
+    for start in 0..MAX_RETRIES {
         match judge_by(rule, &held[start..]) {
             Verdict::Open => return Next::Waiting { dropped: start },
             Verdict::Good(pdu_len) => return Next::Frame { start, pdu_len },
@@ -42,7 +42,7 @@ pub fn next_frame_by<R: LengthRule>(rule: &R, held: &[u8]) -> Next
 #[tactic(auto, unfolding(crate::specs::Frame::verdict_of))]
 pub fn next_frame(held: &[u8]) -> Next
     ensures exact { IsNext held.now result }
-    ensures within { IsWithin CAPACITY held.now result }
+    ensures within { IsWithin capacity held.now result }
 {
     next_frame_by(&RequestRule, held)
 }

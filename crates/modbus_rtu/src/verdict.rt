@@ -1,7 +1,7 @@
 //! What stands at the front of a list of bytes.
 ghost use Rattle.std.specs.Prelude.{◌≡◌, ◌≢◌, ℕ, ◌+◌, ◌<◌, ◌≤◌, length};
-ghost use Rattle.modbus_rtu.specs.declared.length.TheConstants.{CAPACITY};
 ghost use Rattle.modbus_rtu.specs.Frame.{judged_by, verdict_of};
+ghost use Rattle.modbus_rtu.specs.Limits.{overhead, capacity};
 
 use crate::crc::check_crc;
 use crate::length::{LengthRule, OVERHEAD, RequestRule};
@@ -26,7 +26,7 @@ pub fn judge_by<R: LengthRule>(rule: &R, adu: &[u8]) -> Verdict
     // Bytes wait for more only while they are fewer than the longest frame.
     ensures short { result ≡ Verdict.Open → length adu.now < R.longest }
     ensures some { result ≢ Verdict.Open → 0 < length adu.now }
-    ensures whole { (n : ℕ) → result ≡ Verdict.Good n → n + 3 ≤ length adu.now }
+    ensures whole { (n : ℕ) → result ≡ Verdict.Good n → n + overhead ≤ length adu.now }
 {
     match rule.pdu_len(adu) {
         Err(_) => Verdict::Bad,
@@ -50,9 +50,9 @@ pub fn judge_by<R: LengthRule>(rule: &R, adu: &[u8]) -> Verdict
 pub fn judge(adu: &[u8]) -> Verdict
     ensures exact { result ≡ verdict_of adu.now }
 
-    // The longest request has 268 bytes.
-    ensures short { result ≡ Verdict.Open → length adu.now < CAPACITY }
-    ensures whole { (n : ℕ) → result ≡ Verdict.Good n → n + 3 ≤ length adu.now }
+    // Bytes wait for more only while they are fewer than the longest request frame.
+    ensures short { result ≡ Verdict.Open → length adu.now < capacity }
+    ensures whole { (n : ℕ) → result ≡ Verdict.Good n → n + overhead ≤ length adu.now }
 {
     judge_by(&RequestRule, adu)
 }

@@ -1,0 +1,72 @@
+-- The numbers of a frame, of a search and of what a decoder records, each of which stands here alone (MODBUS over Serial Line V1.02,
+-- section 2.5.1; Modbus Application Protocol V1.1b3, section 6).
+use Rattle.std.specs.Prelude.{ℕ, ◌+◌, ◌*◌}
+use Rattle.modbus_pdu.specs.Limits.{max_pdu, read_write_head, identification_head}
+
+-- the bytes of a slave address, which stands before the PDU
+abbrev pub slave_address : ℕ
+slave_address = 1
+
+-- the bytes of a checksum, which stands behind the PDU
+abbrev pub checksum : ℕ
+checksum = 2
+
+-- the bytes of a frame besides its PDU
+abbrev pub overhead : ℕ
+overhead = slave_address + checksum
+
+-- the greatest byte count
+abbrev pub max_byte_count : ℕ
+max_byte_count = 255
+
+-- the most bytes that the head of a request tells of its PDU: those of a read and write (V1.1b3, 6.17)
+abbrev pub most_pdu : ℕ
+most_pdu = read_write_head + max_byte_count
+
+-- the bytes of the longest request frame that is waited for
+abbrev pub capacity : ℕ
+capacity = most_pdu + overhead
+
+-- the bytes of the longest response frame
+abbrev pub longest_response : ℕ
+longest_response = max_pdu + overhead
+
+-- where the number of objects stands in bytes that begin with the slave address: it is the last byte of its head (V1.1b3, 6.21)
+abbrev pub object_count : ℕ
+object_count = identification_head
+
+-- where the first object stands in them
+abbrev pub first_object : ℕ
+first_object = slave_address + identification_head
+
+-- the bytes of an object before its value: its id and its length
+abbrev pub object_head : ℕ
+object_head = 2
+
+-- the bytes of the longest object
+abbrev pub longest_object : ℕ
+longest_object = object_head + max_byte_count
+
+-- where the most and longest objects end in bytes that begin with the slave address
+abbrev pub most_objects_end : ℕ
+most_objects_end = first_object + max_byte_count * longest_object
+
+-- the bytes of the longest response frame that is waited for, which has these objects
+abbrev pub longest_identification : ℕ
+longest_identification = most_objects_end + checksum
+
+-- the bytes of a response to Read FIFO Queue that its byte count doesn't count: the function code and the byte count (V1.1b3, 6.18)
+abbrev pub fifo_head : ℕ
+fifo_head = 3
+
+-- the greatest number of two bytes
+abbrev pub max_word : ℕ
+max_word = 65535
+
+-- so many offsets in a row at which no frame stands end a search
+abbrev pub max_retries : ℕ
+max_retries = 20
+
+-- the most dropped bytes that are recorded
+abbrev pub max_dropped : ℕ
+max_dropped = 256
