@@ -12,6 +12,7 @@ use Rattle.modbus_rtu.specs.Next.{IsNext}
 use Rattle.modbus_rtu.specs.Stands.{StandsFor, IsTakenNext, IsUsedUp}
 use Rattle.modbus_rtu.specs.Inbox.{TakesFrame, StandsAfter, parts}
 use Rattle.modbus_rtu.proofs.Standing.{stands_frame, next_taken, stands_waiting, stands_read, used_up, first_crowd}
+use Rattle.modbus_rtu.specs.Limits.{overhead}
 
 -- an open offset at the front is where the search waits
 waits_at_front : (held : List ℕ) → verdict held 0 ≡ Open → IsNext held (Waiting 0)
@@ -45,8 +46,8 @@ stands_after_read bytes cuts held more taken s open' some =
 -- a frame that is taken off leaves fewer bytes
 pub gives_less : (old : List ℕ) (frame : RtuFrame) (new : List ℕ) → TakesFrame old (Ok (Some frame)) new → length new < length old
 gives_less old frame new (start, n, next, same, rest) =
-    let fits : start + (n + 3) ≤ length old = good_within old start n next.2 in
-    omega (arith, ap length rest, length-drop (start + (n + 3)) old)
+    let fits : start + (n + overhead) ≤ length old = good_within old start n next.2 in
+    omega (arith, ap length rest, length-drop (start + (n + overhead)) old)
 
 pub gives_no_more : (old : List ℕ) (result : Result (Option RtuFrame) RtuError) (new : List ℕ) → TakesFrame old result new → IfOk result (λ found. IfSome found (λ frame. length new < length old))
 gives_no_more old (Ok (Some frame)) new gives = gives_less old frame new gives

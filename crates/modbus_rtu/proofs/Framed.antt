@@ -17,12 +17,13 @@ use Rattle.modbus_rtu.proofs.Judging.{judged_good}
 use Rattle.modbus_rtu.proofs.Reading.{Reads, reads-shift}
 use Rattle.modbus_rtu.proofs.Reading.Reads.{stops, takes}
 use Rattle.modbus_rtu.proofs.LeftmostReads.{leftmost_from_reads}
+use Rattle.modbus_rtu.specs.Limits.{overhead}
 
 pub frame_append : (slave : ℕ) (pdu rest : List ℕ) → frame slave pdu ++ rest ≡ (slave ∷ pdu) ++ (crc (slave ∷ pdu) % 256 ∷ crc (slave ∷ pdu) / 256 ∷ rest)
 unfolding frame
 frame_append slave pdu rest = append_assoc (slave ∷ pdu) (crc (slave ∷ pdu) % 256 ∷ crc (slave ∷ pdu) / 256 ∷ []) rest
 
-pub length-frame : (slave : ℕ) (pdu : List ℕ) → length (frame slave pdu) ≡ length pdu + 3
+pub length-frame : (slave : ℕ) (pdu : List ℕ) → length (frame slave pdu) ≡ length pdu + overhead
 unfolding frame
 length-frame slave pdu = omega (arith, length-append (slave ∷ pdu) (crc (slave ∷ pdu) % 256 ∷ crc (slave ∷ pdu) / 256 ∷ []))
 
@@ -70,27 +71,27 @@ contains_shifted start (g ∷ frames) f (suc k, below, is) =
     let later = contains_shifted start frames f (k, omega (arith, below), is) in
     (suc later.0, omega (arith, later.1), later.2)
 
-module _ (bytes rest frames : List ℕ) (n : ℕ) (good : verdict bytes 0 ≡ Good n) (left : drop (n + 3) bytes ≡ rest) (used : AreAllUsed rest frames) where
+module _ (bytes rest frames : List ℕ) (n : ℕ) (good : verdict bytes 0 ≡ Good n) (left : drop (n + overhead) bytes ≡ rest) (used : AreAllUsed rest frames) where
   abbrev all : List ℕ
-  all = 0 ∷ map (λ f. n + 3 + f) frames
+  all = 0 ∷ map (λ f. n + overhead + f) frames
 
-  later_same : (j : ℕ) → verdict bytes (n + 3 + j) ≡ verdict rest j
-  later_same j = sym (verdict-drop bytes (n + 3) j) ∙ ap (λ b. verdict b j) left
+  later_same : (j : ℕ) → verdict bytes (n + overhead + j) ≡ verdict rest j
+  later_same j = sym (verdict-drop bytes (n + overhead) j) ∙ ap (λ b. verdict b j) left
 
-  later_used : (j : ℕ) → verdict bytes (n + 3 + j) ≡ Bad → IsUncovered bytes all (n + 3 + j) → ⊥
+  later_used : (j : ℕ) → verdict bytes (n + overhead + j) ≡ Bad → IsUncovered bytes all (n + overhead + j) → ⊥
   later_used j bad free = used j (sym (later_same j) ∙ bad) (λ f within (m, here, above, inside).
-      let later = contains_shifted (n + 3) frames f within in
-      free (n + 3 + f) (suc later.0, omega (arith, later.1), later.2) (m, later_same f ∙ here, omega (arith, above), omega (arith, inside)))
+      let later = contains_shifted (n + overhead) frames f within in
+      free (n + overhead + f) (suc later.0, omega (arith, later.1), later.2) (m, later_same f ∙ here, omega (arith, above), omega (arith, inside)))
 
   used_by : (i : ℕ) → verdict bytes i ≡ Bad → IsUncovered bytes all i → ⊥
   used_by zero bad free = good_bad good bad
     where
       good_bad : {v : Verdict} {m : ℕ} → v ≡ Good m → v ≡ Bad → ⊥
       good_bad g b = cc
-  used_by (suc i) bad free = elim (cases_lt (suc i) (n + 3)) [
+  used_by (suc i) bad free = elim (cases_lt (suc i) (n + overhead)) [
     | inl inside ↦ free 0 (0, omega arith, refl) (n, good, omega arith, omega (arith, inside))
-    | inr past ↦ (let e : suc i ≡ n + 3 + (suc i - (n + 3)) = omega (arith, past) in
-        later_used (suc i - (n + 3)) (subst (λ k. verdict bytes k ≡ Bad) e bad) (subst (λ k. IsUncovered bytes all k) e free))
+    | inr past ↦ (let e : suc i ≡ n + overhead + (suc i - (n + overhead)) = omega (arith, past) in
+        later_used (suc i - (n + overhead)) (subst (λ k. verdict bytes k ≡ Bad) e bad) (subst (λ k. IsUncovered bytes all k) e free))
   ]
 
 one_more : (slave : ℕ) (pdu rest : List ℕ) (messages : List (ℕ × List ℕ)) → HasHead (slave, pdu) → ReadsAll rest messages → ReadsAll (frame slave pdu ++ rest) ((slave, pdu) ∷ messages)
@@ -100,16 +101,16 @@ one_more slave pdu rest messages has (frames, reads, are, used) =
     let sum = crc (slave ∷ pdu) in
     let size = length-frame slave pdu in
     let total : length bytes ≡ length (frame slave pdu) + length rest = length-append (frame slave pdu) rest in
-    let left : drop (n + 3) bytes ≡ rest = drop_at (frame slave pdu) rest (n + 3) size in
+    let left : drop (n + overhead) bytes ≡ rest = drop_at (frame slave pdu) rest (n + overhead) size in
     let good : verdict bytes 0 ≡ Good n = ap verdict_of (frame_append slave pdu rest) ∙ good_front slave (sum % 256) (sum / 256) pdu rest has (omega arith) in
-    let inside : n + 3 ≤ length bytes = omega arith in
-    let end : n + 3 + length rest ≡ length bytes = omega arith in
-    let reads' : Reads (drop (n + 3) bytes) 0 frames (length rest) = rw left reads in
-    let moved = reads-shift bytes (n + 3) inside reads' (0 + (n + 3)) (omega arith) in
+    let inside : n + overhead ≤ length bytes = omega arith in
+    let end : n + overhead + length rest ≡ length bytes = omega arith in
+    let reads' : Reads (drop (n + overhead) bytes) 0 frames (length rest) = rw left reads in
+    let moved = reads-shift bytes (n + overhead) inside reads' (0 + (n + overhead)) (omega arith) in
     let front : frame_at bytes 0 ≡ (slave, pdu) = rw (frame_append slave pdu rest) (front_of slave pdu _ (good_front slave (sum % 256) (sum / 256) pdu rest has (omega arith))) in
-    let later : map (frame_at bytes) (map (λ f. n + 3 + f) frames) ≡ messages = frames_later bytes (n + 3) frames ∙ ap (λ xs. map (frame_at xs) frames) left ∙ are in (
-      0 ∷ map (λ f. n + 3 + f) frames,
-      subst (λ s. Reads bytes 0 (0 ∷ map (λ f. n + 3 + f) frames) s) end (takes n good moved),
+    let later : map (frame_at bytes) (map (λ f. n + overhead + f) frames) ≡ messages = frames_later bytes (n + overhead) frames ∙ ap (λ xs. map (frame_at xs) frames) left ∙ are in (
+      0 ∷ map (λ f. n + overhead + f) frames,
+      subst (λ s. Reads bytes 0 (0 ∷ map (λ f. n + overhead + f) frames) s) end (takes n good moved),
       cc (front, later),
       used_by bytes rest frames n good left used,
     )

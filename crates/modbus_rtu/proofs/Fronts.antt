@@ -15,6 +15,7 @@ use Rattle.modbus_rtu.proofs.Reading.{Reads, stop_above}
 use Rattle.modbus_rtu.proofs.LeftmostReads.{Rises, Rises-above, from_reads, reads_from_leftmost, front_or_later, none}
 use Rattle.modbus_rtu.proofs.Places.{Passes, passes_of_reads, Passes-append, rest_of, passed_frames, none_below}
 use Rattle.modbus_rtu.proofs.Places.Passes.{arrives, drops, delivers}
+use Rattle.modbus_rtu.specs.Limits.{overhead, max_retries}
 
 -- what is read of a frame stays
 pub frame_at-append : (bytes more : List ℕ) (i : ℕ) → verdict bytes i ≢ Open → frame_at (bytes ++ more) i ≡ frame_at bytes i
@@ -27,7 +28,7 @@ frame_at-append bytes more i ne = by_verdict (verdict bytes i) refl
     by_verdict Open e = absurd (ne e)
     by_verdict Bad e = rw (verdict-append bytes more i ne, e, get_or_append_left bytes more 0 i within) refl
     by_verdict (Good n) e =
-        let fits : i + (n + 3) ≤ length bytes = good_within bytes i n e in
+        let fits : i + (n + overhead) ≤ length bytes = good_within bytes i n e in
         rw (
           verdict-append bytes more i ne,
           e,
@@ -96,10 +97,10 @@ frames_around bytes frames stop f l c = split_at 0 f frames (from_reads bytes (r
 
 -- a crowd of a front
 module _ (old now more frames : List ℕ) (k stop : ℕ) (crowd : IsCrowd old now k) (whole : IsLeftmost (now ++ more) frames stop) where
-  bad_still : (i : ℕ) → k ≤ i → i < k + 20 → verdict (now ++ more) i ≡ Bad
+  bad_still : (i : ℕ) → k ≤ i → i < k + max_retries → verdict (now ++ more) i ≡ Bad
   bad_still i ge lt = verdict-append now more i (bad_not_open (crowd.bad i ge lt)) ∙ crowd.bad i ge lt
 
-  uncovered_still : (i : ℕ) → k ≤ i → i < k + 20 → IsUncovered (now ++ more) frames i
+  uncovered_still : (i : ℕ) → k ≤ i → i < k + max_retries → IsUncovered (now ++ more) frames i
   uncovered_still i ge lt f c (n, good, before, inside) =
       let later = front_frames now more crowd.frames frames crowd.stop stop crowd.reading whole in
       let ends = crowd.ends in
@@ -111,9 +112,9 @@ module _ (old now more frames : List ℕ) (k stop : ℕ) (crowd : IsCrowd old no
             crowd.uncovered i ge lt f c' (was.0, was.1, before, omega arith))
       ]
 
-pub crowd_still : (bytes cuts more frames : List ℕ) (k stop : ℕ) → HasCrowd bytes cuts k → IsLeftmost (bytes ++ more) frames stop → (i : ℕ) → k ≤ i → i < k + 20 → (verdict (bytes ++ more) i ≡ Bad) × IsUncovered (bytes ++ more) frames i
+pub crowd_still : (bytes cuts more frames : List ℕ) (k stop : ℕ) → HasCrowd bytes cuts k → IsLeftmost (bytes ++ more) frames stop → (i : ℕ) → k ≤ i → i < k + max_retries → (verdict (bytes ++ more) i ≡ Bad) × IsUncovered (bytes ++ more) frames i
 crowd_still bytes cuts more frames k stop (b, e, read, crowd) whole =
     let joined : take e bytes ++ (drop e bytes ++ more) ≡ bytes ++ more = sym (append_assoc (take e bytes) (drop e bytes) more) ∙ ap (λ front. front ++ more) (take-append-drop e bytes) in
-    subst (λ all. IsLeftmost all frames stop → (i : ℕ) → k ≤ i → i < k + 20 → (verdict all i ≡ Bad) × IsUncovered all frames i) joined
+    subst (λ all. IsLeftmost all frames stop → (i : ℕ) → k ≤ i → i < k + max_retries → (verdict all i ≡ Bad) × IsUncovered all frames i) joined
     (λ l i ge lt. (bad_still (take b bytes) (take e bytes) (drop e bytes ++ more) frames k stop crowd l i ge lt, uncovered_still (take b bytes) (take e bytes) (drop e bytes ++ more) frames k stop crowd l i ge lt))
     whole

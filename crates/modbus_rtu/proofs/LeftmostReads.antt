@@ -12,6 +12,7 @@ use Rattle.modbus_rtu.specs.Leftmost.{IsGood, IsUncovered, IsLeftmost}
 use Rattle.modbus_rtu.proofs.Verdicts.{verdict_of-nil}
 use Rattle.modbus_rtu.proofs.Reading.{Reads}
 use Rattle.modbus_rtu.proofs.Reading.Reads.{stops, skips, takes}
+use Rattle.modbus_rtu.specs.Limits.{overhead}
 
 pub here : (x : ℕ) (xs : List ℕ) → Contains (x ∷ xs) x
 here x xs = (0, omega arith, refl)
@@ -85,7 +86,7 @@ module _ (bytes : List ℕ) where
   uncovered_at i frames j le r f c (n, good, above, covered) = omega (arith, Rises-above i frames r f c)
 
   -- the first frame covers nothing from its end on
-  uncovered_later : (i n : ℕ) (frames : List ℕ) (j : ℕ) → verdict bytes i ≡ Good n → i + (n + 3) ≤ j → IsUncovered bytes frames j → IsUncovered bytes (i ∷ frames) j
+  uncovered_later : (i n : ℕ) (frames : List ℕ) (j : ℕ) → verdict bytes i ≡ Good n → i + (n + overhead) ≤ j → IsUncovered bytes frames j → IsUncovered bytes (i ∷ frames) j
   uncovered_later i n frames j good past un f c (m, good', above, covered) = elim (front_or_later i f frames c) [
     | inl e ↦ (let same : m ≡ n = cc in omega arith)
     | inr c' ↦ un f c' (m, good', above, covered)
@@ -98,7 +99,7 @@ module _ (bytes : List ℕ) where
   ends_open stop le open' = elim (cases_lt stop (length bytes)) [ inl lt ↦ inr (lt, open') | inr ge ↦ inl (omega arith) ]
 
   -- an offset is the first, or lies in the first frame, or beyond it
-  three_ways : (i n j : ℕ) → i ≤ j → (i ≡ j) ⊎ (((i < j) × (j < i + (n + 3))) ⊎ (i + (n + 3) ≤ j))
+  three_ways : (i n j : ℕ) → i ≤ j → (i ≡ j) ⊎ (((i < j) × (j < i + (n + overhead))) ⊎ (i + (n + overhead) ≤ j))
   three_ways i n j ge = grind arith
 
   delivered_bad : (i stop : ℕ) (frames : List ℕ) → verdict bytes i ≡ Bad → From bytes (i + 1) frames stop → (j : ℕ) → i ≤ j → j < stop → Contains frames j ↔ (IsGood bytes j × IsUncovered bytes frames j)
@@ -116,16 +117,16 @@ module _ (bytes : List ℕ) where
     | inr le ↦ (let same : i ≡ j = omega arith in cc)
   ]
 
-  delivered_good : (i n stop : ℕ) (frames : List ℕ) → verdict bytes i ≡ Good n → From bytes (i + (n + 3)) frames stop → (j : ℕ) → i ≤ j → j < stop → Contains (i ∷ frames) j ↔ (IsGood bytes j × IsUncovered bytes (i ∷ frames) j)
+  delivered_good : (i n stop : ℕ) (frames : List ℕ) → verdict bytes i ≡ Good n → From bytes (i + (n + overhead)) frames stop → (j : ℕ) → i ≤ j → j < stop → Contains (i ∷ frames) j ↔ (IsGood bytes j × IsUncovered bytes (i ∷ frames) j)
   delivered_good i n stop frames good rest j ge lt = elim (three_ways i n j ge) [
     | inl same ↦ (
-      λ c. ((n, rw (← same) good), uncovered_at i (i ∷ frames) j (omega arith) (omega arith, Rises-earlier (i + 1) (i + (n + 3)) frames (omega arith) rest.rises)),
+      λ c. ((n, rw (← same) good), uncovered_at i (i ∷ frames) j (omega arith) (omega arith, Rises-earlier (i + 1) (i + (n + overhead)) frames (omega arith) rest.rises)),
       λ both. subst (λ k. Contains (i ∷ frames) k) same (here i frames),
     )
     | inr (inl inside) ↦ (
       λ c. elim (front_or_later i j frames c) [
         | inl e ↦ absurd (omega arith)
-        | inr c' ↦ absurd (omega (arith, Rises-above (i + (n + 3)) frames rest.rises j c'))
+        | inr c' ↦ absurd (omega (arith, Rises-above (i + (n + overhead)) frames rest.rises j c'))
       ],
       λ both. absurd (both.1 i (here i frames) (n, good, inside.0, inside.1)),
     )
@@ -138,14 +139,14 @@ module _ (bytes : List ℕ) where
     )
   ]
 
-  none_open_good : (i n stop : ℕ) (frames : List ℕ) → verdict bytes i ≡ Good n → From bytes (i + (n + 3)) frames stop → (j : ℕ) → i ≤ j → j < stop → IsUncovered bytes (i ∷ frames) j → verdict bytes j ≢ Open
+  none_open_good : (i n stop : ℕ) (frames : List ℕ) → verdict bytes i ≡ Good n → From bytes (i + (n + overhead)) frames stop → (j : ℕ) → i ≤ j → j < stop → IsUncovered bytes (i ∷ frames) j → verdict bytes j ≢ Open
   none_open_good i n stop frames good rest j ge lt un open' = elim (three_ways i n j ge) [
     | inl same ↦ cc
     | inr (inl inside) ↦ un i (here i frames) (n, good, inside.0, inside.1)
     | inr (inr past) ↦ rest.none_open j past lt (uncovered_rest i frames j un) open'
   ]
 
-  below_good : (i n stop : ℕ) (frames : List ℕ) → From bytes (i + (n + 3)) frames stop → (f : ℕ) → Contains (i ∷ frames) f → f < stop
+  below_good : (i n stop : ℕ) (frames : List ℕ) → From bytes (i + (n + overhead)) frames stop → (f : ℕ) → Contains (i ∷ frames) f → f < stop
   below_good i n stop frames rest f c = elim (front_or_later i f frames c) [
     | inl e ↦ omega (arith, rest.reach)
     | inr c' ↦ rest.below f c'
@@ -176,7 +177,7 @@ module _ (bytes : List ℕ) where
   from_reads (takes {i = i} {stop = stop} {frames = frames} n g r) =
       let rest = from_reads r in
       record {
-        rises = (omega arith, Rises-earlier (i + 1) (i + (n + 3)) frames (omega arith) rest.rises);
+        rises = (omega arith, Rises-earlier (i + 1) (i + (n + overhead)) frames (omega arith) rest.rises);
         below = below_good i n stop frames rest;
         reach = omega (arith, rest.reach);
         delivered = delivered_good i n stop frames g rest;
@@ -215,9 +216,9 @@ module _ (bytes : List ℕ) where
             let e : verdict bytes f ≡ Good good.0 = good.1 in cc)
       ]
 
-  after_good : (i n stop : ℕ) (frames : List ℕ) → i < stop → verdict bytes i ≡ Good n → From bytes i (i ∷ frames) stop → From bytes (i + (n + 3)) frames stop
+  after_good : (i n stop : ℕ) (frames : List ℕ) → i < stop → verdict bytes i ≡ Good n → From bytes i (i ∷ frames) stop → From bytes (i + (n + overhead)) frames stop
   after_good i n stop frames lt good from = record {
-    rises = Rises-later (i + 1) (i + (n + 3)) frames from.rises.1 above;
+    rises = Rises-later (i + 1) (i + (n + overhead)) frames from.rises.1 above;
     below = λ f c. from.below f (there i f frames c);
     reach = reach;
     delivered = λ j ge lt'. (let both = from.delivered j (omega arith) lt' in (
@@ -232,16 +233,16 @@ module _ (bytes : List ℕ) where
     ends = from.ends;
   }
     where
-      past : (j : ℕ) → i < j → IsUncovered bytes (i ∷ frames) j → i + (n + 3) ≤ j
-      past j gt un = elim (cases_lt j (i + (n + 3))) [
+      past : (j : ℕ) → i < j → IsUncovered bytes (i ∷ frames) j → i + (n + overhead) ≤ j
+      past j gt un = elim (cases_lt j (i + (n + overhead))) [
         | inl inside ↦ absurd (un i (here i frames) (n, good, gt, inside))
         | inr ge ↦ ge
       ]
 
-      reach : i + (n + 3) ≤ stop
+      reach : i + (n + overhead) ≤ stop
       reach = past stop lt from.whole
 
-      above : (f : ℕ) → Contains frames f → i + (n + 3) ≤ f
+      above : (f : ℕ) → Contains frames f → i + (n + overhead) ≤ f
       above f c =
           let gt = Rises-above (i + 1) frames from.rises.1 f c in
           let c' = there i f frames c in
@@ -276,7 +277,7 @@ module _ (bytes : List ℕ) where
           let f = first_is i frames from.rises ((from.delivered i (omega arith) lt).1 ((n, e), un)) in
           let again : From bytes i (i ∷ f.0) stop = rw f.1 at from in
           let next = after_good i n stop f.0 lt e again in
-          rw f.1 (takes n e (further (i + (n + 3)) f.0 (omega arith) next.reach next))
+          rw f.1 (takes n e (further (i + (n + overhead)) f.0 (omega arith) next.reach next))
 
   reads_by : (fuel i stop : ℕ) (frames : List ℕ) → stop ≤ i + fuel → From bytes i frames stop → Reads bytes i frames stop
   reads_by zero i stop frames enough from = reads_step i stop frames (λ j fs gt le from'. absurd (omega arith)) from

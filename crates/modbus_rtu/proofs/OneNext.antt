@@ -6,6 +6,7 @@ use Rattle.modbus_rtu.specs.declared.verdict.Verdict.TheVariants.{Open, Bad, Goo
 use Rattle.modbus_rtu.specs.declared.search.Next.{Next}
 use Rattle.modbus_rtu.specs.declared.search.Next.TheVariants.{Frame, Waiting, TooManyRetries}
 use Rattle.modbus_rtu.specs.Next.{AreBadBy, IsNextBy}
+use Rattle.modbus_rtu.specs.Limits.{max_retries}
 
 good_not_bad : {v : Verdict} {n : ℕ} → v ≡ Good n → v ≢ Bad
 good_not_bad g b = cc
@@ -17,8 +18,8 @@ module _ (judge : List ℕ → Verdict) (held : List ℕ) where
   abbrev pub Answer : Type 0
   Answer = (next : Next) × IsNextBy judge held next
 
-  answer_from : (k n : ℕ) → n + k ≡ 20 → AreBadBy judge held n → Answer
-  answer_from zero n e bad = let all : n ≡ 20 = omega arith in (TooManyRetries, subst (λ m. AreBadBy judge held m) all bad)
+  answer_from : (k n : ℕ) → n + k ≡ max_retries → AreBadBy judge held n → Answer
+  answer_from zero n e bad = let all : n ≡ max_retries = omega arith in (TooManyRetries, subst (λ m. AreBadBy judge held m) all bad)
   answer_from (suc k) n e bad = by_verdict (judge (drop n held)) refl (λ b. answer_from k (n + 1) (omega arith) (below_more (λ i. judge (drop i held) ≡ Bad) n bad b))
     where
       by_verdict : (v : Verdict) → judge (drop n held) ≡ v → (judge (drop n held) ≡ Bad → Answer) → Answer
@@ -27,7 +28,7 @@ module _ (judge : List ℕ → Verdict) (held : List ℕ) where
       by_verdict (Good m) g later = (Frame n m, (omega arith, bad, g))
 
   pub some_answer : Answer
-  some_answer = answer_from 20 0 refl (λ i lt. absurd (omega arith))
+  some_answer = answer_from max_retries 0 refl (λ i lt. absurd (omega arith))
 
   same_place : (n m : ℕ) → AreBadBy judge held n → AreBadBy judge held m → judge (drop n held) ≢ Bad → judge (drop m held) ≢ Bad → n ≡ m
   same_place n m bad bad' ne ne' = elim (cases_lt n m) [

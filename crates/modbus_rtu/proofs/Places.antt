@@ -11,12 +11,13 @@ use Rattle.modbus_rtu.proofs.Verdicts.{verdict-append, verdict-drop, judged_with
 use Rattle.modbus_rtu.proofs.Reading.{Reads, stop_above}
 use Rattle.modbus_rtu.proofs.Reading.Reads.{stops, skips, takes}
 use Rattle.modbus_rtu.proofs.LeftmostReads.{Rises, from_reads, reads_from_leftmost, front_or_later, none, here, there}
+use Rattle.modbus_rtu.specs.Limits.{overhead}
 
 -- the reading goes from i up to a place, over these frames
 pub data Passes (bytes : List ℕ) : ℕ → List ℕ → ℕ → Type 0 where
   arrives : {i : ℕ} → Passes bytes i [] i
   drops : {i place : ℕ} {frames : List ℕ} → verdict bytes i ≡ Bad → Passes bytes (i + 1) frames place → Passes bytes i frames place
-  delivers : {i place : ℕ} {frames : List ℕ} (n : ℕ) → verdict bytes i ≡ Good n → Passes bytes (i + (n + 3)) frames place → Passes bytes i (i ∷ frames) place
+  delivers : {i place : ℕ} {frames : List ℕ} (n : ℕ) → verdict bytes i ≡ Good n → Passes bytes (i + (n + overhead)) frames place → Passes bytes i (i ∷ frames) place
 
 pub passes_of_reads : {bytes frames : List ℕ} {i stop : ℕ} → Reads bytes i frames stop → Passes bytes i frames stop
 passes_of_reads (stops le o) = arrives
@@ -71,12 +72,12 @@ passes_bad {bytes} zero i place e bad = let same : i ≡ place = omega arith in 
 passes_bad (suc k) i place e bad = drops (bad i (omega arith) (omega arith)) (passes_bad k (i + 1) place (omega arith) (λ j ge lt. bad j (omega arith) lt))
 
 -- up to the end of a frame of the reading
-pub passes_to : {bytes frames : List ℕ} {i stop : ℕ} → Reads bytes i frames stop → (f n : ℕ) → Contains frames f → verdict bytes f ≡ Good n → (passed : List ℕ) × Passes bytes i passed (f + (n + 3))
+pub passes_to : {bytes frames : List ℕ} {i stop : ℕ} → Reads bytes i frames stop → (f n : ℕ) → Contains frames f → verdict bytes f ≡ Good n → (passed : List ℕ) × Passes bytes i passed (f + (n + overhead))
 passes_to (stops le o) f n c good = absurd (none f c)
 passes_to (skips b r) f n c good = let rest = passes_to r f n c good in (rest.0, drops b rest.1)
 passes_to {bytes} {i = i} (takes {frames = frames} m g r) f n c good = elim (front_or_later i f frames c) [
-  | inl e ↦ (let same : m ≡ n = cc in let end : i + (m + 3) ≡ f + (n + 3) = omega arith in
-      (i ∷ [], delivers m g (subst (λ q. Passes bytes (i + (m + 3)) [] q) end arrives)))
+  | inl e ↦ (let same : m ≡ n = cc in let end : i + (m + overhead) ≡ f + (n + overhead) = omega arith in
+      (i ∷ [], delivers m g (subst (λ q. Passes bytes (i + (m + overhead)) [] q) end arrives)))
   | inr c' ↦ (let rest = passes_to r f n c' good in (i ∷ rest.0, delivers m g rest.1))
 ]
 
@@ -129,7 +130,7 @@ bad_from now place n bad j ge lt =
     let e : place + (j - place) ≡ j = omega arith in
     ap (verdict now) (sym e) ∙ sym (verdict-drop now place (j - place)) ∙ bad (j - place) (omega arith)
 
-pub passes_frame : (now : List ℕ) (place start n : ℕ) → IsNext (drop place now) (Frame start n) → Passes now place ((place + start) ∷ []) (place + start + (n + 3))
+pub passes_frame : (now : List ℕ) (place start n : ℕ) → IsNext (drop place now) (Frame start n) → Passes now place ((place + start) ∷ []) (place + start + (n + overhead))
 passes_frame now place start n next =
     passes_on (passes_bad start place (place + start) refl (bad_from now place start next.1))
     (delivers n (sym (verdict-drop now place start) ∙ next.2) arrives)

@@ -14,6 +14,7 @@ use Rattle.modbus_rtu.proofs.Reading.{Reads, reading, reads_same}
 use Rattle.modbus_rtu.proofs.LeftmostReads.{Rises-above, from_reads, reads_from_leftmost, leftmost_from_reads}
 use Rattle.modbus_rtu.proofs.Places.{Passes-append, passes_of_reads, rest_of}
 use Rattle.modbus_rtu.proofs.Fronts.{frames_same, frames_around}
+use Rattle.modbus_rtu.specs.Limits.{max_retries}
 
 module _ (read rest : List ℕ) (messages : List (ℕ × List ℕ)) (quiet : IsQuietLine (read ++ rest) messages) where
   whole : Reads (read ++ rest) 0 quiet.frames (length (read ++ rest))
@@ -28,10 +29,10 @@ module _ (read rest : List ℕ) (messages : List (ℕ × List ℕ)) (quiet : IsQ
     rest_reads : (later : List ℕ) × (quiet.frames ≡ c.frames ++ later) × Reads (now ++ back) c.stop later (length (read ++ rest))
     rest_reads = rest_of (Passes-append back (passes_of_reads (reads_from_leftmost now c.reading))) refl (subst (λ b. Reads b 0 quiet.frames (length (read ++ rest))) (sym joined) whole)
 
-    bad_there : (i : ℕ) → k ≤ i → i < k + 20 → verdict (read ++ rest) i ≡ Bad
+    bad_there : (i : ℕ) → k ≤ i → i < k + max_retries → verdict (read ++ rest) i ≡ Bad
     bad_there i ge lt = subst (λ b. verdict b i ≡ Bad) joined (verdict-append now back i (bad_not_open (c.bad i ge lt)) ∙ c.bad i ge lt)
 
-    free_there : (i : ℕ) → k ≤ i → i < k + 20 → IsUncovered (read ++ rest) quiet.frames i
+    free_there : (i : ℕ) → k ≤ i → i < k + max_retries → IsUncovered (read ++ rest) quiet.frames i
     free_there i ge lt f within (n, good, above, inside) =
         let later = rest_reads in
         let ends = c.ends in

@@ -4,12 +4,13 @@ use Rattle.modbus_rtu.specs.declared.verdict.Verdict.{Verdict}
 use Rattle.modbus_rtu.specs.declared.verdict.Verdict.TheVariants.{Open, Bad, Good}
 use Rattle.modbus_rtu.specs.Frame.{verdict}
 use Rattle.modbus_rtu.proofs.Verdicts.{verdict-append, verdict-drop, judged_within, good_within, bad_not_open, good_not_open}
+use Rattle.modbus_rtu.specs.Limits.{overhead}
 
 -- from an offset that nothing covers, the frames and the stop
 pub data Reads (bytes : List ℕ) : ℕ → List ℕ → ℕ → Type 0 where
   stops : {i : ℕ} → i ≤ length bytes → verdict bytes i ≡ Open → Reads bytes i [] i
   skips : {i stop : ℕ} {frames : List ℕ} → verdict bytes i ≡ Bad → Reads bytes (i + 1) frames stop → Reads bytes i frames stop
-  takes : {i stop : ℕ} {frames : List ℕ} (n : ℕ) → verdict bytes i ≡ Good n → Reads bytes (i + (n + 3)) frames stop → Reads bytes i (i ∷ frames) stop
+  takes : {i stop : ℕ} {frames : List ℕ} (n : ℕ) → verdict bytes i ≡ Good n → Reads bytes (i + (n + overhead)) frames stop → Reads bytes i (i ∷ frames) stop
 
 abbrev pub Reading : List ℕ → ℕ → Type 0
 Reading bytes i = (frames : List ℕ) × (stop : ℕ) × Reads bytes i frames stop
@@ -23,8 +24,8 @@ reading_step bytes i le next = by_verdict (verdict bytes i) refl
         let lt : i < length bytes = judged_within bytes i (bad_not_open e) in
         let r = next (i + 1) (omega arith) (omega arith) in (r.0, r.1, skips e r.2)
     by_verdict (Good n) e =
-        let fits : i + (n + 3) ≤ length bytes = good_within bytes i n e in
-        let r = next (i + (n + 3)) (omega arith) fits in (i ∷ r.0, r.1, takes n e r.2)
+        let fits : i + (n + overhead) ≤ length bytes = good_within bytes i n e in
+        let r = next (i + (n + overhead)) (omega arith) fits in (i ∷ r.0, r.1, takes n e r.2)
 
 reading_by : (fuel : ℕ) (bytes : List ℕ) (i : ℕ) → i ≤ length bytes → length bytes ≤ i + fuel → Reading bytes i
 reading_by zero bytes i le enough = reading_step bytes i le (λ j lt le'. absurd (omega arith))
@@ -78,4 +79,4 @@ reads-shift bytes start within {i = i} (stops le o) j e =
 reads-shift bytes start within {i = i} (skips b r) j e =
     rw e (skips (sym (verdict-drop bytes start i) ∙ b) (reads-shift bytes start within r (start + i + 1) (omega arith)))
 reads-shift bytes start within {i = i} (takes n g r) j e =
-    rw e (takes n (sym (verdict-drop bytes start i) ∙ g) (reads-shift bytes start within r (start + i + (n + 3)) (omega arith)))
+    rw e (takes n (sym (verdict-drop bytes start i) ∙ g) (reads-shift bytes start within r (start + i + (n + overhead)) (omega arith)))

@@ -12,6 +12,7 @@ use Rattle.modbus_rtu.specs.ResponseHead.ResponseRule.{fixed, counted, counted_w
 use Rattle.modbus_rtu.proofs.Verdicts.{got_again, IsKept, Stays, by_frame}
 use Rattle.modbus_rtu.proofs.Judging.{judged_good, judged_missing, judged_short}
 use Rattle.modbus_rtu.proofs.Framed.{frame_append, length-frame}
+use Rattle.modbus_rtu.specs.Limits.{overhead}
 
 within_again : (adu more : List ℕ) (place : ℕ) → IsKept (within adu place) (within (adu ++ more) place)
 within_again adu more place next e = go (leb place (length adu)) refl
@@ -174,7 +175,7 @@ told_frame slave pdu has =
     (told_head_again (slave ∷ pdu) sums (told_of slave pdu has), head_of_body slave pdu sums has)
 
 -- each front of it is open
-pub front_open : (slave : ℕ) (pdu : List ℕ) (k : ℕ) → HasResponseHead (slave, pdu) → k < length pdu + 3 → response_verdict (take k (frame slave pdu)) ≡ Open
+pub front_open : (slave : ℕ) (pdu : List ℕ) (k : ℕ) → HasResponseHead (slave, pdu) → k < length pdu + overhead → response_verdict (take k (frame slave pdu)) ≡ Open
 unfolding response_verdict
 front_open slave pdu k has short = go (response_head front) refl
   where
@@ -205,6 +206,6 @@ unfolding response_verdict response_head
 nothing_open = refl
 
 -- a frame lies within
-pub whole_of : (bytes : List ℕ) (n : ℕ) → response_verdict bytes ≡ Good n → n + 3 ≤ length bytes
+pub whole_of : (bytes : List ℕ) (n : ℕ) → response_verdict bytes ≡ Good n → n + overhead ≤ length bytes
 unfolding response_verdict
 whole_of bytes n e = by_frame bytes (response_head bytes) n e

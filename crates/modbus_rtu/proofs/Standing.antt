@@ -1,5 +1,5 @@
 -- A reader stands for what it was given, and each search and each read carries that on.
-use Rattle.std.proofs.Common.{◌≡◌, ◌⊎◌, inl, inr, ℕ, ◌+◌, ◌<◌, ◌≤◌, List, [], ◌∷◌, ◌++◌, map, length, take, drop, refl, sym, ap, ◌∙◌, subst, arith, length-append, length-drop}
+use Rattle.std.proofs.Common.{◌≡◌, ◌⊎◌, inl, inr, ℕ, ◌+◌, ◌-◌, ◌<◌, ◌≤◌, List, [], ◌∷◌, ◌++◌, map, length, take, drop, refl, sym, ap, ◌∙◌, subst, arith, length-append, length-drop}
 use Rattle.std.specs.Prelude.{Contains, slice_index}
 use Rattle.std.proofs.lemmas.Bool.{cases_lt}
 use Rattle.std.proofs.lemmas.List.{map-append, take-append-drop, take-take, take_all, take_at, take-append-le, drop-append-le, drop-drop, get_or-drop}
@@ -18,6 +18,7 @@ use Rattle.modbus_rtu.proofs.LeftmostReads.{leftmost_from_reads, reads_from_left
 use Rattle.modbus_rtu.proofs.Places.{Passes, passes_of_reads, Passes-append, passed_frames, stop_rises, before_place}
 use Rattle.modbus_rtu.proofs.Fronts.{frames-append}
 use Rattle.modbus_rtu.proofs.Steps.{place_frame, frames_frame, is_stop_waiting, frames_waiting, crowd_at, frames_before, frames_contain, no_crowd_across, no_crowd_frame, no_crowd_waiting, frames_crowd, crowd_found}
+use Rattle.modbus_rtu.specs.Limits.{overhead, max_retries}
 
 -- cuts
 first_below : (total : ℕ) (cuts : List ℕ) → Rise total cuts → total ≤ last_cut_but_one total cuts
@@ -69,9 +70,9 @@ last_read total (c ∷ d ∷ cuts) up lt = inr (last_read c (d ∷ cuts) up.1 (o
 
 -- the steps, for bytes that were read up to a cut before
 record FrameStep (old now : List ℕ) (place start n : ℕ) : Type 0 where
-  there : IsPlace old now (place + start + (n + 3))
-  frames : (frames : List ℕ) (stop : ℕ) → IsLeftmost now frames stop → frames_below (place + start + (n + 3)) frames ≡ frames_below place frames ++ (place + start) ∷ []
-  calm : (k : ℕ) → IsCrowd old now k → k + 20 ≤ place + start + (n + 3) → k + 20 ≤ place
+  there : IsPlace old now (place + start + (n + overhead))
+  frames : (frames : List ℕ) (stop : ℕ) → IsLeftmost now frames stop → frames_below (place + start + (n + overhead)) frames ≡ frames_below place frames ++ (place + start) ∷ []
+  calm : (k : ℕ) → IsCrowd old now k → k + max_retries ≤ place + start + (n + overhead) → k + max_retries ≤ place
   good : verdict now (place + start) ≡ Good n
   before : (frames : List ℕ) (stop : ℕ) → IsLeftmost now frames stop → frames_below (place + start) frames ≡ frames_below place frames
   within : (frames : List ℕ) (stop : ℕ) → IsLeftmost now frames stop → Contains frames (place + start)
@@ -93,7 +94,7 @@ frame_step cut bytes place start n =
 record WaitingStep (old now : List ℕ) (place dropped : ℕ) : Type 0 where
   stop : IsStop now (place + dropped)
   frames : (frames : List ℕ) (stop : ℕ) → IsLeftmost now frames stop → frames_below (place + dropped) frames ≡ frames_below place frames
-  calm : (k : ℕ) → IsCrowd old now k → k + 20 ≤ place
+  calm : (k : ℕ) → IsCrowd old now k → k + max_retries ≤ place
 
 waiting_step : (cut : ℕ) (bytes : List ℕ) (place dropped : ℕ) → IsPlace (take cut bytes) bytes place → IsNext (drop place bytes) (Waiting dropped) → WaitingStep (take cut bytes) bytes place dropped
 waiting_step cut bytes place dropped =
@@ -108,8 +109,8 @@ waiting_step cut bytes place dropped =
 
 record CrowdStep (old now : List ℕ) (place : ℕ) : Type 0 where
   here : IsCrowd old now place
-  first : (k : ℕ) → IsCrowd old now k → k < place → place < k + 20 → ⊥
-  frames : (frames : List ℕ) (stop : ℕ) → IsLeftmost now frames stop → frames_below (place + 19) frames ≡ frames_below place frames
+  first : (k : ℕ) → IsCrowd old now k → k < place → place < k + max_retries → ⊥
+  frames : (frames : List ℕ) (stop : ℕ) → IsLeftmost now frames stop → frames_below (place + (max_retries - 1)) frames ≡ frames_below place frames
 
 crowd_step : (cut : ℕ) (bytes : List ℕ) (place : ℕ) → IsPlace (take cut bytes) bytes place → IsNext (drop place bytes) TooManyRetries → CrowdStep (take cut bytes) bytes place
 crowd_step cut bytes place =
@@ -122,11 +123,11 @@ crowd_step cut bytes place =
       frames = frames_crowd old more place at next;
     })
 
-crowd_found_at : (cut : ℕ) (bytes : List ℕ) (place k : ℕ) → IsPlace (take cut bytes) bytes place → IsCrowd (take cut bytes) bytes k → place < k + 20 → ((frames : List ℕ) (stop : ℕ) → IsLeftmost bytes frames stop → (f : ℕ) → Contains frames f → place ≤ f → f < k + 19 → ⊥) → IsNext (drop place bytes) TooManyRetries
+crowd_found_at : (cut : ℕ) (bytes : List ℕ) (place k : ℕ) → IsPlace (take cut bytes) bytes place → IsCrowd (take cut bytes) bytes k → place < k + max_retries → ((frames : List ℕ) (stop : ℕ) → IsLeftmost bytes frames stop → (f : ℕ) → Contains frames f → place ≤ f → f < k + (max_retries - 1) → ⊥) → IsNext (drop place bytes) TooManyRetries
 crowd_found_at cut bytes place k =
     let old = take cut bytes in
     let more = drop cut bytes in
-    subst (λ now. IsPlace old now place → IsCrowd old now k → place < k + 20 → ((frames : List ℕ) (stop : ℕ) → IsLeftmost now frames stop → (f : ℕ) → Contains frames f → place ≤ f → f < k + 19 → ⊥) → IsNext (drop place now) TooManyRetries) (take-append-drop cut bytes)
+    subst (λ now. IsPlace old now place → IsCrowd old now k → place < k + max_retries → ((frames : List ℕ) (stop : ℕ) → IsLeftmost now frames stop → (f : ℕ) → Contains frames f → place ≤ f → f < k + (max_retries - 1) → ⊥) → IsNext (drop place now) TooManyRetries) (take-append-drop cut bytes)
     (λ at crowd ahead none_between. crowd_found old more place at k crowd ahead (none_between at.frames at.stop at.reading))
 
 before_at : (cut : ℕ) (bytes : List ℕ) (place : ℕ) → (at : IsPlace (take cut bytes) bytes place) → at.before ≤ place
@@ -151,15 +152,15 @@ module _ (bytes cuts held : List ℕ) (taken : List (ℕ × List ℕ)) (s : Stan
   whole = take_all (last_cut 0 cuts) bytes (omega (arith, s.are_cuts.all))
 
   -- a crowd of an earlier read lies before the place
-  earlier_below : (b e k : ℕ) → e ≤ last_cut_but_one 0 cuts → IsCrowd (take b bytes) (take e bytes) k → k + 20 ≤ s.place
+  earlier_below : (b e k : ℕ) → e ≤ last_cut_but_one 0 cuts → IsCrowd (take b bytes) (take e bytes) k → k + max_retries ≤ s.place
   earlier_below b e k le crowd =
       omega (arith, crowd.ends, before_at (last_cut_but_one 0 cuts) bytes s.place s.at, stop_of_front e (last_cut_but_one 0 cuts) bytes crowd.stop s.at.before le (crowd.frames, crowd.reading) s.at.from)
 
   -- so only the last read may have one
-  no_crowd : (up_to : ℕ) → s.place ≤ up_to → ((k : ℕ) → IsCrowd (take (last_cut_but_one 0 cuts) bytes) bytes k → k + 20 ≤ up_to → k + 20 ≤ s.place) → (k : ℕ) → HasCrowd bytes cuts k → up_to < k + 20
+  no_crowd : (up_to : ℕ) → s.place ≤ up_to → ((k : ℕ) → IsCrowd (take (last_cut_but_one 0 cuts) bytes) bytes k → k + max_retries ≤ up_to → k + max_retries ≤ s.place) → (k : ℕ) → HasCrowd bytes cuts k → up_to < k + max_retries
   no_crowd up_to ge last k (b, e, read, crowd) = elim (last_or_earlier 0 cuts s.are_cuts.rise b e read) [
     | inr le ↦ absurd (omega (arith, earlier_below b e k le crowd, s.calm k (b, e, read, crowd)))
-    | inl same ↦ elim (cases_lt up_to (k + 20)) [
+    | inl same ↦ elim (cases_lt up_to (k + max_retries)) [
       | inl lt ↦ lt
       | inr le ↦ absurd (omega (
         arith,
@@ -171,15 +172,15 @@ module _ (bytes cuts held : List ℕ) (taken : List (ℕ × List ℕ)) (s : Stan
     ]
   ]
 
-  pub stands_frame : (start n : ℕ) → IsNext held (Frame start n) → StandsFor bytes cuts (drop (start + (n + 3)) held) (taken ++ (slice_index held start, take n (drop (start + 1) held)) ∷ [])
+  pub stands_frame : (start n : ℕ) → IsNext held (Frame start n) → StandsFor bytes cuts (drop (start + (n + overhead)) held) (taken ++ (slice_index held start, take n (drop (start + 1) held)) ∷ [])
   stands_frame start n next =
       let step = frame_step (last_cut_but_one 0 cuts) bytes s.place start n s.at (rw s.holds at next) in
       record {
         are_cuts = s.are_cuts;
-        place = s.place + start + (n + 3);
+        place = s.place + start + (n + overhead);
         at = step.there;
-        holds = rw (s.holds, drop-drop (start + (n + 3)) s.place bytes) (ap (λ k. drop k bytes) (omega arith));
-        calm = no_crowd (s.place + start + (n + 3)) (omega arith) step.calm;
+        holds = rw (s.holds, drop-drop (start + (n + overhead)) s.place bytes) (ap (λ k. drop k bytes) (omega arith));
+        calm = no_crowd (s.place + start + (n + overhead)) (omega arith) step.calm;
         took = λ frames stop l.
             rw (step.frames frames stop l, map-append (frame_at bytes) (frames_below s.place frames) ((s.place + start) ∷ []), frame_held bytes s.place start n step.good, ← s.holds)
             (ap (λ xs. xs ++ (slice_index held start, take n (drop (start + 1) held)) ∷ []) (s.took frames stop l));
@@ -191,7 +192,7 @@ module _ (bytes cuts held : List ℕ) (taken : List (ℕ × List ℕ)) (s : Stan
       let step = frame_step (last_cut_but_one 0 cuts) bytes s.place start n s.at (rw s.holds at next) in
       record {
         offset = s.place + start;
-        calm = λ k crowd. omega (arith, no_crowd (s.place + start + (n + 3)) (omega arith) step.calm k crowd);
+        calm = λ k crowd. omega (arith, no_crowd (s.place + start + (n + overhead)) (omega arith) step.calm k crowd);
         within = step.within;
         is = frame_held bytes s.place start n step.good ∙ rw (← s.holds) refl;
         earlier = λ frames stop l. rw (step.before frames stop l) (s.took frames stop l);
@@ -204,7 +205,7 @@ module _ (bytes cuts held : List ℕ) (taken : List (ℕ × List ℕ)) (s : Stan
   pub none_crowded : (dropped : ℕ) → IsNext held (Waiting dropped) → (k : ℕ) → HasCrowd bytes cuts k → ⊥
   none_crowded dropped next k crowd =
       let step = waiting_step (last_cut_but_one 0 cuts) bytes s.place dropped s.at (rw s.holds at next) in
-      let far = no_crowd (s.place + dropped + 20 + k) (omega arith) (λ j c le. step.calm j c) k crowd in
+      let far = no_crowd (s.place + dropped + max_retries + k) (omega arith) (λ j c le. step.calm j c) k crowd in
       omega arith
 
   pub stands_waiting : (dropped : ℕ) → IsNext held (Waiting dropped) → StandsFor bytes cuts (drop dropped held) taken
@@ -296,7 +297,7 @@ module _ (bytes cuts held : List ℕ) (taken : List (ℕ × List ℕ)) (s : Stan
       }
 
   -- the crowd that was not passed, with no frame between, is what the next search finds
-  pub found_crowd : (k : ℕ) → HasCrowd bytes cuts k → ((frames : List ℕ) (stop : ℕ) → IsLeftmost bytes frames stop → (f : ℕ) → Contains frames f → s.place ≤ f → f < k + 19 → ⊥) → IsNext held TooManyRetries
+  pub found_crowd : (k : ℕ) → HasCrowd bytes cuts k → ((frames : List ℕ) (stop : ℕ) → IsLeftmost bytes frames stop → (f : ℕ) → Contains frames f → s.place ≤ f → f < k + (max_retries - 1) → ⊥) → IsNext held TooManyRetries
   found_crowd k (b, e, read, crowd) none_between = elim (last_or_earlier 0 cuts s.are_cuts.rise b e read) [
     | inr le ↦ absurd (omega (arith, earlier_below b e k le crowd, s.calm k (b, e, read, crowd)))
     | inl same ↦ rw s.holds (crowd_found_at (last_cut_but_one 0 cuts) bytes s.place k s.at
@@ -307,7 +308,7 @@ module _ (bytes cuts held : List ℕ) (taken : List (ℕ × List ℕ)) (s : Stan
   ]
 
   some_cut : IsNext held TooManyRetries → 0 < last_cut 0 cuts
-  some_cut next = omega (arith, bad_within held 20 next, s.are_cuts.all, ap length s.holds, length-drop s.place bytes)
+  some_cut next = omega (arith, bad_within held max_retries next, s.are_cuts.all, ap length s.holds, length-drop s.place bytes)
 
   -- twenty bad offsets are the first crowd
   pub first_crowd : IsNext held TooManyRetries → IsFirstCrowd bytes cuts taken s.place

@@ -8,6 +8,7 @@ use Rattle.modbus_rtu.specs.declared.verdict.Verdict.{Verdict}
 use Rattle.modbus_rtu.specs.declared.verdict.Verdict.TheVariants.{Open, Bad, Good}
 use Rattle.modbus_rtu.specs.Frame.{Rule, Head, head, head_at, head_by, identified, rule, verdict, verdict_of, verdict_by}
 use Rattle.modbus_rtu.specs.Frame.Rule.{fixed, counted, identification, unknown}
+use Rattle.modbus_rtu.specs.Limits.{overhead}
 
 pub got_again : (xs more : List ℕ) (k x : ℕ) → slice_get xs k ≡ Some x → slice_get (xs ++ more) k ≡ Some x
 got_again [] more k x e = cc
@@ -46,20 +47,20 @@ unfolding head
 head-append adu more ne = head_at-append adu more (slice_get adu 1) _ (got_again adu more 1) ne
 
 -- the frame of a good list is whole
-by_len : (adu : List ℕ) (n : ℕ) (v : Verdict) → verdict_by adu (Ok (Some n)) ≡ v → v ≢ Open → n + 3 ≤ length adu
-by_len adu n v e ne = go (ltb (length adu) (n + 3)) refl
+by_len : (adu : List ℕ) (n : ℕ) (v : Verdict) → verdict_by adu (Ok (Some n)) ≡ v → v ≢ Open → n + overhead ≤ length adu
+by_len adu n v e ne = go (ltb (length adu) (n + overhead)) refl
   where
-    go : (b : Bool) → ltb (length adu) (n + 3) ≡ b → n + 3 ≤ length adu
+    go : (b : Bool) → ltb (length adu) (n + overhead) ≡ b → n + overhead ≤ length adu
     go true t = absurd (ne (sym e ∙ rw t refl))
-    go false f = ltb-false (length adu) (n + 3) f
+    go false f = ltb-false (length adu) (n + overhead) f
 
 verdict_by-append : (adu more : List ℕ) (h : Head) → verdict_by adu h ≢ Open → verdict_by (adu ++ more) h ≡ verdict_by adu h
 verdict_by-append adu more (Ok None) ne = absurd (ne refl)
 verdict_by-append adu more (Err e) ne = refl
 verdict_by-append adu more (Ok (Some n)) ne =
-    let fits : n + 3 ≤ length adu = by_len adu n _ refl ne in
-    let fits' : n + 3 ≤ length (adu ++ more) = omega (arith, length-append adu more) in
-    rw (le-ltb (length adu) (n + 3) fits, le-ltb (length (adu ++ more)) (n + 3) fits', take-append-le (n + 1) adu more (omega arith), get_or_append_left adu more 0 (n + 1) (omega arith), get_or_append_left adu more 0 (n + 2) (omega arith)) refl
+    let fits : n + overhead ≤ length adu = by_len adu n _ refl ne in
+    let fits' : n + overhead ≤ length (adu ++ more) = omega (arith, length-append adu more) in
+    rw (le-ltb (length adu) (n + overhead) fits, le-ltb (length (adu ++ more)) (n + overhead) fits', take-append-le (n + 1) adu more (omega arith), get_or_append_left adu more 0 (n + 1) (omega arith), get_or_append_left adu more 0 (n + 2) (omega arith)) refl
 
 head_there : (adu : List ℕ) (h : Head) → verdict_by adu h ≢ Open → h ≢ Ok None
 head_there adu h ne e = ne (ap (verdict_by adu) e)
@@ -88,20 +89,20 @@ verdict-append bytes more i ne =
     let lt : i < length bytes = judged_within bytes i ne in
     rw (drop-append-le i bytes more (omega arith)) (verdict_of-append (drop i bytes) more ne)
 
-pub by_frame : (adu : List ℕ) (h : Head) (n : ℕ) → verdict_by adu h ≡ Good n → n + 3 ≤ length adu
+pub by_frame : (adu : List ℕ) (h : Head) (n : ℕ) → verdict_by adu h ≡ Good n → n + overhead ≤ length adu
 by_frame adu (Ok None) n e = cc
 by_frame adu (Err f) n e = cc
-by_frame adu (Ok (Some m)) n e = go (ltb (length adu) (m + 3)) refl
+by_frame adu (Ok (Some m)) n e = go (ltb (length adu) (m + overhead)) refl
   where
     tested : (b : Bool) → cond b (Good m) Bad ≡ Good n → m ≡ n
     tested true t = cc
     tested false t = cc
 
-    go : (b : Bool) → ltb (length adu) (m + 3) ≡ b → n + 3 ≤ length adu
+    go : (b : Bool) → ltb (length adu) (m + overhead) ≡ b → n + overhead ≤ length adu
     go true t = cc (rw t at e)
-    go false f = omega (arith, ltb-false (length adu) (m + 3) f, tested _ (rw f at e))
+    go false f = omega (arith, ltb-false (length adu) (m + overhead) f, tested _ (rw f at e))
 
-pub good_of : (adu : List ℕ) (n : ℕ) → verdict_of adu ≡ Good n → n + 3 ≤ length adu
+pub good_of : (adu : List ℕ) (n : ℕ) → verdict_of adu ≡ Good n → n + overhead ≤ length adu
 unfolding verdict_of
 good_of adu n e = by_frame adu (head adu) n e
 
@@ -112,7 +113,7 @@ pub good_not_open : {v : Verdict} {n : ℕ} → v ≡ Good n → v ≢ Open
 good_not_open g o = cc
 
 -- a good frame lies within
-pub good_within : (bytes : List ℕ) (i n : ℕ) → verdict bytes i ≡ Good n → i + (n + 3) ≤ length bytes
+pub good_within : (bytes : List ℕ) (i n : ℕ) → verdict bytes i ≡ Good n → i + (n + overhead) ≤ length bytes
 good_within bytes i n e =
     omega (arith, good_of (drop i bytes) n e, length-drop i bytes, judged_within bytes i (good_not_open e))
 
