@@ -1,5 +1,5 @@
 -- What stands at the front of bytes: an ADU, or a rest of one kind.
-use Rattle.std.proofs.Common.{◌≡◌, ◌⊎◌, inl, inr, ℕ, zero, suc, ◌+◌, ◌-◌, ◌*◌, ◌<◌, ◌≤◌, List, [], ◌∷◌, ◌++◌, length, take, drop, get_or, refl, sym, ap, ◌∙◌, subst, arith, length-append, length-drop, append_assoc}
+use Rattle.std.proofs.Common.{◌≡◌, ◌⊎◌, inl, inr, ℕ, zero, suc, ◌+◌, ◌-◌, ◌*◌, ◌^◌, ◌<◌, ◌≤◌, List, [], ◌∷◌, ◌++◌, length, take, drop, get_or, refl, sym, ap, ◌∙◌, subst, arith, length-append, length-drop, append_assoc}
 use Rattle.std.specs.Prelude.{All}
 use Rattle.std.proofs.lemmas.Bool.{cases_lt}
 use Rattle.std.proofs.lemmas.List.{take_at, drop_at, drop-take, take-append-drop, length-take-le}
@@ -13,9 +13,10 @@ use Rattle.modbus_tcp.specs.declared.mbap.Mbap.{Mbap}
 use Rattle.modbus_tcp.specs.Decoding.{Tells}
 use Rattle.modbus_tcp.specs.Adu.{adu_of, IsAdu}
 use Rattle.modbus_tcp.specs.Stream.{told_length, Rest, empty, unfinished, no_length, foreign, IsRest, BeginsWith}
+use Rattle.modbus_tcp.specs.Limits.{uncounted, unit_identifier, mbap_header, modbus_protocol}
 
 -- two bytes as a number, and back
-word_back : (n : ℕ) → n < 65536 → word_at (word n) 0 ≡ n
+word_back : (n : ℕ) → n < 2 ^ 16 → word_at (word n) 0 ≡ n
 word_back n lt = omega (arith, from_be_bytes-to_be_bytes_2 n lt)
 
 pair_small : (a b : ℕ) → a < 256 → b < 256 → (i : ℕ) → get_or (a ∷ b ∷ []) i 0 < 256
@@ -32,11 +33,11 @@ word_of_bytes a b p q = be_bytes_2 (a ∷ b ∷ []) (a * 256 + b) refl (pair_sma
 -- what the bytes of an ADU tell
 pub record Told (bytes : List ℕ) (message : Header × List ℕ) (others : List ℕ) : Type 0 where
   pub transaction : word_at bytes 0 ≡ message.0.transaction_id
-  pub protocol : word_at bytes 2 ≡ 0
+  pub protocol : word_at bytes 2 ≡ modbus_protocol
   pub size : told_length bytes ≡ length message.1 + 1
   pub unit_id : get_or bytes 6 0 ≡ message.0.unit_id
-  pub body : drop 7 bytes ≡ message.1 ++ others
-  pub all : length bytes ≡ length message.1 + length others + 7
+  pub body : drop mbap_header bytes ≡ message.1 ++ others
+  pub all : length bytes ≡ length message.1 + length others + mbap_header
 
 told_by_adu : (header : Header) (pdu others : List ℕ) → IsAdu (header, pdu) → Told (adu_of header pdu ++ others) (header, pdu) others
 unfolding adu_of
@@ -61,8 +62,8 @@ begins_by_parts a b c d e f u pdu others p q r s none size =
     let high : c ≡ 0 = omega arith in
     let low : d ≡ 0 = omega arith in
     let first : word (a * 256 + b) ≡ a ∷ b ∷ [] = word_of_bytes a b p q in
-    let third : word (length pdu + 1) ≡ e ∷ f ∷ [] = subst (λ n. word n ≡ e ∷ f ∷ []) size (word_of_bytes e f r s) in
-    let is : (a ∷ b ∷ []) ++ (c ∷ d ∷ []) ++ (e ∷ f ∷ []) ++ (u ∷ (pdu ++ others)) ≡ word (a * 256 + b) ++ word 0 ++ word (length pdu + 1) ++ (u ∷ (pdu ++ others)) = cc in
+    let third : word (length pdu + unit_identifier) ≡ e ∷ f ∷ [] = subst (λ n. word n ≡ e ∷ f ∷ []) size (word_of_bytes e f r s) in
+    let is : (a ∷ b ∷ []) ++ (c ∷ d ∷ []) ++ (e ∷ f ∷ []) ++ (u ∷ (pdu ++ others)) ≡ word (a * 256 + b) ++ word modbus_protocol ++ word (length pdu + unit_identifier) ++ (u ∷ (pdu ++ others)) = cc in
     record {
       joined = is;
       whole = record { transaction = omega arith; size = omega arith };
@@ -74,10 +75,10 @@ header_of bytes = record { transaction_id = word_at bytes 0; unit_id = get_or by
 at : (bytes : List ℕ) → All IsByte bytes → (i : ℕ) → i < length bytes → get_or bytes i 0 < 256
 at bytes bounded i lt = All-get_or IsByte bytes i 0 lt bounded
 
-pub begins : (bytes : List ℕ) (count : ℕ) → All IsByte bytes → 7 ≤ count → count ≤ length bytes → word_at bytes 2 ≡ 0 → count ≡ 6 + told_length bytes →
-    BeginsWith bytes (header_of bytes, drop 7 (take count bytes)) (drop count bytes)
+pub begins : (bytes : List ℕ) (count : ℕ) → All IsByte bytes → mbap_header ≤ count → count ≤ length bytes → word_at bytes 2 ≡ modbus_protocol → count ≡ uncounted + told_length bytes →
+    BeginsWith bytes (header_of bytes, drop mbap_header (take count bytes)) (drop count bytes)
 begins (a ∷ b ∷ c ∷ d ∷ e ∷ f ∷ u ∷ body) count bounded low high none size =
-    let k = count - 7 in
+    let k = count - mbap_header in
     let bytes = a ∷ b ∷ c ∷ d ∷ e ∷ f ∷ u ∷ body in
     let more : count ≡ suc (suc (suc (suc (suc (suc (suc k)))))) = omega arith in
     let all : take k body ++ drop k body ≡ body = take-append-drop k body in
@@ -92,43 +93,43 @@ same_header header other p q =
     ap (λ t. with t header.unit_id) p ∙ ap (λ u. with other.transaction_id u) q
 
 -- what a header tells of its ADU
-pub tells_adu : (bytes : List ℕ) (mbap : Mbap) (end : ℕ) → All IsByte bytes → Tells bytes mbap → 0 < mbap.length → end ≤ length bytes → mbap.protocol ≡ 0 → end ≡ 6 + mbap.length →
-    BeginsWith bytes (mbap.header, take (end - 7) (drop 7 bytes)) (drop end bytes)
+pub tells_adu : (bytes : List ℕ) (mbap : Mbap) (end : ℕ) → All IsByte bytes → Tells bytes mbap → 0 < mbap.length → end ≤ length bytes → mbap.protocol ≡ modbus_protocol → end ≡ uncounted + mbap.length →
+    BeginsWith bytes (mbap.header, take (end - mbap_header) (drop mbap_header bytes)) (drop end bytes)
 tells_adu bytes mbap end bounded tells some whole ours is =
     let header : mbap.header ≡ header_of bytes = same_header mbap.header (header_of bytes) tells.transaction tells.unit_id in
-    let size : end ≡ 7 + (end - 7) = omega arith in
-    let pdu : drop 7 (take end bytes) ≡ take (end - 7) (drop 7 bytes) = ap (λ n. drop 7 (take n bytes)) size ∙ drop-take 7 (end - 7) bytes in
+    let size : end ≡ mbap_header + (end - mbap_header) = omega arith in
+    let pdu : drop mbap_header (take end bytes) ≡ take (end - mbap_header) (drop mbap_header bytes) = ap (λ n. drop mbap_header (take n bytes)) size ∙ drop-take mbap_header (end - mbap_header) bytes in
     rw (header, ← pdu) (begins bytes end bounded (omega arith) whole (sym tells.protocol ∙ ours) (omega (arith, tells.length)))
 
 -- the ADU that ends where the others begin: what it has behind its header
-pub taken_off : {bytes : List ℕ} {message : Header × List ℕ} (end : ℕ) → BeginsWith bytes message (drop end bytes) → end ≤ length bytes → (7 ≤ length (take end bytes)) × (drop 7 (take end bytes) ≡ message.1)
+pub taken_off : {bytes : List ℕ} {message : Header × List ℕ} (end : ℕ) → BeginsWith bytes message (drop end bytes) → end ≤ length bytes → (mbap_header ≤ length (take end bytes)) × (drop mbap_header (take end bytes) ≡ message.1)
 taken_off {bytes} {message} end begins within =
     let tells = told begins in
-    let size : end ≡ 7 + length message.1 = omega (arith, tells.all, length-drop end bytes) in
-    (omega (arith, length-take-le end bytes within), rw (size, drop-take 7 (length message.1) bytes, tells.body) (take_at message.1 (drop end bytes) (length message.1) refl))
+    let size : end ≡ mbap_header + length message.1 = omega (arith, tells.all, length-drop end bytes) in
+    (omega (arith, length-take-le end bytes within), rw (size, drop-take mbap_header (length message.1) bytes, tells.body) (take_at message.1 (drop end bytes) (length message.1) refl))
 
 -- a short list
-pub short_rest : (bytes : List ℕ) → length bytes < 7 → IsRest bytes empty ⊎ IsRest bytes unfinished
+pub short_rest : (bytes : List ℕ) → length bytes < mbap_header → IsRest bytes empty ⊎ IsRest bytes unfinished
 short_rest [] lt = inl refl
 short_rest (b ∷ bytes) lt = inr (omega arith, inl lt)
 
 -- of bytes exactly one holds
 pub front_of : (bytes : List ℕ) → All IsByte bytes → ((message : Header × List ℕ) × (others : List ℕ) × BeginsWith bytes message others) ⊎ ((kind : Rest) × IsRest bytes kind)
-front_of bytes bounded = elim (cases_lt (length bytes) 7) [
+front_of bytes bounded = elim (cases_lt (length bytes) mbap_header) [
   | inl short ↦ elim (short_rest bytes short) [
     | inl none ↦ inr (empty, none)
     | inr some ↦ inr (unfinished, some)
   ]
   | inr long ↦ elim (cases_lt 0 (told_length bytes)) [
     | inr none ↦ inr (no_length, (long, omega arith))
-    | inl some ↦ elim (cases_lt (length bytes) (6 + told_length bytes)) [
+    | inl some ↦ elim (cases_lt (length bytes) (uncounted + told_length bytes)) [
       | inl part ↦ inr (unfinished, (omega arith, inr (some, part)))
       | inr whole ↦ elim (cases_lt 0 (word_at bytes 2)) [
         | inl other ↦ inr (foreign (word_at bytes 2), (long, some, whole, refl, λ e. omega (arith, e)))
         | inr ours ↦ inl (
-          (header_of bytes, drop 7 (take (6 + told_length bytes) bytes)),
-          drop (6 + told_length bytes) bytes,
-          begins bytes (6 + told_length bytes) bounded (omega arith) whole (omega arith) refl,
+          (header_of bytes, drop mbap_header (take (uncounted + told_length bytes) bytes)),
+          drop (uncounted + told_length bytes) bytes,
+          begins bytes (uncounted + told_length bytes) bounded (omega arith) whole (omega arith) refl,
         )
       ]
     ]

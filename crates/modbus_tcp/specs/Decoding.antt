@@ -10,10 +10,10 @@ use Rattle.modbus_tcp.specs.declared.stream.Front.{Front}
 use Rattle.modbus_tcp.specs.declared.stream.Front.TheVariants as found
 use Rattle.modbus_tcp.specs.declared.stream.HeaderFault.{HeaderFault}
 use Rattle.modbus_tcp.specs.declared.stream.HeaderFault.TheVariants as faults
-use Rattle.modbus_tcp.specs.declared.stream.TheConstants.{LONGEST_ADU}
 use Rattle.modbus_tcp.specs.declared.decoder.TcpError.{TcpError}
 use Rattle.modbus_tcp.specs.declared.decoder.TcpError.TheVariants as errors
 use Rattle.modbus_tcp.specs.Stream.{told_length, IsRest, empty, unfinished, no_length, foreign, BeginsWith}
+use Rattle.modbus_tcp.specs.Limits.{mbap_header, longest_adu}
 
 -- the bytes begin with a header of these fields (section 3.1.3)
 pub record Tells (bytes : List ℕ) (mbap : Mbap) : Type 0 where
@@ -26,17 +26,17 @@ pub record Tells (bytes : List ℕ) (mbap : Mbap) : Type 0 where
 -- fewer bytes than the longest ADU has; or a header that is no header of Modbus (section 3.1.3).
 abbrev pub Finds : List ℕ → Result Front HeaderFault → Type 0
 Finds bytes (Ok (found.Adu header pdu end)) = BeginsWith bytes (header, pdu.now) (drop end bytes) × (0 < end) × (end ≤ length bytes)
-Finds bytes (Ok found.Waiting) = (IsRest bytes empty ⊎ IsRest bytes unfinished) × (length bytes < LONGEST_ADU)
+Finds bytes (Ok found.Waiting) = (IsRest bytes empty ⊎ IsRest bytes unfinished) × (length bytes < longest_adu)
 Finds bytes (Err faults.InvalidLength) = IsRest bytes no_length
 Finds bytes (Err (faults.InvalidProtocol protocol)) = IsRest bytes (foreign protocol)
 
 -- From the buffer before, what the decoder of ADUs answers, and the buffer after. The first ADU is given and leaves the buffer.
--- Where the bytes begin no ADU the buffer stays as it is, but for the header of another protocol, whose 7 bytes are gone.
+-- Where the bytes begin no ADU the buffer stays as it is, but for the header of another protocol, which is gone.
 abbrev pub TakesAdu : List ℕ → Result (Option (Header × List ℕ)) TcpError → List ℕ → Type 0
 TakesAdu old (Ok (Some message)) new = BeginsWith old message new
 TakesAdu old (Ok None) new = (IsRest old empty ⊎ IsRest old unfinished) × (new ≡ old)
 TakesAdu old (Err errors.InvalidLength) new = IsRest old no_length × (new ≡ old)
-TakesAdu old (Err (errors.InvalidProtocol protocol)) new = IsRest old (foreign protocol) × (new ≡ drop 7 old)
+TakesAdu old (Err (errors.InvalidProtocol protocol)) new = IsRest old (foreign protocol) × (new ≡ drop mbap_header old)
 TakesAdu old (Err (errors.Invalid reason)) new = ⊥
 TakesAdu old (Err errors.NoMemory) new = (message : Header × List ℕ) × (others : List ℕ) × BeginsWith old message others × (new ≡ old)
 
@@ -53,7 +53,7 @@ ReadsAdu read carries header meaning old (Ok (Some adu)) new =
     (pdu : List ℕ) × BeginsWith old (header adu, pdu) new × (read pdu ≡ Ok (meaning adu))
 ReadsAdu read carries header meaning old (Ok None) new = (IsRest old empty ⊎ IsRest old unfinished) × (new ≡ old)
 ReadsAdu read carries header meaning old (Err errors.InvalidLength) new = IsRest old no_length × (new ≡ old)
-ReadsAdu read carries header meaning old (Err (errors.InvalidProtocol protocol)) new = IsRest old (foreign protocol) × (new ≡ drop 7 old)
+ReadsAdu read carries header meaning old (Err (errors.InvalidProtocol protocol)) new = IsRest old (foreign protocol) × (new ≡ drop mbap_header old)
 ReadsAdu read carries header meaning old (Err (errors.Invalid reason)) new =
     (message : Header × List ℕ) × BeginsWith old message new × (read message.1 ≡ Err reason)
 ReadsAdu read carries header meaning old (Err errors.NoMemory) new =

@@ -3,6 +3,7 @@ use Rattle.std.specs.Prelude.{◌≡◌, ◌≢◌, ◌⊎◌, ℕ, ◌+◌, ◌
 use Rattle.modbus_frame.specs.declared.tcp.Header.{Header}
 use Rattle.modbus_pdu.specs.Fields.{word_at}
 use Rattle.modbus_tcp.specs.Adu.{adu_of, IsAdu, stream_of}
+use Rattle.modbus_tcp.specs.Limits.{uncounted, mbap_header, modbus_protocol}
 
 -- the length that a header tells: of the unit identifier and the PDU, which follow it
 abbrev pub told_length : List ℕ → ℕ
@@ -21,10 +22,10 @@ pub data Rest : Type 0 where
 
 abbrev pub IsRest : List ℕ → Rest → Type 0
 IsRest bytes empty = bytes ≡ []
-IsRest bytes unfinished = (0 < length bytes) × ((length bytes < 7) ⊎ ((0 < told_length bytes) × (length bytes < 6 + told_length bytes)))
-IsRest bytes no_length = (7 ≤ length bytes) × (told_length bytes ≡ 0)
+IsRest bytes unfinished = (0 < length bytes) × ((length bytes < mbap_header) ⊎ ((0 < told_length bytes) × (length bytes < uncounted + told_length bytes)))
+IsRest bytes no_length = (mbap_header ≤ length bytes) × (told_length bytes ≡ 0)
 IsRest bytes (foreign protocol) =
-    (7 ≤ length bytes) × (0 < told_length bytes) × (6 + told_length bytes ≤ length bytes) × (protocol ≡ word_at bytes 2) × (protocol ≢ 0)
+    (mbap_header ≤ length bytes) × (0 < told_length bytes) × (uncounted + told_length bytes ≤ length bytes) × (protocol ≡ word_at bytes 2) × (protocol ≢ modbus_protocol)
 
 -- the bytes are these ADUs, one after another, and a rest of this kind
 pub record IsSplit (bytes : List ℕ) (adus : List (Header × List ℕ)) (rest : List ℕ) (kind : Rest) : Type 0 where

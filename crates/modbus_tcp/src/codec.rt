@@ -3,6 +3,7 @@
 ghost use Rattle.std.specs.Prelude.{◌≡◌, ◌<◌, Ok, None, length};
 ghost use Rattle.std.specs.Result.{ForErr};
 ghost use Rattle.modbus_frame.specs.Codes.{function_number};
+ghost use Rattle.modbus_frame.specs.FunctionCodes.{exception_bit};
 ghost use Rattle.modbus_frame.specs.Meaning.{meaning};
 ghost use Rattle.modbus_pdu.specs.Coding.{Encodes};
 ghost use Rattle.modbus_pdu.specs.RequestOf.{CarriesList, request_of};
@@ -11,10 +12,10 @@ ghost use Rattle.modbus_pdu.specs.RequestPdu.{request_pdu};
 ghost use Rattle.modbus_pdu.specs.ResponsePdu.{response_result_pdu};
 ghost use Rattle.modbus_tcp.specs.Decoding.{ReadsAdu};
 ghost use Rattle.modbus_tcp.specs.Adu.{adu_of};
+ghost use Rattle.modbus_tcp.specs.Limits.{longest_adu};
 
 use crate::decoder::{AduDecoder, TcpError};
 use crate::encoder::{encode_request_adu, encode_response_adu};
-use crate::stream::LONGEST_ADU;
 use bytes::BytesMut;
 use modbus_frame::{EncodeError, RequestPdu, tcp};
 use modbus_pdu::{decode_request, decode_response_pdu};
@@ -45,7 +46,7 @@ impl ClientCodec {
     ///
     /// # Errors
     /// `InvalidLength` exactly where the header tells the length 0; the buffer stays. `InvalidProtocol` with the number, exactly
-    /// where the ADU is whole and its protocol is not 0; its header of 7 bytes is gone. `Invalid` with the reason, exactly where
+    /// where the ADU is whole and its protocol is not Modbus; its header is gone. `Invalid` with the reason, exactly where
     /// the PDU of the ADU is refused; the ADU is gone. `NoMemory` where memory is refused for an ADU; it stays, or is gone where its PDU
     /// is a response that carries a list or bytes.
     pub fn decode(
@@ -54,7 +55,7 @@ impl ClientCodec {
         buf: &mut BytesMut,
     ) -> Result<Option<tcp::ResponseAdu>, TcpError>
         ensures reads { ReadsAdu response_result_of AnswerCarriesMemory (λ adu. adu.hdr) (λ adu. adu.pdu.0) buf.old.items result buf.new.items }
-        ensures short { result ≡ Ok None → length buf.new.items < LONGEST_ADU }
+        ensures short { result ≡ Ok None → length buf.new.items < longest_adu }
     {
         let Some((hdr, pdu)) = self.decoder.decode(alloc, buf)? else {
             return Ok(None);
@@ -66,7 +67,7 @@ impl ClientCodec {
     /// Appends the ADU of a request: the header, with the transaction and the unit identifier, and the PDU (section 3.1).
     ///
     /// # Errors
-    /// `TooLong` with the size of the PDU in bytes, exactly where that is above 253. `NoMemory` where memory is refused. The bytes
+    /// `TooLong` with the size of the PDU in bytes, exactly where that is above `MAX_PDU`. `NoMemory` where memory is refused. The bytes
     /// of the buffer are then as they were.
     #[inline]
     pub fn encode(
@@ -94,7 +95,7 @@ impl ServerCodec {
     ///
     /// # Errors
     /// `InvalidLength` exactly where the header tells the length 0; the buffer stays. `InvalidProtocol` with the number, exactly
-    /// where the ADU is whole and its protocol is not 0; its header of 7 bytes is gone. `Invalid` with the reason, exactly where
+    /// where the ADU is whole and its protocol is not Modbus; its header is gone. `Invalid` with the reason, exactly where
     /// the PDU of the ADU is refused; the ADU is gone. `NoMemory` where memory is refused for an ADU; it stays, or is gone where its PDU
     /// is a request that carries a list.
     pub fn decode(
@@ -103,7 +104,7 @@ impl ServerCodec {
         buf: &mut BytesMut,
     ) -> Result<Option<tcp::RequestAdu<'static>>, TcpError>
         ensures reads { ReadsAdu request_of CarriesList (λ adu. adu.hdr) (λ adu. meaning adu.pdu.0) buf.old.items result buf.new.items }
-        ensures short { result ≡ Ok None → length buf.new.items < LONGEST_ADU }
+        ensures short { result ≡ Ok None → length buf.new.items < longest_adu }
     {
         let Some((hdr, pdu)) = self.decoder.decode(alloc, buf)? else {
             return Ok(None);
@@ -116,10 +117,10 @@ impl ServerCodec {
     }
 
     /// Appends the ADU of a response or an exception: the header, with the transaction and the unit identifier of the request, and
-    /// the PDU (section 3.1). The function of an exception is below 0x80.
+    /// the PDU (section 3.1). The function of an exception is below `EXCEPTION_BIT`.
     ///
     /// # Errors
-    /// `TooLong` with the size of the PDU in bytes, exactly where that is above 253. `NoMemory` where memory is refused. The bytes
+    /// `TooLong` with the size of the PDU in bytes, exactly where that is above `MAX_PDU`. `NoMemory` where memory is refused. The bytes
     /// of the buffer are then as they were.
     #[inline]
     pub fn encode(
@@ -128,7 +129,7 @@ impl ServerCodec {
         adu: tcp::ResponseAdu,
         buf: &mut BytesMut,
     ) -> Result<(), EncodeError>
-        requires { ForErr adu.pdu.0 (λ refusal. function_number refusal.function < 0x80) }
+        requires { ForErr adu.pdu.0 (λ refusal. function_number refusal.function < exception_bit) }
         ensures { Encodes (adu_of adu.hdr (response_result_pdu adu.pdu.0)) (response_result_pdu adu.pdu.0) buf.old.items result buf.new.items }
     {
         encode_response_adu(alloc, adu.hdr, &adu.pdu.0, buf)

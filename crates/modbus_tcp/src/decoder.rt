@@ -2,9 +2,10 @@
 ghost use Rattle.std.specs.Prelude.{◌≡◌, ◌<◌, Ok, None, length};
 ghost use Rattle.modbus_tcp.specs.declared.decoder.TcpError.TheVariants as errors;
 ghost use Rattle.modbus_tcp.specs.Decoding.{TakesAdu, error_of};
+ghost use Rattle.modbus_tcp.specs.Limits.{longest_adu};
 
 use crate::mbap::{HEADER, front};
-use crate::stream::{Front, HeaderFault, LONGEST_ADU};
+use crate::stream::{Front, HeaderFault};
 use bytes::{Bytes, BytesMut};
 use modbus_frame::{PduError, Reason, tcp};
 use std::alloc::{AllocError, Global};
@@ -15,7 +16,7 @@ pub enum TcpError {
     /// The header tells the length 0, which leaves out the unit identifier.
     #[error("invalid length")]
     InvalidLength,
-    /// The header tells this protocol, and Modbus is 0.
+    /// The header tells this protocol, and it is not Modbus.
     #[error("invalid protocol {0}")]
     InvalidProtocol(u16),
     /// The PDU of an ADU is refused for this reason.
@@ -60,7 +61,7 @@ impl AduDecoder {
     ///
     /// # Errors
     /// `InvalidLength` exactly where the header tells the length 0; the buffer stays. `InvalidProtocol` with the number, exactly
-    /// where the ADU is whole and its protocol is not 0; its header of 7 bytes is gone. `NoMemory` where memory is refused for an
+    /// where the ADU is whole and its protocol is not Modbus; its header is gone. `NoMemory` where memory is refused for an
     /// ADU; the buffer stays. `Invalid` never.
     pub fn decode(
         &mut self,
@@ -68,7 +69,7 @@ impl AduDecoder {
         buf: &mut BytesMut,
     ) -> Result<Option<(tcp::Header, Bytes)>, TcpError>
         ensures takes { TakesAdu buf.old.items result buf.new.items }
-        ensures short { result ≡ Ok None → length buf.new.items < LONGEST_ADU }
+        ensures short { result ≡ Ok None → length buf.new.items < longest_adu }
     {
         match front(buf.as_slice()) {
             Ok(Front::Adu { header, end, .. }) => {

@@ -2,39 +2,43 @@
 ghost use Rattle.std.specs.Prelude.{◌≡◌, ◌+◌, ◌<◌, ◌≤◌, [], ◌∷◌, ◌++◌, length, Err};
 ghost use Rattle.std.specs.Result.{ForErr};
 ghost use Rattle.modbus_frame.specs.Codes.{function_number};
+ghost use Rattle.modbus_frame.specs.FunctionCodes.{exception_bit};
 ghost use Rattle.modbus_frame.specs.Meaning.{meaning};
 ghost use Rattle.modbus_pdu.specs.Coding.{Encodes};
+ghost use Rattle.modbus_pdu.specs.Limits.{max_pdu};
 ghost use Rattle.modbus_pdu.specs.RequestPdu.{request_pdu};
 ghost use Rattle.modbus_pdu.specs.ResponsePdu.{response_result_pdu};
 ghost use Rattle.modbus_pdu.specs.Writing.{word};
 ghost use Rattle.modbus_tcp.specs.Adu.{adu_of};
+ghost use Rattle.modbus_tcp.specs.Limits.{unit_identifier, mbap_header, modbus_protocol};
 
-use crate::mbap::{HEADER, MODBUS};
+use crate::mbap::{HEADER, MODBUS, UNIT_IDENTIFIER};
 use bytes::BytesMut;
 use modbus_frame::{EncodeError, ExceptionResponse, Request, Response, tcp};
 use modbus_pdu::{
-    MAX_PDU, put_request_pdu, put_response_result_pdu, request_pdu_size, response_result_pdu_size,
+    put_request_pdu, put_response_result_pdu, request_pdu_size, response_result_pdu_size,
 };
 use std::alloc::Global;
 
 /// Appends the header of an ADU whose PDU has so many bytes (section 3.1.3).
 #[inline]
 fn put_header(buf: &mut BytesMut, header: tcp::Header, pdu_len: usize)
-    requires fits { pdu_len ≤ MAX_PDU }
-    requires room { 7 ≤ buf.old.spare }
-    ensures items { buf.new.items ≡ buf.old.items ++ word header.transaction_id ++ word 0 ++ word (pdu_len + 1) ++ header.unit_id ∷ [] }
-    ensures spare { buf.new.spare + 7 ≡ buf.old.spare }
+    requires fits { pdu_len ≤ max_pdu }
+    requires room { mbap_header ≤ buf.old.spare }
+    ensures items { buf.new.items ≡ buf.old.items ++ word header.transaction_id
+        ++ word modbus_protocol ++ word (pdu_len + unit_identifier) ++ header.unit_id ∷ [] }
+    ensures spare { buf.new.spare + mbap_header ≡ buf.old.spare }
 {
     let [t0, t1] = header.transaction_id.to_be_bytes();
     let [p0, p1] = MODBUS.to_be_bytes();
-    let [l0, l1] = ((pdu_len + 1) as u16).to_be_bytes();
+    let [l0, l1] = ((pdu_len + UNIT_IDENTIFIER) as u16).to_be_bytes();
     buf.extend_reserved(&[t0, t1, p0, p1, l0, l1, header.unit_id]);
 }
 
 /// Appends the ADU of a request: the header, with its transaction and its unit identifier, and the PDU (section 3.1).
 ///
 /// # Errors
-/// `TooLong` with the size of the PDU in bytes, exactly where that is above 253. `NoMemory` where memory is refused. The bytes of the
+/// `TooLong` with the size of the PDU in bytes, exactly where that is above `MAX_PDU`. `NoMemory` where memory is refused. The bytes of the
 /// buffer are then as they were.
 #[tactic(auto, unfolding(crate::specs::Adu::adu_of))]
 pub fn encode_request_adu(
@@ -54,10 +58,10 @@ pub fn encode_request_adu(
 }
 
 /// Appends the ADU of a response or an exception: the header, with the transaction and the unit identifier of the request, and the PDU
-/// (section 3.1). The function of an exception is below 0x80.
+/// (section 3.1). The function of an exception is below `EXCEPTION_BIT`.
 ///
 /// # Errors
-/// `TooLong` with the size of the PDU in bytes, exactly where that is above 253. `NoMemory` where memory is refused, only where the
+/// `TooLong` with the size of the PDU in bytes, exactly where that is above `MAX_PDU`. `NoMemory` where memory is refused, only where the
 /// buffer had no room for the whole ADU. The bytes of the buffer are then as they were.
 #[inline(always)]
 #[tactic(auto, unfolding(crate::specs::Adu::adu_of))]
@@ -67,7 +71,7 @@ pub fn encode_response_adu(
     answer: &Result<Response, ExceptionResponse>,
     buf: &mut BytesMut,
 ) -> Result<(), EncodeError>
-    requires { ForErr answer.now (λ refusal. function_number refusal.function < 0x80) }
+    requires { ForErr answer.now (λ refusal. function_number refusal.function < exception_bit) }
     ensures encodes { Encodes (adu_of header (response_result_pdu answer.now)) (response_result_pdu answer.now) buf.old.items result buf.new.items }
     ensures memory { result ≡ Err EncodeError.NoMemory → buf.old.spare < length (adu_of header (response_result_pdu answer.now)) }
 

@@ -4,6 +4,7 @@ ghost use Rattle.modbus_frame.specs.declared.tcp.Header.{Header};
 ghost use Rattle.modbus_pdu.specs.Laws.{IsByte};
 ghost use Rattle.modbus_tcp.specs.Adu.{adu_of, IsAdu, stream_of};
 ghost use Rattle.modbus_tcp.specs.Stream.{Rest, unfinished, no_length, foreign, empty, IsRest, IsSplit, BeginsWith};
+ghost use Rattle.modbus_tcp.specs.Limits.{mbap_header};
 
 /// Of a list of bytes exactly one holds: it begins with an ADU, and then with this one only and the same others; or it is a rest of
 /// one kind.
@@ -30,10 +31,10 @@ pub fn adu_stays()
     ensures none { (bytes more others : List ℕ) (message : Header × List ℕ) → IsRest (bytes ++ more) unfinished → BeginsWith bytes message others → ⊥ }
 {}
 
-/// ADUs that were taken off, one after another, and then the next one, or bytes that are read. An ADU has a header of 7 bytes, so what
-/// follows it is shorter.
+/// ADUs that were taken off, one after another, and then the next one, or bytes that are read. An ADU has a header, so what follows
+/// it is shorter.
 pub fn adus_go_on()
-    ensures size { (bytes others : List ℕ) (message : Header × List ℕ) → BeginsWith bytes message others → length bytes ≡ 7 + length message.1 + length others }
+    ensures size { (bytes others : List ℕ) (message : Header × List ℕ) → BeginsWith bytes message others → length bytes ≡ mbap_header + length message.1 + length others }
     ensures fewer { (bytes others : List ℕ) (message : Header × List ℕ) → BeginsWith bytes message others → length others < length bytes }
     ensures joined { (bytes held others : List ℕ) (adus : List (Header × List ℕ)) (message : Header × List ℕ) → bytes ≡ stream_of adus ++ held → BeginsWith held message others → bytes ≡ stream_of (adus ++ message ∷ []) ++ others }
     ensures whole { (held others : List ℕ) (adus : List (Header × List ℕ)) (message : Header × List ℕ) → All IsAdu adus → BeginsWith held message others → All IsAdu (adus ++ message ∷ []) }

@@ -3,15 +3,19 @@ ghost use Rattle.std.specs.Prelude.{◌≡◌, ◌+◌, ◌<◌, ◌≤◌, ◌�
 ghost use Rattle.modbus_pdu.specs.Laws.{IsByte};
 ghost use Rattle.modbus_tcp.specs.Decoding.{Finds, Tells};
 ghost use Rattle.modbus_tcp.specs.Stream.{BeginsWith};
+ghost use Rattle.modbus_tcp.specs.Limits.{uncounted, mbap_header, modbus_protocol};
 
 use crate::stream::{Front, HeaderFault};
 use modbus_frame::tcp;
 
-/// How many bytes an MBAP header has.
-pub(crate) const HEADER: usize = 7;
+/// How many bytes of a header stand before those that its length counts: the transaction, the protocol and the length.
+pub(crate) const UNCOUNTED: usize = 6;
 
-/// How many bytes of a header stand before those that its length counts: all but the unit identifier.
-const UNCOUNTED: usize = 6;
+/// How many bytes a unit identifier has, the last field of a header, which its length counts with the PDU.
+pub(crate) const UNIT_IDENTIFIER: usize = 1;
+
+/// How many bytes an MBAP header has.
+pub(crate) const HEADER: usize = UNCOUNTED + UNIT_IDENTIFIER;
 
 /// The number of the Modbus protocol.
 pub(crate) const MODBUS: u16 = 0;
@@ -28,7 +32,7 @@ impl Mbap {
     /// How many bytes the ADU has.
     #[inline]
     fn adu_len(self) -> usize
-        ensures { result ≡ 6 + self.length }
+        ensures { result ≡ uncounted + self.length }
     {
         UNCOUNTED + usize::from(self.length)
     }
@@ -37,7 +41,7 @@ impl Mbap {
 /// Reads the header at the front of the bytes, where it is whole.
 #[inline]
 fn read_header(bytes: &[u8]) -> Option<Mbap>
-    ensures none { IsNone result ↔ (length bytes.now < 7) }
+    ensures none { IsNone result ↔ (length bytes.now < mbap_header) }
     ensures tells { IfSome result (Tells bytes.now) }
     ensures bytes { All IsByte bytes.now }
 {
@@ -60,9 +64,10 @@ fn pdu_of(bytes: &[u8], mbap: Mbap) -> &[u8]
     requires bytes { All IsByte bytes.now }
     requires tells { Tells bytes.now mbap }
     requires some { 0 < mbap.length }
-    requires whole { 6 + mbap.length ≤ length bytes.now }
-    requires ours { mbap.protocol ≡ 0 }
-    ensures { BeginsWith bytes.now (mbap.header, result.now) (drop (6 + mbap.length) bytes.now) }
+    requires whole { uncounted + mbap.length ≤ length bytes.now }
+    requires ours { mbap.protocol ≡ modbus_protocol }
+    ensures { BeginsWith bytes.now (mbap.header, result.now)
+        (drop (uncounted + mbap.length) bytes.now) }
 {
     &bytes[HEADER..mbap.adu_len()]
 }
@@ -72,7 +77,7 @@ fn pdu_of(bytes: &[u8], mbap: Mbap) -> &[u8]
 ///
 /// # Errors
 /// `InvalidLength` exactly where the header tells the length 0. `InvalidProtocol` with the number, exactly where the ADU is whole and
-/// its protocol is not 0.
+/// its protocol is not Modbus.
 #[inline]
 pub fn front(bytes: &[u8]) -> Result<Front<'_>, HeaderFault>
     ensures finds { Finds bytes.now result }

@@ -1,10 +1,17 @@
 //! What may stand at the front of the bytes of a stream (MODBUS Messaging on TCP/IP V1.0b, section 3.1.3).
 
+use crate::mbap::{HEADER, UNCOUNTED};
 use modbus_frame::tcp;
+use modbus_pdu::MAX_PDU;
 
-/// How many bytes the longest ADU has that a header can tell: 6, and the 65535 that its length counts at most. An ADU whose PDU has
-/// no more bytes than section 3.1.3 allows has at most 260.
-pub const LONGEST_ADU: usize = 65541;
+/// The greatest length that a header can tell.
+const MAX_LENGTH: usize = 65535;
+
+/// How many bytes the longest ADU has that a header can tell: 65541.
+pub const LONGEST_ADU: usize = UNCOUNTED + MAX_LENGTH;
+
+/// The bytes of the longest ADU of a response, whose PDU is as long as a PDU may be: 260.
+pub const LONGEST_RESPONSE: usize = HEADER + MAX_PDU;
 
 /// What stands at the front of the bytes of a stream.
 #[derive(Clone, Copy, Debug, PartialEq, Eq)]
@@ -27,6 +34,6 @@ pub enum Front<'a> {
 pub enum HeaderFault {
     /// The header tells the length 0, which leaves out the unit identifier.
     InvalidLength,
-    /// The header tells this protocol, and Modbus is 0.
+    /// The header tells this protocol, and it is not Modbus.
     InvalidProtocol(u16),
 }
