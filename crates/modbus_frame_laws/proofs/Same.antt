@@ -1,5 +1,6 @@
 -- When two values are equal: the parts of the proofs that derived equality is that of the meaning.
-use Rattle.std.proofs.Common.{◌≡◌, Bool, true, false, ◌&&◌, refl, ap, rules}
+use Rattle.std.proofs.Common.{◌≡◌, ℕ, Bool, true, false, ◌&&◌, eqb, refl, sym, ap, ◌∙◌, eq-eqb, rules}
+use Rattle.std.proofs.lemmas.Bool.{false≢true}
 use Rattle.std.specs.Prelude.{nat_eq}
 use Rattle.std.specs.Bool.{Decides}
 use Rattle.std.specs.Cmp.Lexicographic.{pointwise}
@@ -18,6 +19,10 @@ pub both : {P Q R : Type 0} (x y : Bool) → Decides x P → Decides y Q → (P 
 both true true d e join first second = ((λ _. join (d.0 refl) (e.0 refl)), λ _. refl)
 both true false d e join first second = ((λ h. absurd cc), λ r. e.1 (second r))
 both false y d e join first second = ((λ h. absurd cc), λ r. d.1 (first r))
+
+-- values of two kinds are two values
+pub differ : {A : Type 0} (kind : A → ℕ) {x y : A} → x ≡ y → eqb (kind x) (kind y) ≡ false → ⊥
+differ kind {x} {y} e apart = false≢true (sym apart ∙ eq-eqb (kind x) (kind y) (ap kind e))
 
 -- two objects of a device identification: their ids are equal, and so are the bytes of their values
 abbrev same_object : DeviceIdObject → DeviceIdObject → Bool
