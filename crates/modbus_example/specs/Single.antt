@@ -8,12 +8,16 @@ use Rattle.modbus_server.specs.Framing.{Framing}
 abbrev pub bytes_of : List (ℕ × List ℕ) → List ℕ
 bytes_of messages = map (λ m. m.0) messages
 
+-- the PDU of a message is the byte alone
+abbrev pub IsAlone : ℕ × List ℕ → Type 0
+IsAlone message = message.1 ≡ message.0 ∷ []
+
 -- the bytes are those of these messages, and what is held
 abbrev pub Follows : List ℕ → List ℕ → List ℕ → List (ℕ × List ℕ) → Type 0
-Follows bytes cuts held taken = bytes ≡ bytes_of taken ++ held
+Follows bytes cuts held taken = (bytes ≡ bytes_of taken ++ held) × All IsAlone taken
 
 abbrev pub IsNextByte : List ℕ → List ℕ → List (ℕ × List ℕ) → ℕ × List ℕ → Type 0
-IsNextByte bytes cuts taken message = (others : List ℕ) × (bytes ≡ bytes_of (taken ++ message ∷ []) ++ others) × (message.1 ≡ message.0 ∷ [])
+IsNextByte bytes cuts taken message = (others : List ℕ) × Follows bytes cuts others (taken ++ message ∷ [])
 
 abbrev pub AreAllBytes : List ℕ → List ℕ → List ℕ → List (ℕ × List ℕ) → Type 0
 AreAllBytes bytes cuts left taken = (bytes ≡ bytes_of taken ++ left) × (left ≡ [])
@@ -23,11 +27,15 @@ abbrev pub IsZeroAfter : List ℕ → List ℕ → List (ℕ × List ℕ) → Pr
 IsZeroAfter bytes cuts taken InvalidLength = (others : List ℕ) × (bytes ≡ bytes_of taken ++ 0 ∷ others)
 IsZeroAfter bytes cuts taken _ = ⊥
 
+-- the byte of a message is not 0
+abbrev pub IsSome : ℕ × List ℕ → Type 0
+IsSome message = message.0 ≢ 0
+
 -- the bytes are those of these messages, with no byte 0
 pub record AreOnlyBytes (bytes : List ℕ) (messages : List (ℕ × List ℕ)) : Type 0 where
   pub joined : bytes ≡ bytes_of messages
-  pub some : All (λ m. m.0 ≢ 0) messages
-  pub alone : All (λ m. m.1 ≡ m.0 ∷ []) messages
+  pub some : All IsSome messages
+  pub alone : All IsAlone messages
 
 abbrev pub IsEmpty : List ℕ → Type 0
 IsEmpty held = held ≡ []

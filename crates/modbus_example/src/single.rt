@@ -104,4 +104,6 @@ impl Framing for Singles {
     fn append(&mut self, piece: &[u8]) {
         self.bytes.extend_reserved(piece);
     }
+
+    fn laws() {}
 }

@@ -1,6 +1,6 @@
 -- A clean line is served to its end, whatever frames its messages.
-use Rattle.std.proofs.Common.{◌≡◌, ◌⊎◌, inl, inr, ℕ, Bool, ◌<◌, ◌≤◌, ◌+◌, List, [], ◌∷◌, ◌++◌, map, length, length-append, refl, sym, ap, ◌∙◌, subst, arith, Result, Ok, Err}
-use Rattle.std.specs.Prelude.{Contains}
+use Rattle.std.proofs.Common.{◌≡◌, ◌⊎◌, inl, inr, ℕ, Bool, ◌<◌, ◌≤◌, ◌+◌, List, [], ◌∷◌, ◌++◌, map, length, length-append, refl, sym, ap, ◌∙◌, subst, arith, Result, Ok, Err, append-nil}
+use Rattle.std.specs.Prelude.{All, Contains}
 use Rattle.std.proofs.lemmas.List.{map-append}
 use Rattle.std.proofs.lemmas.List.Elements.{All-contains, Contains-append_left, Contains-push}
 use Rattle.modbus_link.specs.Outside.{Input, Output}
@@ -18,6 +18,7 @@ use Rattle.modbus_server.specs.Serving.{Served, Halts, remaining, broken, refuse
 use Rattle.modbus_server.specs.Stepping.{EndsRead, spending_of, Ran}
 use Rattle.modbus_server.specs.Stopping.{RanUntil, to_the_end}
 use Rattle.modbus_server.specs.Complete.{IsRequest, IsCleanLine, RepliesFit, Completes}
+use Rattle.modbus_server.specs.Piece.{IsOfNoRead, ServedPiece, CompletesPiece}
 use Rattle.modbus_server.proofs.Standing.{run_more}
 
 -- what a framing owes where bytes that were read begin a clean line
@@ -27,7 +28,7 @@ pub record GoesOn (F : Framing) (read rest cuts : List ℕ) (messages : List (Me
   pub used : rest ≡ [] → (left : List ℕ) (before : List (Message F)) → F.IsAll read cuts left before → left ≡ []
 
 module _ (F : Framing) {S : Type 0} (A : Answering S) (read rest cuts : List ℕ) (opening now : S) (written : List ℕ)
-    (clean : IsCleanLine F (read ++ rest)) (fit : RepliesFit F A opening clean.messages) (on : GoesOn F read rest cuts clean.messages) where
+    (messages : List (Message F)) (requests : All (IsRequest F) messages) (fit : RepliesFit F A opening messages) (on : GoesOn F read rest cuts messages) where
   none_broken : (fault : ProcessError) → Served F A read cuts opening now written (broken fault) → ⊥
   none_broken fault s = by_halts s.halts
     where
@@ -40,8 +41,8 @@ module _ (F : Framing) {S : Type 0} (A : Answering S) (read rest cuts : List ℕ
       by_halts : Halts F A read cuts s.before s.ends now (refused reason) → ⊥
       by_halts (message, t, bad, same) =
           let later = on.next s.before message t in
-          let within : Contains clean.messages message = rw later.1 (Contains-append_left (s.before ++ message ∷ []) later.0 message (Contains-push s.before message)) in
-          let ok : IsRequest F message = All-contains (IsRequest F) clean.messages message clean.requests within in
+          let within : Contains messages message = rw later.1 (Contains-append_left (s.before ++ message ∷ []) later.0 message (Contains-push s.before message)) in
+          let ok : IsRequest F message = All-contains (IsRequest F) messages message requests within in
           let clash : Ok ok.0 ≡ Err reason = sym ok.1 ∙ bad in
           cc
 
@@ -76,6 +77,42 @@ module _ (F : Framing) {S : Type 0} (A : Answering S) (read rest cuts : List ℕ
   complete turns count (Err BytesRemaining) few (left, some, s) ended spends no_read no_write = absurd (none_left ended left some s)
   complete turns count (Err _) few ends ended spends no_read no_write = absurd (none_broken _ ends)
 
+  pub complete_piece : (result : Result (Unit {0}) ProcessError) → IsOfNoRead result → rest ≡ [] → EndsAs F A read cuts opening now written result
+      → (result ≡ Ok tt) ⊎ ((result ≡ Err NoMemory) ⊎ (result ≡ Err WriteFault))
+  complete_piece (Ok done) only all ends = inl refl
+  complete_piece (Err NoMemory) only all ends = inr (inl refl)
+  complete_piece (Err WriteFault) only all ends = inr (inr refl)
+  complete_piece (Err ReadFault) only all ends = absurd only
+  complete_piece (Err TurnLimit) only all ends = absurd only
+  complete_piece (Err (InvalidRequest reason)) only all ends = absurd (none_refused reason ends)
+  complete_piece (Err (ResponseTooLong size)) only all ends = absurd (none_too_long size ends)
+  complete_piece (Err BytesRemaining) only all (left, some, s) = absurd (none_left all left some s)
+  complete_piece (Err _) only all ends = absurd (none_broken _ ends)
+
+-- by the laws of its framing
+module _ (F : Framing)
+    (calm : (read rest cuts : List ℕ) (messages before : List (Message F)) (fault : ProcessError) → F.IsClean (read ++ rest) messages → F.IsBroken read cuts before fault → ⊥)
+    (next : (read rest cuts : List ℕ) (messages before : List (Message F)) (message : Message F) → F.IsClean (read ++ rest) messages → F.IsNext read cuts before message
+    → (later : List (Message F)) × (messages ≡ (before ++ message ∷ []) ++ later))
+    (used : (read cuts left : List ℕ) (messages before : List (Message F)) → F.IsClean read messages → F.IsAll read cuts left before → left ≡ []) where
+  pub goes_on : (read rest : List ℕ) (line : IsCleanLine F (read ++ rest)) (cuts : List ℕ) → GoesOn F read rest cuts line.messages
+  goes_on read rest line cuts = record {
+    unbroken = λ before fault. calm read rest cuts line.messages before fault line.clean;
+    next = λ before message. next read rest cuts line.messages before message line.clean;
+    used = λ none left before. used read cuts left line.messages before (subst (λ bytes. F.IsClean bytes line.messages) (ap (λ r. read ++ r) none ∙ append-nil read) line.clean);
+  }
+
+  -- a piece that is a clean line
+  pub completes_piece : {S : Type 0} (A : Answering S) (before after : S) (piece old new : List ℕ) (result : Result (Unit {0}) ProcessError)
+      → ServedPiece F A piece before after old new result → CompletesPiece F A before piece result
+  completes_piece A before after piece old new result served line fit = elim served.ends [
+    | inl ends ↦
+        let whole : piece ≡ piece ++ [] = sym (append-nil piece) in
+        let again : IsCleanLine F (piece ++ []) = record { messages = line.messages; clean = subst (λ bytes. F.IsClean bytes line.messages) whole line.clean; requests = line.requests } in
+        complete_piece F A piece [] (length piece ∷ []) before after served.sent line.messages line.requests fit (goes_on piece [] again (length piece ∷ [])) result served.only refl ends
+    | inr unopened ↦ inr (inl unopened.0)
+  ]
+
 -- the same of a call to the end, where its framing goes on from bytes that begin a clean line
 pub completes : (F : Framing) {S : Type 0} (A : Answering S) (opening now : S) (from to : Input) (sunk sinks : Output) (turns : ℕ) (result : Result (Unit {0}) ProcessError)
     → ((read rest : List ℕ) (clean : IsCleanLine F (read ++ rest)) (cuts : List ℕ) → GoesOn F read rest cuts clean.messages)
@@ -86,14 +123,14 @@ completes F A opening now from to sunk sinks turns result on ran told clean fit 
     let short : length ran.made ≤ length ran.fed = omega (arith, RisesTo-count 0 (length ran.fed) ran.made ran.passes.rises) in
     let count : length from.left ≡ length ran.fed + length to.left = ap length all ∙ length-append ran.fed to.left in
     subst (λ bytes. (clean : IsCleanLine F bytes) → RepliesFit F A opening clean.messages → (result ≡ Ok tt) ⊎ (result ≡ Err NoMemory)) (sym all)
-    (λ line fits. complete F A ran.fed to.left (totals ran.made) opening now ran.sent line fits (on ran.fed to.left line (totals ran.made))
+    (λ line fits. complete F A ran.fed to.left (totals ran.made) opening now ran.sent line.messages line.requests fits (on ran.fed to.left line (totals ran.made))
     turns (length ran.made) result (omega (arith, short, count)) ran.served (ran.ended told) ran.spends
     (λ bad. no_read (ran.read_fault bad)) (λ bad. no_write (ran.write_fault bad))) clean fit
 
 -- the same of a call that may be stopped
 pub completes_until : (F : Framing) {S X : Type 0} (A : Answering S) (stops : X → ℕ) (looks : X → Bool → X → Type 0) (opening now : S) (from to : Input) (sunk sinks : Output) (turns : ℕ) (start end : X) (result : Result Terminated ProcessError)
-    → ((read rest : List ℕ) (clean : IsCleanLine F (read ++ rest)) (cuts : List ℕ) → GoesOn F read rest cuts clean.messages)
+    → ((before after : S) (from to : Input) (sunk sinks : Output) (turns : ℕ) (result : Result (Unit {0}) ProcessError) → Ran F A before after from to sunk sinks turns result → Completes F A before from to sunk sinks turns result)
     → RanUntil F A stops looks opening now from to sunk sinks turns start end result → Completes F A opening from to sunk sinks turns (to_the_end result)
-completes_until F A stops looks opening now from to sunk sinks turns start end (Ok Aborted) on stopped = λ told clean fit few no_read no_write. inl refl
-completes_until F A stops looks opening now from to sunk sinks turns start end (Ok Finished) on until = completes F A opening now from to sunk sinks turns (Ok tt) on until.ran
-completes_until F A stops looks opening now from to sunk sinks turns start end (Err error) on until = completes F A opening now from to sunk sinks turns (Err error) on until.ran
+completes_until F A stops looks opening now from to sunk sinks turns start end (Ok Aborted) served stopped = λ told clean fit few no_read no_write. inl refl
+completes_until F A stops looks opening now from to sunk sinks turns start end (Ok Finished) served until = served opening now from to sunk sinks turns (Ok tt) until.ran
+completes_until F A stops looks opening now from to sunk sinks turns start end (Err error) served until = served opening now from to sunk sinks turns (Err error) until.ran

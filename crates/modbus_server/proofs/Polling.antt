@@ -19,7 +19,8 @@ use Rattle.modbus_server.specs.Serving.{Stands, remaining}
 use Rattle.modbus_server.specs.State.{State}
 use Rattle.modbus_server.specs.Taking.{Took}
 use Rattle.modbus_server.specs.Moving.{Writes, EndsInput}
-use Rattle.modbus_server.specs.Stepping.{StepsAs, EndsIfMay, Stepped, EndsRead, spending_of}
+use Rattle.modbus_server.specs.Stepping.{StepsAs, EndsIfMay, Stepped, EndsRead, spending_of, Ran}
+use Rattle.modbus_server.specs.Complete.{Completes}
 use Rattle.modbus_server.specs.Polled.{ReadsNothing, PollWrites, PollReads, Paused, PollSteps, PollStands, PollEnds, PolledTo, RunsWhole}
 use Rattle.modbus_server.proofs.Standing.{opened, sent_on, halted}
 use Rattle.modbus_server.proofs.Stepping.{stepped_sent, stepped_read}
@@ -403,9 +404,10 @@ module _ (F : Framing) {S : Type 0} (A : Answering S) where
 
   -- the polls so far and a last one are one run
   module _ (old new : State) (left left' : ℕ) (before after : S) (a b : Input) (k m : Output) (idle idle' : ℕ) where
-    pub runs_whole : (result : Polled (Result (Unit {0}) ProcessError)) → PolledTo F A old new left left' before after a b k m idle idle' result → RunsWhole F A old left before after a b k m result
-    runs_whole Pending p = λ turns bytes made written opening first firsts s passed. tt
-    runs_whole (Ready result) p = λ turns bytes made written opening first firsts s passed.
+    ran_whole : (result : Result (Unit {0}) ProcessError) → PolledTo F A old new left left' before after a b k m idle idle' (Ready result)
+        → (turns : ℕ) (bytes : List ℕ) (made : List (ℕ × ℕ)) (written : List ℕ) (opening : S) (first : Input) (firsts : Output)
+        → PollStands F A turns bytes made written opening before old left → Passes first a firsts k bytes made written → Ran F A opening after first b firsts m turns result
+    ran_whole result p turns bytes made written opening first firsts s passed =
         let ends = p.goes_on turns bytes made written opening s in record {
           fed = bytes ++ p.fed;
           made = made ++ shifted (length bytes) p.made;
@@ -422,3 +424,11 @@ module _ (F : Framing) {S : Type 0} (A : Answering S) where
               let rose = p.write_fault (ap (λ (r : Result (Unit {0}) ProcessError). Ready r) e) in
               let before = passed.sink.later in omega (arith, rose, before);
         }
+
+    pub runs_whole : ((before after : S) (from to : Input) (sunk sinks : Output) (turns : ℕ) (result : Result (Unit {0}) ProcessError)
+        → Ran F A before after from to sunk sinks turns result → Completes F A before from to sunk sinks turns result)
+        → (result : Polled (Result (Unit {0}) ProcessError)) → PolledTo F A old new left left' before after a b k m idle idle' result → RunsWhole F A old left before after a b k m result
+    runs_whole served Pending p = λ turns bytes made written opening first firsts s passed. tt
+    runs_whole served (Ready result) p = λ turns bytes made written opening first firsts s passed.
+        let ran = ran_whole result p turns bytes made written opening first firsts s passed in
+        (ran, served _ _ _ _ _ _ _ _ ran)

@@ -1,13 +1,12 @@
--- ADUs with nothing left go on as they were read.
-use Rattle.std.proofs.Common.{◌≡◌, inl, inr, ℕ, List, [], ◌∷◌, ◌++◌, sym, ap, ◌∙◌, subst, append-nil, append_assoc}
+-- ADUs with nothing left have no fault, and go on as they were read.
+use Rattle.std.proofs.Common.{◌≡◌, inl, inr, ℕ, List, [], ◌∷◌, ◌++◌, sym, ap, ◌∙◌, append_assoc}
 use Rattle.std.specs.Prelude.{All}
 use Rattle.modbus_frame.specs.declared.tcp.Header.{Header}
 use Rattle.modbus_tcp.specs.Adu.{IsAdu, stream_of}
 use Rattle.modbus_tcp.specs.Stream.{Rest, empty, unfinished, no_length, foreign, IsRest, IsSplit}
 use Rattle.modbus_server.specs.declared.error.ProcessError.{ProcessError}
 use Rattle.modbus_server.specs.declared.error.ProcessError.TheVariants.{InvalidLength, InvalidProtocol}
-use Rattle.modbus_server.specs.Tcp.{tcp, IsNextAdu, AreAllAdus, IsFaultAfter, AreOnlyAdus}
-use Rattle.modbus_server.proofs.Completing.{GoesOn}
+use Rattle.modbus_server.specs.Tcp.{IsNextAdu, AreAllAdus, IsFaultAfter, AreOnlyAdus}
 
 module _ (one : (bytes rest left : List ℕ) (adus others : List (Header × List ℕ)) (kind other : Rest) → IsSplit bytes adus rest kind → IsSplit bytes others left other
     → (adus ≡ others) × (rest ≡ left) × (kind ≡ other))
@@ -15,9 +14,9 @@ module _ (one : (bytes rest left : List ℕ) (adus others : List (Header × List
     → (later : List (Header × List ℕ)) × (all ≡ adus ++ later) × IsSplit held later rest kind)
     (stays_without : (bytes more : List ℕ) → IsRest bytes no_length → IsRest (bytes ++ more) no_length)
     (stays_foreign : (bytes more : List ℕ) (protocol : ℕ) → IsRest bytes (foreign protocol) → IsRest (bytes ++ more) (foreign protocol))
-    (read rest : List ℕ) (messages : List (Header × List ℕ)) (clean : AreOnlyAdus (read ++ rest) messages) where
-  unbroken : (cuts : List ℕ) (before : List (Header × List ℕ)) (fault : ProcessError) → IsFaultAfter read cuts before fault → ⊥
-  unbroken cuts before InvalidLength (left, split) =
+    (read rest cuts : List ℕ) (messages before : List (Header × List ℕ)) where
+  pub unbroken : (fault : ProcessError) → AreOnlyAdus (read ++ rest) messages → IsFaultAfter read cuts before fault → ⊥
+  unbroken InvalidLength clean (left, split) =
       let more : IsSplit (read ++ rest) before (left ++ rest) no_length = record {
         joined = ap (λ bytes. bytes ++ rest) split.joined ∙ append_assoc (stream_of before) left rest;
         whole = split.whole;
@@ -25,7 +24,7 @@ module _ (one : (bytes rest left : List ℕ) (adus others : List (Header × List
       } in
       let kinds : empty ≡ no_length = (one (read ++ rest) [] (left ++ rest) messages before empty no_length clean more).2 in
       cc
-  unbroken cuts before (InvalidProtocol protocol) (left, split) =
+  unbroken (InvalidProtocol protocol) clean (left, split) =
       let more : IsSplit (read ++ rest) before (left ++ rest) (foreign protocol) = record {
         joined = ap (λ bytes. bytes ++ rest) split.joined ∙ append_assoc (stream_of before) left rest;
         whole = split.whole;
@@ -33,22 +32,16 @@ module _ (one : (bytes rest left : List ℕ) (adus others : List (Header × List
       } in
       let kinds : empty ≡ foreign protocol = (one (read ++ rest) [] (left ++ rest) messages before empty (foreign protocol) clean more).2 in
       cc
-  unbroken cuts before _ b = absurd b
+  unbroken _ clean b = absurd b
 
-  next : (cuts : List ℕ) (before : List (Header × List ℕ)) (message : Header × List ℕ) → IsNextAdu read cuts before message
+  pub next : (message : Header × List ℕ) → AreOnlyAdus (read ++ rest) messages → IsNextAdu read cuts before message
       → (later : List (Header × List ℕ)) × (messages ≡ (before ++ message ∷ []) ++ later)
-  next cuts before message (others, joined, whole) =
+  next message clean (others, joined, whole) =
       let all : read ++ rest ≡ stream_of (before ++ message ∷ []) ++ (others ++ rest) =
       ap (λ bytes. bytes ++ rest) joined ∙ append_assoc (stream_of (before ++ message ∷ [])) others rest in
       let more = first (read ++ rest) (others ++ rest) [] (before ++ message ∷ []) messages empty all whole clean in
       (more.0, more.1)
 
-  used : (cuts : List ℕ) → rest ≡ [] → (left : List ℕ) (before : List (Header × List ℕ)) → AreAllAdus read cuts left before → left ≡ []
-  used cuts e left before (inl split) = split.left
-  used cuts e left before (inr split) =
-      let whole_is : read ++ rest ≡ read = ap (λ r. read ++ r) e ∙ append-nil read in
-      let all : IsSplit read messages [] empty = subst (λ bytes. IsSplit bytes messages [] empty) whole_is clean in
-      sym (one read [] left messages before empty unfinished all split).1
-
-  pub goes_on : (cuts : List ℕ) → GoesOn tcp read rest cuts messages
-  goes_on cuts = record { unbroken = unbroken cuts; next = next cuts; used = used cuts }
+  pub used : (left : List ℕ) → AreOnlyAdus read messages → AreAllAdus read cuts left before → left ≡ []
+  used left clean (inl split) = split.left
+  used left clean (inr split) = sym (one read [] left messages before empty unfinished clean split).1

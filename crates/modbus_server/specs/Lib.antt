@@ -5,11 +5,11 @@ pub mod Answer
 pub mod Serving
 pub mod Taking
 pub mod Moving
-pub mod Piece
 pub mod Stepping
+pub mod Complete
+pub mod Piece
 pub mod Polled
 pub mod Stopping
-pub mod Complete
 pub mod First
 pub mod Tcp
 pub mod FirstAdu

@@ -1,11 +1,12 @@
 -- What the driver over memory promises: its input is one piece of bytes.
-use Rattle.std.specs.Prelude.{◌≡◌, ◌⊎◌, ℕ, List, [], ◌∷◌, ◌++◌, length, Result, Err}
+use Rattle.std.specs.Prelude.{◌≡◌, ◌⊎◌, ℕ, List, [], ◌∷◌, ◌++◌, length, Result, Ok, Err}
 use Rattle.modbus_server.specs.declared.error.ProcessError.{ProcessError}
-use Rattle.modbus_server.specs.declared.error.ProcessError.TheVariants.{ReadFault, TurnLimit, NoMemory}
+use Rattle.modbus_server.specs.declared.error.ProcessError.TheVariants.{ReadFault, WriteFault, TurnLimit, NoMemory}
 use Rattle.modbus_server.specs.Framing.{Framing}
 use Rattle.modbus_service.specs.Answering.{Answering}
 use Rattle.modbus_server.specs.Exchanges.{Exchange}
 use Rattle.modbus_server.specs.Serving.{Stands, EndsAs}
+use Rattle.modbus_server.specs.Complete.{IsCleanLine, RepliesFit}
 
 -- an answer that comes of no read
 abbrev pub IsOfNoRead : Result (Unit {0}) ProcessError → Type 0
@@ -28,3 +29,8 @@ pub record ServedPiece (F : Framing) {S : Type 0} (A : Answering S) (piece : Lis
   pub appended : new ≡ old ++ sent
   pub only : IsOfNoRead result
   pub ends : EndsAs F A piece (length piece ∷ []) before after sent result ⊎ ((result ≡ Err NoMemory) × (after ≡ before) × (sent ≡ []))
+
+-- A piece that is a clean line is served to its end, where every reply fits, or memory is wanting, for a reply too.
+abbrev pub CompletesPiece : (F : Framing) → {S : Type 0} → Answering S → S → List ℕ → Result (Unit {0}) ProcessError → Type 0
+CompletesPiece F A opening piece result = (clean : IsCleanLine F piece) → RepliesFit F A opening clean.messages
+    → (result ≡ Ok tt) ⊎ ((result ≡ Err NoMemory) ⊎ (result ≡ Err WriteFault))

@@ -16,6 +16,7 @@ use Rattle.modbus_server.specs.Serving.{Stands, EndsAs}
 use Rattle.modbus_server.specs.State.{State}
 use Rattle.modbus_server.specs.Moving.{Writes, Reads}
 use Rattle.modbus_server.specs.Stepping.{Stepped, EndsRead, spending_of, Ran}
+use Rattle.modbus_server.specs.Complete.{Completes}
 
 -- what a polled server keeps
 pub record PolledState : Type 0 where
@@ -114,10 +115,10 @@ pub record PolledTo (F : Framing) {S : Type 0} (A : Answering S) (old new : Stat
   pub read_fault : result ≡ Ready (Err ReadFault) → Rose from.faults to.faults
   pub write_fault : result ≡ Ready (Err WriteFault) → Rose sunk.faults sinks.faults
 
--- the promise of a call to the end, where a poll ended
+-- the promises of a call to the end, where a poll ended
 abbrev pub RanIfReady : (F : Framing) → {S : Type 0} → Answering S → S → S → Input → Input → Output → Output → ℕ → Polled (Result (Unit {0}) ProcessError) → Type 0
 RanIfReady F A opening after first to firsts sinks turns Pending = Unit {0}
-RanIfReady F A opening after first to firsts sinks turns (Ready result) = Ran F A opening after first to firsts sinks turns result
+RanIfReady F A opening after first to firsts sinks turns (Ready result) = Ran F A opening after first to firsts sinks turns result × Completes F A opening first to firsts sinks turns result
 
 -- A poll that ends does, with all polls before it, what a call to the end does over the link of all polls.
 abbrev pub RunsWhole : (F : Framing) → {S : Type 0} → Answering S → State → ℕ → S → S → Input → Input → Output → Output → Polled (Result (Unit {0}) ProcessError) → Type 0

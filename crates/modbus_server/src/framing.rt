@@ -141,4 +141,15 @@ pub trait Framing: Drop {
         // What it stands for goes on by the piece.
         ensures grows { (bytes cuts : List ℕ) (taken : List (Message framing)) → framing.StandsFor bytes cuts (held self.old) taken → 0 < length piece.now
             → framing.StandsFor (bytes ++ piece.now) (cuts ++ length (bytes ++ piece.now) ∷ []) (held self.new) taken };
+
+    /// What holds of the bytes that begin a clean line, in whatever pieces they came: they have no fault, a message that comes next is the
+    /// next of the line, and where they are all of it nothing is left behind its messages. It has no code.
+    fn laws()
+        ensures calm { (read rest cuts : List ℕ) (messages before : List (Message framing)) (fault : ProcessError)
+            → framing.IsClean (read ++ rest) messages → framing.IsBroken read cuts before fault → ⊥ }
+        ensures next { (read rest cuts : List ℕ) (messages before : List (Message framing)) (message : Message framing)
+            → framing.IsClean (read ++ rest) messages → framing.IsNext read cuts before message
+            → (later : List (Message framing)) × (messages ≡ (before ++ message ∷ []) ++ later) }
+        ensures used { (read cuts left : List ℕ) (messages before : List (Message framing))
+            → framing.IsClean read messages → framing.IsAll read cuts left before → left ≡ [] };
 }

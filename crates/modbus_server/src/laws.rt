@@ -76,12 +76,12 @@ pub fn polled_servers_begin<I: Framing, V: Answerer>()
         → PollStands I.framing V.answering turns [] [] [] start start state turns }
 {}
 
-/// Every call over RTU frames that runs to its end, a polled one too, serves a clean line to its end.
-pub fn clean_lines_are_served<V: Answerer>()
+/// Every call that runs to its end, a polled one too, serves a clean line to its end.
+pub fn clean_lines_are_served<I: Framing, V: Answerer>()
     ensures { (before after : V) (from to : Input) (sunk sinks : Output) (turns : ℕ) (result : Result (Unit {0}) ProcessError)
-        → Ran rtu V.answering before after from to sunk sinks turns result → Completes rtu V.answering before from to sunk sinks turns result }
+        → Ran I.framing V.answering before after from to sunk sinks turns result → Completes I.framing V.answering before from to sunk sinks turns result }
 {
-    modbus_rtu::laws::quiet_lines();
+    I::laws();
 }
 
 /// Where no delivered frame takes memory, it is wanting only as a connection is opened: nothing was read then, and nothing written. A

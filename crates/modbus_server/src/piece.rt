@@ -1,6 +1,6 @@
 //! The driver of a connection over memory: the input is one piece of bytes, and ends behind it.
 ghost use Rattle.std.specs.Prelude.{◌≡◌, ◌<◌, ◌≤◌, ◌++◌, [], ◌∷◌, length, false, IsTrue, OnOk, OnErr};
-ghost use Rattle.modbus_server.specs.Piece.{ServedHeld, ServedPiece};
+ghost use Rattle.modbus_server.specs.Piece.{ServedHeld, ServedPiece, CompletesPiece};
 
 use crate::connection::Connection;
 use crate::drive::tell_next;
@@ -59,7 +59,8 @@ fn serve_held<I: Framing, V: Answerer>(
 
 /// Serves one piece of bytes as the whole input, and appends the replies to `replies`.
 ///
-/// It answers what `serve` answers over a source that gives these bytes in one read and then ends, and appends the same bytes.
+/// It answers what `serve` answers over a source that gives these bytes in one read and then ends, and appends the same bytes. A clean
+/// line is served to its end.
 ///
 /// # Errors
 /// Those of `serve`, without `ReadFault` and `TurnLimit`; `WriteFault` where memory for a reply is refused.
@@ -72,8 +73,10 @@ pub fn serve_piece<I: Framing, V: Answerer>(
     requires some { 0 < length piece.now }
     requires waits { I.framing.Waits [] }
     requires fits { length piece.now ≤ I.framing.room [] }
-    ensures { ServedPiece I.framing V.answering piece.now service.old service.new replies.old.items replies.new.items result }
+    ensures served { ServedPiece I.framing V.answering piece.now service.old service.new replies.old.items replies.new.items result }
+    ensures complete { CompletesPiece I.framing V.answering service.old piece.now result }
 {
+    I::laws();
     let Ok(mut connection) = Connection::<I>::open(alloc) else {
         return Err(ProcessError::NoMemory);
     };

@@ -6,6 +6,7 @@ use crate::connection::Connection;
 use crate::drive::{poll_step, send};
 use crate::error::{ProcessError, Step};
 use crate::framing::Framing;
+use crate::laws::clean_lines_are_served;
 use modbus_link::{Polled, PolledLink};
 use modbus_service::Answerer;
 use std::alloc::{AllocError, Global};
@@ -89,7 +90,7 @@ impl<I: Framing> PolledProcess<I> {
     /// Serves the link as far as it is ready. It writes a reply whole before it reads on or asks about the next request.
     ///
     /// `Pending` comes only where the link was not ready, and then the next poll goes on from there. `Ready` is the answer that serving
-    /// the whole input gives, as by `serve_link`, with the same causes over all polls.
+    /// the whole input gives, as by `serve_link`, with the same causes over all polls; a clean line is served to its end.
     ///
     /// # Errors
     /// Those of `serve_link`; `ReadFault` and `WriteFault` only where the link's count rose in this poll.
@@ -102,6 +103,7 @@ impl<I: Framing> PolledProcess<I> {
         ensures polled { PolledTo I.framing V.answering self.old.connection self.new.connection self.old.left self.new.left service.old service.new (L.input link.old) (L.input link.new) (L.output link.old) (L.output link.new) (L.not_ready link.old) (L.not_ready link.new) result }
         ensures ran { RunsWhole I.framing V.answering self.old.connection self.old.left service.old service.new (L.input link.old) (L.input link.new) (L.output link.old) (L.output link.new) result }
     {
+        clean_lines_are_served::<I, V>();
         poll_connection(
             &mut self.connection,
             &mut self.left,

@@ -103,6 +103,10 @@ impl Framing for Inbox {
         modbus_rtu::laws::standing();
         self.append(piece);
     }
+
+    fn laws() {
+        modbus_rtu::laws::quiet_lines();
+    }
 }
 
 /// A server of a serial line: it answers the frames that come over one link.
@@ -166,7 +170,6 @@ impl<L: Link> Server<L> {
         ensures ran { RanUntil rtu V.answering X.stops X.looks service.old service.new (L.input self.old) (L.input self.new) (L.output self.old) (L.output self.new) (2 ^ 64 - 1) abort_signal.old abort_signal.new result }
         ensures complete { Completes rtu V.answering service.old (L.input self.old) (L.input self.new) (L.output self.old) (L.output self.new) (2 ^ 64 - 1) (to_the_end result) }
     {
-        modbus_rtu::laws::quiet_lines();
         serve_until::<Inbox, L, V, X>(alloc, &mut self.link, service, abort_signal, u64::MAX)
     }
 }

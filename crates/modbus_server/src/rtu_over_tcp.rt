@@ -1,15 +1,12 @@
 //! Serving RTU frames over any stream of bytes, until its input ends.
-ghost use Rattle.std.specs.Prelude.{◌≡◌, ◌-◌, ◌^◌};
 ghost use Rattle.modbus_server.specs.Complete.{Completes};
 ghost use Rattle.modbus_server.specs.Stepping.{Ran};
-ghost use Rattle.modbus_server.specs.Stopping.{RanUntil, to_the_end};
 ghost use Rattle.modbus_server.specs.Rtu.{rtu};
 
 use crate::error::ProcessError;
 pub use crate::listener::accept_tcp_connection;
 use crate::serving::{serve, serve_link};
-use modbus_frame::Terminated;
-use modbus_link::{Link, Sink, Source, Stop};
+use modbus_link::{Sink, Source};
 use modbus_rtu::Inbox;
 use modbus_service::Answerer;
 use std::alloc::Global;
@@ -33,7 +30,6 @@ pub fn process_link<L: Source + Sink, V: Answerer>(
     ensures ran { Ran rtu V.answering service.old service.new (L.input link.old) (L.input link.new) (L.output link.old) (L.output link.new) turns result }
     ensures complete { Completes rtu V.answering service.old (L.input link.old) (L.input link.new) (L.output link.old) (L.output link.new) turns result }
 {
-    modbus_rtu::laws::quiet_lines();
     serve_link::<Inbox, L, V>(alloc, link, service, turns)
 }
 
@@ -64,25 +60,5 @@ pub fn process<S: Source, K: Sink, V: Answerer>(
     ensures ran { Ran rtu V.answering service.old service.new (S.input source.old) (S.input source.new) (K.output sink.old) (K.output sink.new) turns result }
     ensures complete { Completes rtu V.answering service.old (S.input source.old) (S.input source.new) (K.output sink.old) (K.output sink.new) turns result }
 {
-    modbus_rtu::laws::quiet_lines();
     serve::<Inbox, S, K, V>(alloc, source, sink, service, turns)
-}
-
-impl<L: Link, V: Answerer, H: Fn(ProcessError), X: Stop> ConnectionWorker<L, V, H, X> {
-    /// Serves the worker's link with its service until its input ends, which is `Finished`, or until its signal is set, which is
-    /// `Aborted`. It does what `process` does, with the link as source and sink, and lets as many reads give bytes as a `u64` counts.
-    ///
-    /// The signal is looked at before each step: before each request that is answered, and before each read. What has begun is done, so
-    /// no reply is cut short by a stop, and a read that waits is not woken.
-    ///
-    /// # Errors
-    /// Those of `process`, with the same causes, where no look said that the signal is set.
-    pub fn work(&mut self) -> Result<Terminated, ProcessError>
-        ensures ran { RanUntil rtu V.answering X.stops X.looks self.old.service self.new.service (L.input self.old.link) (L.input self.new.link) (L.output self.old.link) (L.output self.new.link) (2 ^ 64 - 1) self.old.signal self.new.signal result }
-        ensures complete { Completes rtu V.answering self.old.service (L.input self.old.link) (L.input self.new.link) (L.output self.old.link) (L.output self.new.link) (2 ^ 64 - 1) (to_the_end result) }
-        ensures hook { self.new.on_process_error ≡ self.old.on_process_error }
-    {
-        modbus_rtu::laws::quiet_lines();
-        self.serve()
-    }
 }

@@ -1,11 +1,13 @@
 //! Steps one after another until the input of a connection ends or a signal says to stop, whatever frames its messages.
 ghost use Rattle.std.specs.Prelude.{◌≡◌, [], IsTrue};
+ghost use Rattle.modbus_server.specs.Complete.{Completes};
 ghost use Rattle.modbus_server.specs.Stepping.{Ran};
-ghost use Rattle.modbus_server.specs.Stopping.{RanUntil, never_set};
+ghost use Rattle.modbus_server.specs.Stopping.{RanUntil, never_set, to_the_end};
 
 use crate::connection::Connection;
 use crate::error::{ProcessError, Step};
 use crate::framing::Framing;
+use crate::laws::clean_lines_are_served;
 use modbus_frame::Terminated;
 use modbus_link::{Both, Sink, Source, Stop};
 use modbus_service::Answerer;
@@ -78,8 +80,10 @@ pub fn serve_until<I: Framing, L: Source + Sink, V: Answerer, X: Stop>(
     abort_signal: &mut X,
     turns: u64,
 ) -> Result<Terminated, ProcessError>
-    ensures { RanUntil I.framing V.answering X.stops X.looks service.old service.new (L.input link.old) (L.input link.new) (L.output link.old) (L.output link.new) turns abort_signal.old abort_signal.new result }
+    ensures ran { RanUntil I.framing V.answering X.stops X.looks service.old service.new (L.input link.old) (L.input link.new) (L.output link.old) (L.output link.new) turns abort_signal.old abort_signal.new result }
+    ensures complete { Completes I.framing V.answering service.old (L.input link.old) (L.input link.new) (L.output link.old) (L.output link.new) turns (to_the_end result) }
 {
+    clean_lines_are_served::<I, V>();
     match Connection::<I>::open(alloc) {
         Err(_) => Err(ProcessError::NoMemory),
         Ok(mut connection) => run(&mut connection, alloc, link, service, abort_signal, turns),
@@ -96,7 +100,8 @@ pub fn serve_link<I: Framing, L: Source + Sink, V: Answerer>(
     service: &mut V,
     turns: u64,
 ) -> Result<(), ProcessError>
-    ensures { Ran I.framing V.answering service.old service.new (L.input link.old) (L.input link.new) (L.output link.old) (L.output link.new) turns result }
+    ensures ran { Ran I.framing V.answering service.old service.new (L.input link.old) (L.input link.new) (L.output link.old) (L.output link.new) turns result }
+    ensures complete { Completes I.framing V.answering service.old (L.input link.old) (L.input link.new) (L.output link.old) (L.output link.new) turns result }
 {
     match serve_until::<I, L, V, Never>(alloc, link, service, &mut Never, turns) {
         Ok(Terminated::Finished) => Ok(()),
@@ -116,7 +121,9 @@ pub fn serve<I: Framing, S: Source, K: Sink, V: Answerer>(
     service: &mut V,
     turns: u64,
 ) -> Result<(), ProcessError>
-    ensures { Ran I.framing V.answering service.old service.new (S.input source.old) (S.input source.new) (K.output sink.old) (K.output sink.new) turns result }
+    ensures ran { Ran I.framing V.answering service.old service.new (S.input source.old) (S.input source.new) (K.output sink.old) (K.output sink.new) turns result }
+    ensures complete { Completes I.framing V.answering service.old (S.input source.old) (S.input source.new) (K.output sink.old) (K.output sink.new) turns result }
 {
+    clean_lines_are_served::<I, V>();
     serve_link::<I, Both<'_, '_, S, K>, V>(alloc, &mut Both::new(source, sink), service, turns)
 }

@@ -1,9 +1,7 @@
 //! Serving Modbus TCP (MODBUS Messaging on TCP/IP V1.0b, section 3.1): a connection takes ADUs with an MBAP header step by step, and
 //! `process` serves a stream of them until its input ends.
-ghost use Rattle.std.specs.Prelude.{◌≡◌, ◌-◌, ◌^◌};
 ghost use Rattle.modbus_server.specs.Complete.{Completes};
 ghost use Rattle.modbus_server.specs.Stepping.{Ran};
-ghost use Rattle.modbus_server.specs.Stopping.{RanUntil, to_the_end};
 ghost use Rattle.modbus_server.specs.Tcp.{tcp, told_fault};
 
 use crate::error::ProcessError;
@@ -12,8 +10,8 @@ pub use crate::listener::accept_tcp_connection;
 use crate::serving::{serve, serve_link};
 use bytes::BytesMut;
 use modbus_frame::tcp::Header;
-use modbus_frame::{EncodeError, ExceptionResponse, Response, SlaveId, Terminated};
-use modbus_link::{Link, Sink, Source, Stop};
+use modbus_frame::{EncodeError, ExceptionResponse, Response, SlaveId};
+use modbus_link::{Sink, Source};
 use modbus_service::Answerer;
 use modbus_tcp::{HeaderFault, encode_response_adu};
 use std::alloc::{AllocError, Global};
@@ -118,6 +116,12 @@ impl Framing for AduBuffer {
     fn append(&mut self, piece: &[u8]) {
         self.bytes.extend_reserved(piece);
     }
+
+    fn laws() {
+        modbus_tcp::laws::one_splitting();
+        modbus_tcp::laws::adus_come_first();
+        modbus_tcp::laws::adu_stays();
+    }
 }
 
 /// Serves one object as source and sink until its input ends; its contract is that of `process`.
@@ -133,9 +137,6 @@ pub fn process_link<L: Source + Sink, V: Answerer>(
     ensures ran { Ran tcp V.answering service.old service.new (L.input link.old) (L.input link.new) (L.output link.old) (L.output link.new) turns result }
     ensures complete { Completes tcp V.answering service.old (L.input link.old) (L.input link.new) (L.output link.old) (L.output link.new) turns result }
 {
-    modbus_tcp::laws::one_splitting();
-    modbus_tcp::laws::adus_come_first();
-    modbus_tcp::laws::adu_stays();
     serve_link::<AduBuffer, L, V>(alloc, link, service, turns)
 }
 
@@ -168,29 +169,5 @@ pub fn process<S: Source, K: Sink, V: Answerer>(
     ensures ran { Ran tcp V.answering service.old service.new (S.input source.old) (S.input source.new) (K.output sink.old) (K.output sink.new) turns result }
     ensures complete { Completes tcp V.answering service.old (S.input source.old) (S.input source.new) (K.output sink.old) (K.output sink.new) turns result }
 {
-    modbus_tcp::laws::one_splitting();
-    modbus_tcp::laws::adus_come_first();
-    modbus_tcp::laws::adu_stays();
     serve::<AduBuffer, S, K, V>(alloc, source, sink, service, turns)
-}
-
-impl<L: Link, V: Answerer, H: Fn(ProcessError), X: Stop> ConnectionWorker<L, V, H, X> {
-    /// Serves the worker's link with its service until its input ends, which is `Finished`, or until its signal is set, which is
-    /// `Aborted`. It does what `process` does, with the link as source and sink, and lets as many reads give bytes as a `u64` counts.
-    ///
-    /// The signal is looked at before each step: before each request that is answered, and before each read. What has begun is done, so
-    /// no reply is cut short by a stop, and a read that waits is not woken.
-    ///
-    /// # Errors
-    /// Those of `process`, with the same causes, where no look said that the signal is set.
-    pub fn work(&mut self) -> Result<Terminated, ProcessError>
-        ensures ran { RanUntil tcp V.answering X.stops X.looks self.old.service self.new.service (L.input self.old.link) (L.input self.new.link) (L.output self.old.link) (L.output self.new.link) (2 ^ 64 - 1) self.old.signal self.new.signal result }
-        ensures complete { Completes tcp V.answering self.old.service (L.input self.old.link) (L.input self.new.link) (L.output self.old.link) (L.output self.new.link) (2 ^ 64 - 1) (to_the_end result) }
-        ensures hook { self.new.on_process_error ≡ self.old.on_process_error }
-    {
-        modbus_tcp::laws::one_splitting();
-        modbus_tcp::laws::adus_come_first();
-        modbus_tcp::laws::adu_stays();
-        self.serve()
-    }
 }

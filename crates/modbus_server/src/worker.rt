@@ -1,6 +1,7 @@
 //! One connection as work that can be handed over, whatever frames its messages.
 ghost use Rattle.std.specs.Prelude.{◌≡◌, ◌-◌, ◌^◌};
-ghost use Rattle.modbus_server.specs.Stopping.{RanUntil};
+ghost use Rattle.modbus_server.specs.Complete.{Completes};
+ghost use Rattle.modbus_server.specs.Stopping.{RanUntil, to_the_end};
 
 use crate::error::ProcessError;
 use crate::framing::Framing;
@@ -65,13 +66,18 @@ impl<I: Framing, L: Link, V: Answerer, H: Fn(ProcessError), X: Stop> ConnectionW
         }
     }
 
-    /// Serves the link until its input ends, which is `Finished`, or until the signal is set, which is `Aborted`. It does what
-    /// `rtu::Server::serve_until` does, with this framing, and is the `work` of RTU and of Modbus TCP.
+    /// Serves the worker's link with its service until its input ends, which is `Finished`, or until its signal is set, which is
+    /// `Aborted`. It does what `process` of its framing does, with the link as source and sink, and lets as many reads give bytes as a
+    /// `u64` counts.
+    ///
+    /// The signal is looked at before each step: before each request that is answered, and before each read. What has begun is done, so
+    /// no reply is cut short by a stop, and a read that waits is not woken.
     ///
     /// # Errors
-    /// Those of a step, where no look said that the signal is set.
-    pub fn serve(&mut self) -> Result<Terminated, ProcessError>
+    /// Those of `process`, with the same causes, where no look said that the signal is set.
+    pub fn work(&mut self) -> Result<Terminated, ProcessError>
         ensures ran { RanUntil I.framing V.answering X.stops X.looks self.old.service self.new.service (L.input self.old.link) (L.input self.new.link) (L.output self.old.link) (L.output self.new.link) (2 ^ 64 - 1) self.old.signal self.new.signal result }
+        ensures complete { Completes I.framing V.answering self.old.service (L.input self.old.link) (L.input self.new.link) (L.output self.old.link) (L.output self.new.link) (2 ^ 64 - 1) (to_the_end result) }
         ensures hook { self.new.on_process_error ≡ self.old.on_process_error }
     {
         serve_until::<I, L, V, X>(
@@ -95,7 +101,7 @@ impl<
 
     /// Serves the link as `work` does, once, and hands its error to the hook.
     fn run(mut self) {
-        if let Err(error) = self.serve() {
+        if let Err(error) = self.work() {
             (self.on_process_error)(error);
         }
     }

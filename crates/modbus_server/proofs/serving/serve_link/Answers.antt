@@ -1,4 +1,4 @@
 use Rattle.modbus_server.proofs.serving.serve_link.Goals as goal
 
-pub returns-in-Err : goal.returns-in-Err
-returns-in-Err g c = c.in-Err.ensures.ran
+pub returns-in-Err-clause-ran : goal.returns-in-Err-clause-ran
+returns-in-Err-clause-ran g c = c.in-Err.ensures.ran.ran
