@@ -18,7 +18,7 @@ takes_first bytes cuts (x ∷ xs) taken some (s, alone) =
     let more : bytes ≡ bytes_of (taken ++ first ∷ []) ++ xs =
     s ∙ sym (append_assoc (bytes_of taken) (x ∷ []) xs) ∙ ap (λ front. front ++ xs) (sym (map-append (λ (m : ℕ × List ℕ). m.0) taken (first ∷ []))) in
     let each : All IsAlone (taken ++ first ∷ []) = All-append IsAlone taken (first ∷ []) alone (All-cons IsAlone first [] refl (All-nil IsAlone)) in
-    ((more, each), (xs, more, each))
+    ((more, each), (xs, (more, each)))
 
 -- no byte of messages that have none is 0
 no_zero : (messages : List (ℕ × List ℕ)) (front others : List ℕ) → All IsSome messages → bytes_of messages ≡ front ++ 0 ∷ others → ⊥
@@ -48,10 +48,10 @@ begins (f ∷ front) (m ∷ messages) others alone each e =
     (more.0, cc (same, more.1))
   where
     pairs : (p q : ℕ × List ℕ) → p.0 ≡ q.0 → p.1 ≡ q.1 → p ≡ q
-    pairs (a, as) (b, bs) x y = cc
+    pairs (a, xs) (b, ys) x y = cc
 
 pub next : (read rest cuts : List ℕ) (messages before : List (ℕ × List ℕ)) (message : ℕ × List ℕ) → AreOnlyBytes (read ++ rest) messages → IsNextByte read cuts before message
     → (later : List (ℕ × List ℕ)) × (messages ≡ (before ++ message ∷ []) ++ later)
-next read rest cuts messages before message clean (others, joined, alone) =
+next read rest cuts messages before message clean (others, (joined, alone)) =
     begins (before ++ message ∷ []) messages (others ++ rest) alone clean.alone
     (sym clean.joined ∙ ap (λ bytes. bytes ++ rest) joined ∙ append_assoc (bytes_of (before ++ message ∷ [])) others rest)
