@@ -4,7 +4,7 @@ use Rattle.std.specs.Prelude.{All}
 use Rattle.std.proofs.lemmas.List.Elements.{All-contains}
 use Rattle.modbus_frame.specs.Meaning.{Asked}
 use Rattle.modbus_frame.specs.declared.fault.Reason.{Reason}
-use Rattle.modbus_pdu.specs.declared.limits.TheConstants.{MAX_PDU}
+use Rattle.modbus_pdu.specs.Limits.{max_pdu}
 use Rattle.modbus_pdu.specs.RequestOf.{request_of}
 use Rattle.modbus_rtu.specs.Leftmost.{IsLeftmost}
 use Rattle.modbus_rtu.specs.Stands.{HasCrowd, IsTakenNext, IsUsedUp, frame_at}
@@ -35,8 +35,8 @@ ReadingsAreOne = (bytes frames others : List ℕ) (stop last : ℕ) → IsLeftmo
 -- what it writes: the reply, which fits; or nothing, where the PDU of the reply doesn't
 abbrev pub IsSent : ℕ → Asked → Outcome → List ℕ → Type 0
 IsSent slave asked outcome sent =
-    ((sent ≡ framed rtu slave (code_of asked) outcome) × (length (reply_pdu (code_of asked) outcome) ≤ MAX_PDU))
-    ⊎ ((sent ≡ []) × (MAX_PDU < length (reply_pdu (code_of asked) outcome)))
+    ((sent ≡ framed rtu slave (code_of asked) outcome) × (length (reply_pdu (code_of asked) outcome) ≤ max_pdu))
+    ⊎ ((sent ≡ []) × (max_pdu < length (reply_pdu (code_of asked) outcome)))
 
 pub record AskedOnce {S : Type 0} (A : Answering S) (before after : S) (slave : ℕ) (asked : Asked) (sent : List ℕ) : Type 0 where
   pub outcome : Outcome

@@ -9,7 +9,7 @@ use Rattle.modbus_frame.specs.declared.fault.Error.{Error}
 use Rattle.modbus_frame.specs.declared.fault.Error.TheVariants.{Protocol as protocol, Transport, NoMemory}
 use Rattle.modbus_frame.specs.declared.fault.TransportError.TheVariants as transport
 use Rattle.modbus_pdu.specs.Coding.{Fits, told_size}
-use Rattle.modbus_pdu.specs.declared.limits.TheConstants.{MAX_PDU}
+use Rattle.modbus_pdu.specs.Limits.{max_pdu}
 use Rattle.modbus_pdu.specs.RequestPdu.{request_pdu}
 use Rattle.modbus_client.specs.Protocol.{Protocol}
 use Rattle.modbus_client.specs.Matching.{Answer}
@@ -20,7 +20,7 @@ use Rattle.modbus_client.specs.Polled.{IsRefused}
 
 module _ (X : Type 0) {H : Type 0} (P : Protocol H) (header : H) (asked : Asked) (held : List ℕ) (empty : held ≡ []) where
   -- the PDU is too long
-  sent_long : (a : Input) (k : Output) (size : ℕ) → MAX_PDU < length (request_pdu asked) → size ≡ told_size (request_pdu asked)
+  sent_long : (a : Input) (k : Output) (size : ℕ) → max_pdu < length (request_pdu asked) → size ≡ told_size (request_pdu asked)
       → Sent {X = X} P a a k k header asked held (Err (Transport (transport.RequestTooLong size)))
   sent_long a k size long is = record {
     sent = [];
@@ -84,7 +84,7 @@ module _ (X : Type 0) {H : Type 0} (P : Protocol H) (a b : Input) (k m : Output)
   SentAs e = Sent {X = X} P a b k m header asked held (Err e)
 
   unsent : (e : Error) → SentAs e → CallEndsAs P (P.seen header) (function_asked asked) [] [] held (Err e) → CallEndsRead (Err e) b.left → Spends (call_spending (Err e)) 0 turns
-      → (((size : ℕ) → (let answer : Answer = Err e in answer ≡ Err (Transport (transport.RequestTooLong size))) ↔ ((MAX_PDU < length (request_pdu asked)) × (size ≡ told_size (request_pdu asked)))))
+      → (((size : ℕ) → (let answer : Answer = Err e in answer ≡ Err (Transport (transport.RequestTooLong size))) ↔ ((max_pdu < length (request_pdu asked)) × (size ≡ told_size (request_pdu asked)))))
       → ((s : SentAs e) → (let answer : Answer = Err e in WritesRequest (P.adu header (request_pdu asked)) s.sent answer))
       → (let answer : Answer = Err e in answer ≡ Err (Transport transport.WriteFault) → Rose k.faults m.faults)
       → (let answer : Answer = Err e in answer ≡ Err (Transport transport.ReadFault) → Rose a.faults b.faults)

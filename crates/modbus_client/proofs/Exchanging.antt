@@ -7,7 +7,7 @@ use Rattle.modbus_frame.specs.declared.fault.Error.TheVariants.{Protocol as prot
 use Rattle.modbus_frame.specs.declared.fault.HeaderSeen.{HeaderSeen}
 use Rattle.modbus_frame.specs.declared.fault.TransportError.{TransportError}
 use Rattle.modbus_frame.specs.declared.fault.TransportError.TheVariants as transport
-use Rattle.modbus_client.specs.declared.call.TheConstants.{ROOM}
+use Rattle.modbus_client.specs.Limits.{read_room}
 use Rattle.modbus_client.specs.Protocol.{Protocol}
 use Rattle.modbus_client.specs.Matching.{Answer}
 use Rattle.modbus_client.specs.Call.{CallState, CallStands, IsSameCall, IsOfBytesIfSome, FeedsAs, CallFed, TellsEnd}
@@ -17,7 +17,7 @@ use Rattle.modbus_client.proofs.Turning.{same_call, answered_ends, fed_goes}
 
 count_full : (n : ℕ) (bytes : List ℕ) → length (full_cuts n bytes) ≡ n
 count_full zero bytes = refl
-count_full (suc n) bytes = length-append (full_cuts n bytes) (min (suc n * ROOM) (length bytes) ∷ []) ∙ omega (arith, count_full n bytes)
+count_full (suc n) bytes = length-append (full_cuts n bytes) (min (suc n * read_room) (length bytes) ∷ []) ∙ omega (arith, count_full n bytes)
 
 of_bytes : (answer : Answer) → IsOfBytesIfSome (Some answer) → IsOfReplies answer
 of_bytes (Ok result) late = tt
@@ -33,8 +33,8 @@ module _ {H : Type 0} (P : Protocol H) (bytes : List ℕ) where
   -- what the loop keeps, from a call whose request was written
   pub record Going (first call : CallState) (left : List ℕ) : Type 0 where
     pub reads : ℕ
-    pub rest : left ≡ drop (reads * ROOM) bytes
-    pub stands : CallStands P first.request (take (reads * ROOM) bytes) (full_cuts reads bytes) call
+    pub rest : left ≡ drop (reads * read_room) bytes
+    pub stands : CallStands P first.request (take (reads * read_room) bytes) (full_cuts reads bytes) call
     pub same : IsSameCall first call
     pub written : call.unwritten ≡ []
 
@@ -50,7 +50,7 @@ module _ {H : Type 0} (P : Protocol H) (bytes : List ℕ) where
   module _ (first old : CallState) (left : List ℕ) (g : Going first old left) where
     -- it may read once more
     pub may_read : 0 < length left → old.reads < length bytes
-    may_read some = omega (arith, some, ap length g.rest, length-drop (g.reads * ROOM) bytes, g.stands.counted, count_full g.reads bytes)
+    may_read some = omega (arith, some, ap length g.rest, length-drop (g.reads * read_room) bytes, g.stands.counted, count_full g.reads bytes)
 
     pub no_memory : (held : List ℕ) → ReadsAll P first.asked first.function bytes held (Err NoMemory)
     no_memory held = record { only = tt; reads = g.reads; ends = tt; ended = tt }
@@ -60,7 +60,7 @@ module _ {H : Type 0} (P : Protocol H) (bytes : List ℕ) where
     over none transport.BytesRemaining tells = record { only = tt; reads = g.reads; ends = (g.stands.finds, tells); ended = sym g.rest ∙ none }
     over none _ tells = absurd tells
 
-    module _ (free : ℕ) (mid new : CallState) (same : mid ≡ record old { free = free }) (piece : List ℕ) (is : piece ≡ take ROOM left) (answer : Option Answer) (fed : CallFed P mid new piece answer) where
+    module _ (free : ℕ) (mid new : CallState) (same : mid ≡ record old { free = free }) (piece : List ℕ) (is : piece ≡ take read_room left) (answer : Option Answer) (fed : CallFed P mid new piece answer) where
       all_same : IsSameCall first new
       all_same = let m = same_call old mid free same in record {
         asked = fed.same.asked ∙ m.asked ∙ g.same.asked;
@@ -69,30 +69,30 @@ module _ {H : Type 0} (P : Protocol H) (bytes : List ℕ) where
         turns = fed.same.turns ∙ m.turns ∙ g.same.turns;
       }
 
-      bytes_more : take (g.reads * ROOM) bytes ++ piece ≡ take (suc g.reads * ROOM) bytes
+      bytes_more : take (g.reads * read_room) bytes ++ piece ≡ take (suc g.reads * read_room) bytes
       bytes_more =
-          let next : suc g.reads * ROOM ≡ g.reads * ROOM + ROOM = omega arith in
-          ap (λ p. take (g.reads * ROOM) bytes ++ p) (is ∙ ap (λ l. take ROOM l) g.rest) ∙ sym (take-add (g.reads * ROOM) ROOM bytes) ∙ ap (λ n. take n bytes) (sym next)
+          let next : suc g.reads * read_room ≡ g.reads * read_room + read_room = omega arith in
+          ap (λ p. take (g.reads * read_room) bytes ++ p) (is ∙ ap (λ l. take read_room l) g.rest) ∙ sym (take-add (g.reads * read_room) read_room bytes) ∙ ap (λ n. take n bytes) (sym next)
 
-      cuts_more : full_cuts g.reads bytes ++ length (take (g.reads * ROOM) bytes ++ piece) ∷ [] ≡ full_cuts (suc g.reads) bytes
-      cuts_more = ap (λ n. full_cuts g.reads bytes ++ n ∷ []) (ap length bytes_more ∙ length-take (suc g.reads * ROOM) bytes)
+      cuts_more : full_cuts g.reads bytes ++ length (take (g.reads * read_room) bytes ++ piece) ∷ [] ≡ full_cuts (suc g.reads) bytes
+      cuts_more = ap (λ n. full_cuts g.reads bytes ++ n ∷ []) (ap length bytes_more ∙ length-take (suc g.reads * read_room) bytes)
 
-      fed_as : FeedsAs P first.request (take (suc g.reads * ROOM) bytes) (full_cuts (suc g.reads) bytes) new answer
+      fed_as : FeedsAs P first.request (take (suc g.reads * read_room) bytes) (full_cuts (suc g.reads) bytes) new answer
       fed_as =
           let s = g.stands in
-          let stood : CallStands P first.request (take (g.reads * ROOM) bytes) (full_cuts g.reads bytes) mid =
-          subst (λ c. CallStands P first.request (take (g.reads * ROOM) bytes) (full_cuts g.reads bytes) c) (sym same) (record { wrote = s.wrote; first = s.first; finds = s.finds; counted = s.counted }) in
+          let stood : CallStands P first.request (take (g.reads * read_room) bytes) (full_cuts g.reads bytes) mid =
+          subst (λ c. CallStands P first.request (take (g.reads * read_room) bytes) (full_cuts g.reads bytes) c) (sym same) (record { wrote = s.wrote; first = s.first; finds = s.finds; counted = s.counted }) in
           subst (λ b. FeedsAs P first.request b (full_cuts (suc g.reads) bytes) new answer) bytes_more
-          (subst (λ c. FeedsAs P first.request (take (g.reads * ROOM) bytes ++ piece) c new answer) cuts_more
-          (fed.stands first.request (take (g.reads * ROOM) bytes) (full_cuts g.reads bytes) stood))
+          (subst (λ c. FeedsAs P first.request (take (g.reads * read_room) bytes ++ piece) c new answer) cuts_more
+          (fed.stands first.request (take (g.reads * read_room) bytes) (full_cuts g.reads bytes) stood))
 
-      rest_more : drop ROOM left ≡ drop (suc g.reads * ROOM) bytes
+      rest_more : drop read_room left ≡ drop (suc g.reads * read_room) bytes
       rest_more =
-          let next : suc g.reads * ROOM ≡ g.reads * ROOM + ROOM = omega arith in
-          ap (λ l. drop ROOM l) g.rest ∙ drop-drop ROOM (g.reads * ROOM) bytes ∙ ap (λ n. drop n bytes) (sym next)
+          let next : suc g.reads * read_room ≡ g.reads * read_room + read_room = omega arith in
+          ap (λ l. drop read_room l) g.rest ∙ drop-drop read_room (g.reads * read_room) bytes ∙ ap (λ n. drop n bytes) (sym next)
 
-    module _ (free : ℕ) (mid new : CallState) (same : mid ≡ record old { free = free }) (piece : List ℕ) (is : piece ≡ take ROOM left) where
-      pub goes_on : CallFed P mid new piece None → Going first new (drop ROOM left)
+    module _ (free : ℕ) (mid new : CallState) (same : mid ≡ record old { free = free }) (piece : List ℕ) (is : piece ≡ take read_room left) where
+      pub goes_on : CallFed P mid new piece None → Going first new (drop read_room left)
       goes_on fed = record {
         reads = suc g.reads;
         rest = rest_more free mid new same piece is None fed;
@@ -108,8 +108,8 @@ module _ {H : Type 0} (P : Protocol H) (bytes : List ℕ) where
             only = of_bytes answer fed.late;
             reads = suc g.reads;
             ends =
-                subst (λ (asked : HeaderSeen). CallEndsAs P asked first.function (take (suc g.reads * ROOM) bytes) (full_cuts (suc g.reads) bytes) new.held answer) all.asked
-                (subst (λ (function : FunctionCode). CallEndsAs P new.asked function (take (suc g.reads * ROOM) bytes) (full_cuts (suc g.reads) bytes) new.held answer) all.function
-                (answered_ends P new.asked new.function (take (suc g.reads * ROOM) bytes) (full_cuts (suc g.reads) bytes) new.held answer (fed_as free mid new same piece is (Some answer) fed)));
-            ended = fed_goes (Some answer) (drop (suc g.reads * ROOM) bytes) fed.late;
+                subst (λ (asked : HeaderSeen). CallEndsAs P asked first.function (take (suc g.reads * read_room) bytes) (full_cuts (suc g.reads) bytes) new.held answer) all.asked
+                (subst (λ (function : FunctionCode). CallEndsAs P new.asked function (take (suc g.reads * read_room) bytes) (full_cuts (suc g.reads) bytes) new.held answer) all.function
+                (answered_ends P new.asked new.function (take (suc g.reads * read_room) bytes) (full_cuts (suc g.reads) bytes) new.held answer (fed_as free mid new same piece is (Some answer) fed)));
+            ended = fed_goes (Some answer) (drop (suc g.reads * read_room) bytes) fed.late;
           }

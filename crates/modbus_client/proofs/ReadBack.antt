@@ -14,7 +14,7 @@ use Rattle.modbus_rtu.specs.declared.verdict.Verdict.{Verdict}
 use Rattle.modbus_rtu.specs.declared.verdict.Verdict.TheVariants.{Open, Bad, Good}
 use Rattle.modbus_rtu.specs.Frame.{frame}
 use Rattle.modbus_rtu.specs.ResponseHead.{response_verdict, HasResponseHead}
-use Rattle.modbus_client.specs.declared.call.TheConstants.{ROOM}
+use Rattle.modbus_client.specs.Limits.{read_room}
 use Rattle.modbus_client.specs.Call.{IsJudged}
 use Rattle.modbus_client.specs.Calling.{CallEndsAs, CallEndsRead}
 use Rattle.modbus_client.specs.Exchange.{IsOfReplies, full_cuts, ReadsAll}
@@ -67,7 +67,7 @@ module _ (nothing_open : response_verdict [] ≡ Open) (seen_of : HeaderSeen) (f
   pub nothing_back : (held : List ℕ) (answer : Answer) → ReadsAll rtu_protocol seen_of function [] held answer → (answer ≡ Err (Transport transport.BrokenPipe)) ⊎ (answer ≡ Err NoMemory)
   nothing_back held answer r =
       nothing_ends (full_cuts r.reads []) held answer r.only
-      (subst (λ b. CallEndsAs rtu_protocol seen_of function b (full_cuts r.reads []) held answer) (none_left (r.reads * ROOM)) r.ends)
+      (subst (λ b. CallEndsAs rtu_protocol seen_of function b (full_cuts r.reads []) held answer) (none_left (r.reads * read_room)) r.ends)
 
 -- One frame gives what its PDU stands for.
 module _ (good : FramesAreGood) (front : FrontsAreOpen) (slave : ℕ) (function : FunctionCode) (pdu : List ℕ) (result : Result Response ExceptionResponse)
@@ -104,6 +104,6 @@ pub frame_back : FramesAreGood → FrontsAreOpen → (slave : ℕ) (function : F
     → response_result_of pdu ≡ Ok result → (held : List ℕ) (answer : Answer) → ReadsAll rtu_protocol (slave_seen slave) function (frame slave pdu) held answer
     → Judges (slave_seen slave) function (slave_seen slave) result answer ⊎ (answer ≡ Err NoMemory)
 frame_back good front slave function pdu result has means held answer r =
-    let n = r.reads * ROOM in
+    let n = r.reads * read_room in
     read_ends good front slave function pdu result has means (take n (frame slave pdu)) (drop n (frame slave pdu)) (full_cuts r.reads (frame slave pdu))
     (sym (take-append-drop n (frame slave pdu))) held answer r.only r.ends r.ended

@@ -9,7 +9,7 @@ use Rattle.modbus_frame.specs.declared.fault.Error.TheVariants.{Protocol as prot
 use Rattle.modbus_frame.specs.declared.fault.HeaderSeen.{HeaderSeen}
 use Rattle.modbus_frame.specs.declared.fault.TransportError.{TransportError}
 use Rattle.modbus_frame.specs.declared.fault.TransportError.TheVariants as transport
-use Rattle.modbus_client.specs.declared.call.TheConstants.{ROOM}
+use Rattle.modbus_client.specs.Limits.{read_room}
 use Rattle.modbus_client.specs.Protocol.{Protocol, waiting}
 use Rattle.modbus_client.specs.Matching.{Answer}
 use Rattle.modbus_client.specs.Call.{CallState, CallStands, IsSameCall, IsAnswered, IsOfBytesIfSome, FeedsAs, CallFed, TellsEnd}
@@ -140,19 +140,19 @@ module _ {H : Type 0} (P : Protocol H) (a b : Input) (k m : Output) (old new : C
 
   -- the read gave bytes, which were fed
   pub turned_some : {E : Type 0} (mid : CallState) (free count : ℕ) (before after piece : List ℕ) (answer : Option Answer) → mid ≡ record old { free = free } → CallFed P mid new piece answer
-      → m ≡ k → Advances a b → (IsTrue a.told → ReadIsTold {E = E} a b before after (Ok count)) → piece ≡ take count after → (count ≡ 0 → ⊥) → count ≤ length after → length before ≡ ROOM
+      → m ≡ k → Advances a b → (IsTrue a.told → ReadIsTold {E = E} a b before after (Ok count)) → piece ≡ take count after → (count ≡ 0 → ⊥) → count ≤ length after → length before ≡ read_room
       → Turned P a b k m old new answer
   turned_some mid free count before after piece answer e fed same adv told is some within room =
       let long : length piece ≡ count = ap length is ∙ length-take-le count after within in
       let some' : 0 < length piece = omega arith in
-      let made : List (ℕ × ℕ) = (length piece, ROOM) ∷ [] in
-      let cut : ℕ → List (ℕ × ℕ) = λ n. (n, ROOM) ∷ [] in
+      let made : List (ℕ × ℕ) = (length piece, read_room) ∷ [] in
+      let cut : ℕ → List (ℕ × ℕ) = λ n. (n, read_room) ∷ [] in
       let cut' : ℕ → List (ℕ × ℕ) = λ r. (count, r) ∷ [] in
       let cuts_are : IsTrue a.told → cuts_made a b ≡ made = λ t. (told t).cuts ∙ one_cut-one count (length before) some ∙ ap cut' room ∙ ap cut (sym long) in
       record {
         fed = piece;
         made = made;
-        passes = passes_in a b k m piece made same adv (λ t. (told t).bytes ∙ sym is) cuts_are (rises_one piece made ROOM refl some');
+        passes = passes_in a b k m piece made same adv (λ t. (told t).bytes ∙ sym is) cuts_are (rises_one piece made read_room refl some');
         once = inr (some', refl);
         spends = fed_spends answer fed.late;
         same = record {

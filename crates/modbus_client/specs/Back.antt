@@ -8,7 +8,7 @@ use Rattle.modbus_frame.specs.declared.fault.Error.TheVariants.{Protocol, Transp
 use Rattle.modbus_frame.specs.declared.fault.ProtocolError.TheVariants.{FunctionCodeMismatch}
 use Rattle.modbus_frame.specs.declared.fault.TransportError.TheVariants.{BrokenPipe}
 use Rattle.modbus_pdu.specs.Coding.{Fits}
-use Rattle.modbus_pdu.specs.declared.limits.TheConstants.{MAX_PDU}
+use Rattle.modbus_pdu.specs.Limits.{max_pdu}
 use Rattle.modbus_pdu.specs.RequestOf.{IsModelled}
 use Rattle.modbus_pdu.specs.RequestPdu.{request_pdu}
 use Rattle.modbus_pdu.specs.ResponseLaws.{IsResponse, with_filled_coils}
@@ -25,7 +25,7 @@ pub record ReplyComesBack (asked : Asked) (given : Response) (answer : Answer) :
   pub own : IsResponse given → Fits (response_pdu given) → function_answered given ≡ function_asked asked → answer ≡ Ok (Ok (with_filled_coils given))
   pub other : IsResponse given → IsModelled (function_number (function_answered given)) → Fits (response_pdu given) → function_answered given ≢ function_asked asked
       → answer ≡ Err (Protocol (FunctionCodeMismatch (function_asked asked) (Ok (with_filled_coils given))))
-  pub too_long : MAX_PDU < length (response_pdu given) → answer ≡ Err (Transport BrokenPipe)
+  pub too_long : max_pdu < length (response_pdu given) → answer ≡ Err (Transport BrokenPipe)
 
 -- The same of each outcome. Silence is the end of the input, and an exception comes back as the code of its number.
 abbrev pub OutcomeComesBack : Asked → Outcome → Answer → Type 0

@@ -11,7 +11,7 @@ use Rattle.modbus_frame.specs.declared.fault.HeaderSeen.{HeaderSeen}
 use Rattle.modbus_frame.specs.declared.fault.TransportError.{TransportError}
 use Rattle.modbus_frame.specs.declared.fault.TransportError.TheVariants as transport
 use Rattle.modbus_pdu.specs.Coding.{Fits, Refuses, told_size}
-use Rattle.modbus_pdu.specs.declared.limits.TheConstants.{MAX_PDU}
+use Rattle.modbus_pdu.specs.Limits.{max_pdu}
 use Rattle.modbus_pdu.specs.RequestPdu.{request_pdu}
 use Rattle.modbus_pdu.specs.ResponseOf.{response_result_of}
 use Rattle.modbus_client.specs.declared.protocol.Reply.{Reply}
@@ -64,7 +64,7 @@ pub record OpensCall {H : Type 0} (P : Protocol H) (header : H) (asked : Asked) 
   pub asks : IfOk result (λ call. IsCallFor P header asked turns call)
   pub empty : IfOk result (λ call. call.held ≡ [])
   pub fits : OnOk result (Fits (request_pdu asked))
-  pub too_long : MAX_PDU < length (request_pdu asked) → result ≡ Err (encode.TooLong (told_size (request_pdu asked)))
+  pub too_long : max_pdu < length (request_pdu asked) → result ≡ Err (encode.TooLong (told_size (request_pdu asked)))
   pub cause : IfErr result (λ refusal. Refuses refusal (request_pdu asked))
 
 -- one look at the bytes that are held after some were fed, by all bytes that were fed and their cuts

@@ -12,19 +12,19 @@ use Rattle.modbus_frame.specs.declared.fault.Error.TheVariants.{Transport, NoMem
 use Rattle.modbus_frame.specs.declared.fault.HeaderSeen.{HeaderSeen}
 use Rattle.modbus_frame.specs.declared.fault.TransportError.TheVariants as transport
 use Rattle.modbus_pdu.specs.Coding.{Fits, told_size}
-use Rattle.modbus_pdu.specs.declared.limits.TheConstants.{MAX_PDU}
+use Rattle.modbus_pdu.specs.Limits.{max_pdu}
 use Rattle.modbus_pdu.specs.RequestPdu.{request_pdu}
 use Rattle.modbus_pdu.specs.ResponseOf.{response_result_of}
-use Rattle.modbus_client.specs.declared.call.TheConstants.{ROOM}
-use Rattle.modbus_client.specs.Protocol.{Protocol, waiting}
+use Rattle.modbus_client.specs.Limits.{read_room}
+use Rattle.modbus_client.specs.Protocol.{Protocol, Heading, waiting}
 use Rattle.modbus_client.specs.Matching.{Answer, IsOf, answer_of}
 use Rattle.modbus_client.specs.Call.{CallState, CallStands, IsSameCall, IsAnswered, IsOfBytes}
 use Rattle.modbus_client.specs.Sending.{WritesRequest, IsOfSending, stays_connected}
-use Rattle.modbus_client.specs.State.{ClientState, KeepsSettings}
+use Rattle.modbus_client.specs.State.{ClientState, KeepsSettings, next_header, drawn}
 
 -- each read has room for so many bytes
 abbrev pub HasRoom : List ℕ → ℕ → Type 0
-HasRoom bytes room = room ≡ ROOM
+HasRoom bytes room = room ≡ read_room
 
 -- How a connected call ended, by all bytes that it read and their cuts, and by what is then held. An answer of the bytes is that of the
 -- search in them; where the input ended, a read failed or the last turn was made, the search waits.
@@ -59,14 +59,14 @@ pub record Sent {X : Type 0} {H : Type 0} (P : Protocol H) (from to : Input) (su
   pub source : to ≡ from
   pub only : IfErr answer IsOfSending
   -- a request is too long exactly where its PDU is
-  pub too_long : (size : ℕ) → (answer ≡ Err (Transport (transport.RequestTooLong size))) ↔ ((MAX_PDU < length (request_pdu asked)) × (size ≡ told_size (request_pdu asked)))
+  pub too_long : (size : ℕ) → (answer ≡ Err (Transport (transport.RequestTooLong size))) ↔ ((max_pdu < length (request_pdu asked)) × (size ≡ told_size (request_pdu asked)))
   pub writes : WritesRequest (P.adu header (request_pdu asked)) sent answer
   pub write_fault : answer ≡ Err (Transport transport.WriteFault) → Rose sunk.faults sinks.faults
   pub emptied : held ≡ []
 
--- one read with room for `ROOM` bytes, or none
+-- one read with room for `read_room` bytes, or none
 abbrev pub IsOneRead : List ℕ → List (ℕ × ℕ) → Type 0
-IsOneRead fed made = ((fed ≡ []) × (made ≡ [])) ⊎ ((0 < length fed) × (made ≡ (length fed, ROOM) ∷ []))
+IsOneRead fed made = ((fed ≡ []) × (made ≡ [])) ⊎ ((0 < length fed) × (made ≡ (length fed, read_room) ∷ []))
 
 -- what a call is after a turn, by what it stood for
 abbrev pub TurnsAs : {H : Type 0} → Protocol H → List ℕ → List ℕ → List ℕ → CallState → Option Answer → Type 0
@@ -116,7 +116,7 @@ pub record Exchanged {H : Type 0} (P : Protocol H) (from to : Input) (sunk sinks
   -- a source and a sink that tell their bytes tell these
   pub passes : Passes from to sunk sinks fed made sent
   -- a request is too long exactly where its PDU is
-  pub too_long : (size : ℕ) → (answer ≡ Err (Transport (transport.RequestTooLong size))) ↔ ((MAX_PDU < length (request_pdu asked)) × (size ≡ told_size (request_pdu asked)))
+  pub too_long : (size : ℕ) → (answer ≡ Err (Transport (transport.RequestTooLong size))) ↔ ((max_pdu < length (request_pdu asked)) × (size ≡ told_size (request_pdu asked)))
   pub writes : WritesRequest (P.adu header (request_pdu asked)) sent answer
   pub ends : CallEndsAs P (P.seen header) (function_asked asked) fed (totals made) held answer
   pub ended : IsTrue from.told → CallEndsRead answer to.left
@@ -125,29 +125,32 @@ pub record Exchanged {H : Type 0} (P : Protocol H) (from to : Input) (sunk sinks
   pub write_fault : answer ≡ Err (Transport transport.WriteFault) → Rose sunk.faults sinks.faults
   pub read_fault : answer ≡ Err (Transport transport.ReadFault) → Rose from.faults to.faults
 
--- What a call does to a client over a link of these ends, by the header under which it asks, the state before, the request, the answer
--- and the state after.
-pub record Called {L H : Type 0} (P : Protocol H) (input : L → Input) (output : L → Output) (header : H) (old : ClientState L) (asked : Asked) (answer : Answer) (new : ClientState L) : Type 0 where
+-- What a call does to a client over a link of these ends, by the state before, the request, the answer and the state after. It asks under
+-- the header that comes next.
+pub record Called {L H I : Type 0} (P : Protocol H) (N : Heading H I) (input : L → Input) (output : L → Output) (old : ClientState I L) (asked : Asked) (answer : Answer) (new : ClientState I L) : Type 0 where
   -- only its own calls set the slave, the turns and the timeout
   pub keeps : KeepsSettings old new
-  -- a disconnected client does nothing
-  pub disconnected : old.is_connected ≡ false → (answer ≡ Err (Transport transport.NotConnected)) × (new ≡ old)
+  -- each call draws a header, whatever it answers
+  pub draws : new.ids ≡ N.next old.ids
+  -- a disconnected client does nothing else
+  pub disconnected : old.is_connected ≡ false → (answer ≡ Err (Transport transport.NotConnected)) × (new ≡ drawn N old)
   pub connected : IsTrue old.is_connected → new.is_connected ≡ stays_connected answer
-  pub ran : IsTrue old.is_connected → Exchanged P (input old.link) (input new.link) (output old.link) (output new.link) header asked old.turns new.held answer
+  pub ran : IsTrue old.is_connected → Exchanged P (input old.link) (input new.link) (output old.link) (output new.link) (next_header N old) asked old.turns new.held answer
 
 -- The same of sending a request, which waits for no reply.
-pub record SentAlone {L H : Type 0} (P : Protocol H) (input : L → Input) (output : L → Output) (header : H) (old : ClientState L) (asked : Asked) (answer : Result (Unit {0}) Error) (new : ClientState L) : Type 0 where
+pub record SentAlone {L H I : Type 0} (P : Protocol H) (N : Heading H I) (input : L → Input) (output : L → Output) (old : ClientState I L) (asked : Asked) (answer : Result (Unit {0}) Error) (new : ClientState I L) : Type 0 where
   pub keeps : KeepsSettings old new
-  pub disconnected : old.is_connected ≡ false → (answer ≡ Err (Transport transport.NotConnected)) × (new ≡ old)
+  pub draws : new.ids ≡ N.next old.ids
+  pub disconnected : old.is_connected ≡ false → (answer ≡ Err (Transport transport.NotConnected)) × (new ≡ drawn N old)
   pub connected : IsTrue old.is_connected → new.is_connected ≡ stays_connected answer
-  pub sent : IsTrue old.is_connected → Sent P (input old.link) (input new.link) (output old.link) (output new.link) header asked new.held answer
+  pub sent : IsTrue old.is_connected → Sent P (input old.link) (input new.link) (output old.link) (output new.link) (next_header N old) asked new.held answer
 
 -- Completeness: a link that fails nowhere and holds one message alone, whose first bytes tell where it ends and which belongs to the
 -- request, gives its result in whatever pieces it comes, or memory is wanting.
-abbrev pub IsComplete : {L H : Type 0} → Protocol H → (L → Input) → (L → Output) → H → ClientState L → Asked → Answer → ClientState L → Type 0
-IsComplete P input output header old asked answer new =
+abbrev pub IsComplete : {L H I : Type 0} → Protocol H → Heading H I → (L → Input) → (L → Output) → ClientState I L → Asked → Answer → ClientState I L → Type 0
+IsComplete P N input output old asked answer new =
     IsTrue old.is_connected → Fits (request_pdu asked) → IsTrue (input old.link).told
     → (Rose (input old.link).faults (input new.link).faults → ⊥) → (Rose (output old.link).faults (output new.link).faults → ⊥)
-    → (pdu : List ℕ) (result : Result Response ExceptionResponse) → P.IsWhole header pdu → response_result_of pdu ≡ Ok result → IsOf (function_asked asked) result
-    → (input old.link).left ≡ P.adu header pdu → length (input old.link).left < old.turns
+    → (pdu : List ℕ) (result : Result Response ExceptionResponse) → P.IsWhole (next_header N old) pdu → response_result_of pdu ≡ Ok result → IsOf (function_asked asked) result
+    → (input old.link).left ≡ P.adu (next_header N old) pdu → length (input old.link).left < old.turns
     → (answer ≡ answer_of result) ⊎ (answer ≡ Err NoMemory)

@@ -8,7 +8,7 @@ use Rattle.modbus_client.specs.State.{ClientState}
 
 -- The client is disconnected in any case. One that was connected answers Ok only where its link is down, and a fault only where the
 -- link's count of shutdown faults rose; one that was not stays as it is.
-pub record Disconnected {L : Type 0} (line : L → Line) (input : L → Input) (output : L → Output) (old : ClientState L) (result : Result (Unit {0}) ShutdownFault) (new : ClientState L) : Type 0 where
+pub record Disconnected {I L : Type 0} (line : L → Line) (input : L → Input) (output : L → Output) (old : ClientState I L) (result : Result (Unit {0}) ShutdownFault) (new : ClientState I L) : Type 0 where
   pub rest : new ≡ record old { link = new.link; is_connected = false }
   pub source : input new.link ≡ input old.link
   pub sink : output new.link ≡ output old.link
@@ -17,7 +17,7 @@ pub record Disconnected {L : Type 0} (line : L → Line) (input : L → Input) (
   pub again : old.is_connected ≡ false → (new ≡ old) × (result ≡ Ok tt)
 
 -- The timeout is kept, and set on the link of a connected client, which stays as it was otherwise.
-pub record Limited {L : Type 0} (line : L → Line) (input : L → Input) (output : L → Output) (old : ClientState L) (duration : Option Duration) (new : ClientState L) : Type 0 where
+pub record Limited {I L : Type 0} (line : L → Line) (input : L → Input) (output : L → Output) (old : ClientState I L) (duration : Option Duration) (new : ClientState I L) : Type 0 where
   pub rest : new ≡ record old { link = new.link; timeout = duration }
   pub source : input new.link ≡ input old.link
   pub sink : output new.link ≡ output old.link

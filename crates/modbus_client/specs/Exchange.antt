@@ -6,7 +6,7 @@ use Rattle.modbus_frame.specs.declared.fault.HeaderSeen.{HeaderSeen}
 use Rattle.modbus_frame.specs.declared.fault.Error.TheVariants.{Transport, NoMemory}
 use Rattle.modbus_frame.specs.declared.fault.TransportError.TheVariants as transport
 use Rattle.modbus_pdu.specs.Coding.{Fits, told_size}
-use Rattle.modbus_pdu.specs.declared.limits.TheConstants.{MAX_PDU}
+use Rattle.modbus_pdu.specs.Limits.{max_pdu}
 use Rattle.modbus_pdu.specs.RequestPdu.{request_pdu}
 use Rattle.modbus_rtu.specs.Frame.{frame}
 use Rattle.modbus_service.specs.Answering.{Answering}
@@ -15,7 +15,7 @@ use Rattle.modbus_server.specs.declared.error.ProcessError.TheVariants as proces
 use Rattle.modbus_server.specs.Piece.{IsOfNoRead}
 use Rattle.modbus_server.specs.Serving as server
 use Rattle.modbus_server.specs.Rtu.{rtu}
-use Rattle.modbus_client.specs.declared.call.TheConstants.{ROOM}
+use Rattle.modbus_client.specs.Limits.{read_room}
 use Rattle.modbus_client.specs.Protocol.{Protocol}
 use Rattle.modbus_client.specs.Matching.{Answer}
 use Rattle.modbus_client.specs.Calling.{CallEndsAs, CallEndsRead}
@@ -24,7 +24,7 @@ use Rattle.modbus_client.specs.Rtu.{rtu_protocol, slave_seen}
 -- the cuts of the first so many reads, each of which gives as many bytes as its room holds
 abbrev pub full_cuts : ℕ → List ℕ → List ℕ
 full_cuts zero bytes = []
-full_cuts (suc n) bytes = full_cuts n bytes ++ min (suc n * ROOM) (length bytes) ∷ []
+full_cuts (suc n) bytes = full_cuts n bytes ++ min (suc n * read_room) (length bytes) ∷ []
 
 -- the answers of a call that gets bytes and then their end
 abbrev pub IsOfReplies : Answer → Type 0
@@ -40,8 +40,8 @@ IsOfReplies _ = Unit {0}
 pub record ReadsAll {H : Type 0} (P : Protocol H) (asked : HeaderSeen) (function : FunctionCode) (bytes held : List ℕ) (answer : Answer) : Type 0 where
   pub only : IsOfReplies answer
   pub reads : ℕ
-  pub ends : CallEndsAs P asked function (take (reads * ROOM) bytes) (full_cuts reads bytes) held answer
-  pub ended : CallEndsRead answer (drop (reads * ROOM) bytes)
+  pub ends : CallEndsAs P asked function (take (reads * read_room) bytes) (full_cuts reads bytes) held answer
+  pub ended : CallEndsRead answer (drop (reads * read_room) bytes)
 
 -- memory was refused to the server
 abbrev pub IsWanting : Result (Unit {0}) ProcessError → Type 0
@@ -62,6 +62,6 @@ pub record LocalExchange {S : Type 0} (A : Answering S) (before after : S) (slav
 
 -- What `exchange` promises. A request that doesn't fit isn't asked, and one that fits may find no memory before it is.
 pub record ExchangesLocally {S : Type 0} (A : Answering S) (before after : S) (slave : ℕ) (asked : Asked) (answer : Answer) : Type 0 where
-  pub too_long : (size : ℕ) → (answer ≡ Err (Transport (transport.RequestTooLong size))) ↔ ((MAX_PDU < length (request_pdu asked)) × (size ≡ told_size (request_pdu asked)))
-  pub unasked : MAX_PDU < length (request_pdu asked) → after ≡ before
+  pub too_long : (size : ℕ) → (answer ≡ Err (Transport (transport.RequestTooLong size))) ↔ ((max_pdu < length (request_pdu asked)) × (size ≡ told_size (request_pdu asked)))
+  pub unasked : max_pdu < length (request_pdu asked) → after ≡ before
   pub asks : Fits (request_pdu asked) → LocalExchange A before after slave asked answer ⊎ ((answer ≡ Err NoMemory) × (after ≡ before))

@@ -1,3 +1,4 @@
+pub mod Limits
 pub mod Protocol
 pub mod Matching
 pub mod Call
@@ -11,7 +12,6 @@ pub mod Rtu
 pub mod Exchange
 pub mod Back
 pub mod Tcp
-pub mod TcpClient
 pub mod Exactly
 pub mod Typed
 pub mod Boxed

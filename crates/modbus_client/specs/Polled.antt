@@ -12,7 +12,7 @@ use Rattle.modbus_frame.specs.declared.fault.Error.{Error}
 use Rattle.modbus_frame.specs.declared.fault.Error.TheVariants.{Transport, NoMemory}
 use Rattle.modbus_frame.specs.declared.fault.TransportError.TheVariants as transport
 use Rattle.modbus_pdu.specs.Coding.{Fits, told_size}
-use Rattle.modbus_pdu.specs.declared.limits.TheConstants.{MAX_PDU}
+use Rattle.modbus_pdu.specs.Limits.{max_pdu}
 use Rattle.modbus_pdu.specs.RequestPdu.{request_pdu}
 use Rattle.modbus_pdu.specs.ResponseOf.{response_result_of}
 use Rattle.modbus_client.specs.Protocol.{Protocol}
@@ -93,7 +93,7 @@ pub record CallPolled {H : Type 0} (P : Protocol H) (from to : Input) (sunk sink
 
 -- why a call is not opened: its PDU is too long, of this size, or it fits and memory is wanting
 abbrev pub IsRefused : List ℕ → Error → Type 0
-IsRefused pdu (Transport (transport.RequestTooLong size)) = (MAX_PDU < length pdu) × (size ≡ told_size pdu)
+IsRefused pdu (Transport (transport.RequestTooLong size)) = (max_pdu < length pdu) × (size ≡ told_size pdu)
 IsRefused pdu NoMemory = Fits pdu
 IsRefused pdu _ = ⊥
 
@@ -102,7 +102,7 @@ pub record Opens {H : Type 0} (P : Protocol H) (header : H) (asked : Asked) (tur
   pub goes : IfOk result (λ call. CallGoes P [] [] [] call)
   pub asks : IfOk result (λ call. IsCallFor P header asked turns call)
   pub fits : OnOk result (Fits (request_pdu asked))
-  pub too_long : MAX_PDU < length (request_pdu asked) → result ≡ Err (Transport (transport.RequestTooLong (told_size (request_pdu asked))))
+  pub too_long : max_pdu < length (request_pdu asked) → result ≡ Err (Transport (transport.RequestTooLong (told_size (request_pdu asked))))
   pub cause : IfErr result (IsRefused (request_pdu asked))
 
 -- a call that is polled
@@ -117,7 +117,7 @@ pub record OpensPolled {H : Type 0} (P : Protocol H) (header : H) (asked : Asked
   pub asks : IfOk result (λ polled. IsCallFor P header asked turns polled.call)
   pub is_open : IfOk result (λ polled. IsTrue polled.is_open)
   pub fits : OnOk result (Fits (request_pdu asked))
-  pub too_long : MAX_PDU < length (request_pdu asked) → result ≡ Err (Transport (transport.RequestTooLong (told_size (request_pdu asked))))
+  pub too_long : max_pdu < length (request_pdu asked) → result ≡ Err (Transport (transport.RequestTooLong (told_size (request_pdu asked))))
   pub cause : IfErr result (IsRefused (request_pdu asked))
 
 -- the promise of a call of a connected client, where a poll answered

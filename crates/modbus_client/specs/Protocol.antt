@@ -24,6 +24,15 @@ pub record Protocol (Header : Type 0) : Type 1 where
   -- of a header and a PDU: the first bytes of this message tell where it ends
   pub IsWhole : Header → List ℕ → Type 0
 
+-- How a client heads its requests, by the identifiers that it keeps between its calls.
+pub record Heading (Header Ids : Type 0) : Type 0 where
+  -- those of a client that asked nothing yet
+  pub first : Ids
+  -- the header of the next request to a slave
+  pub header : Ids → ℕ → Header
+  -- the identifiers after it
+  pub next : Ids → Ids
+
 -- the faults that are left to protocols
 abbrev pub IsOfProtocol : TransportError → Type 0
 IsOfProtocol TooManyRetries = Unit {0}

@@ -7,7 +7,7 @@ use Rattle.modbus_frame.specs.declared.fault.TransportError.{TransportError}
 use Rattle.modbus_frame.specs.declared.fault.TransportError.TheVariants.{TooManyRetries}
 use Rattle.modbus_rtu.specs.Frame.{frame}
 use Rattle.modbus_rtu.specs.ResponseHead.{HasResponseHead}
-use Rattle.modbus_client.specs.Protocol.{Protocol, Found}
+use Rattle.modbus_client.specs.Protocol.{Protocol, Heading, Found}
 use Rattle.modbus_client.specs.Protocol as found
 use Rattle.modbus_client.specs.Search.{SearchFinds, reply, crowd, waiting}
 
@@ -50,3 +50,7 @@ rtu_protocol = record {
   Finds = FindsFrame;
   IsWhole = λ header pdu. HasResponseHead (header.slave_id, pdu);
 }
+
+-- a frame has the address of its slave alone, so a client keeps nothing for it
+abbrev pub rtu_heading : Heading Header (Unit {0})
+rtu_heading = record { first = tt; header = λ ids slave. record { slave_id = slave }; next = λ ids. ids }

@@ -1,9 +1,10 @@
 -- What a client keeps between its calls.
 use Rattle.std.specs.Prelude.{◌≡◌, ℕ, Bool, true, Option, None, List, []}
 use Rattle.std.specs.declared.time.Duration.{Duration}
-use Rattle.modbus_client.specs.declared.caller.TheConstants.{TURNS}
+use Rattle.modbus_client.specs.Limits.{default_turns}
+use Rattle.modbus_client.specs.Protocol.{Heading}
 
-pub record ClientState (L : Type 0) : Type 0 where
+pub record ClientState (Ids L : Type 0) : Type 0 where
   -- a disconnected client keeps its link, unused
   pub link : L
   pub is_connected : Bool
@@ -14,18 +15,23 @@ pub record ClientState (L : Type 0) : Type 0 where
   pub timeout : Option Duration
   -- the bytes that were read and not used
   pub held : List ℕ
+  -- what its protocol keeps between its calls, as the transaction that comes next
+  pub ids : Ids
 
 -- what only its own calls set
-pub record KeepsSettings {L : Type 0} (old new : ClientState L) : Type 0 where
+pub record KeepsSettings {I L : Type 0} (old new : ClientState I L) : Type 0 where
   pub slave : new.slave ≡ old.slave
   pub turns : new.turns ≡ old.turns
   pub timeout : new.timeout ≡ old.timeout
 
 -- a client as it is attached to a link
-abbrev pub attached : {L : Type 0} → L → ℕ → ClientState L
-attached link slave = record { link = link; is_connected = true; slave = slave; turns = TURNS; timeout = None; held = [] }
+abbrev pub attached : {H I L : Type 0} → Heading H I → L → ℕ → ClientState I L
+attached N link slave = record { link = link; is_connected = true; slave = slave; turns = default_turns; timeout = None; held = []; ids = N.first }
 
--- a TCP client also keeps the transaction that comes next
-pub record TcpClientState (L : Type 0) : Type 0 where
-  pub client : ClientState L
-  pub next : ℕ
+-- the header of its next request
+abbrev pub next_header : {H I L : Type 0} → Heading H I → ClientState I L → H
+next_header N client = N.header client.ids client.slave
+
+-- the same client after it drew that header
+abbrev pub drawn : {H I L : Type 0} → Heading H I → ClientState I L → ClientState I L
+drawn N client = record client { ids = N.next client.ids }

@@ -1,12 +1,12 @@
 -- ADUs with an MBAP header as a client sees them (MODBUS Messaging on TCP/IP V1.0b, section 3.1).
-use Rattle.std.specs.Prelude.{◌≡◌, ◌⊎◌, ℕ, List, drop, Some}
+use Rattle.std.specs.Prelude.{◌≡◌, ◌⊎◌, ℕ, ◌+◌, ◌%◌, ◌^◌, List, drop, Some}
 use Rattle.modbus_frame.specs.declared.tcp.Header.{Header}
 use Rattle.modbus_frame.specs.declared.fault.HeaderSeen.{HeaderSeen}
 use Rattle.modbus_frame.specs.declared.fault.TransportError.{TransportError}
 use Rattle.modbus_frame.specs.declared.fault.TransportError.TheVariants.{InvalidLength, InvalidProtocol}
 use Rattle.modbus_tcp.specs.Adu.{adu_of, IsAdu}
 use Rattle.modbus_tcp.specs.Stream.{IsRest, empty, unfinished, no_length, foreign, BeginsWith}
-use Rattle.modbus_client.specs.Protocol.{Protocol, Found, waiting, reply, broken}
+use Rattle.modbus_client.specs.Protocol.{Protocol, Heading, Found, waiting, reply, broken}
 
 -- of a header the transaction and the unit identifier are compared
 abbrev pub header_seen : Header → HeaderSeen
@@ -31,4 +31,12 @@ tcp_protocol = record {
   adu = adu_of;
   Finds = FindsAdu;
   IsWhole = λ header pdu. IsAdu (header, pdu);
+}
+
+-- each request draws the transaction that comes next, from 0 on; 65535 is followed by 0
+abbrev pub tcp_heading : Heading Header ℕ
+tcp_heading = record {
+  first = 0;
+  header = λ next slave. record { transaction_id = next; unit_id = slave };
+  next = λ next. (next + 1) % 2 ^ 16;
 }

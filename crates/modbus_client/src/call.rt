@@ -2,6 +2,7 @@
 //! an answer then.
 ghost use Rattle.std.specs.Prelude.{◌≡◌, ◌↔◌, ℕ, ◌<◌, ◌≤◌, [], length, drop, IsTrue, OnOk};
 ghost use Rattle.modbus_frame.specs.Meaning.{meaning};
+ghost use Rattle.modbus_client.specs.Limits.{read_room};
 ghost use Rattle.modbus_client.specs.Call.{OpensCall, CallFed, TellsEnd};
 
 use crate::matching::judge;
@@ -112,7 +113,7 @@ impl<P: Protocol> Call<P> {
     /// `AllocError` where memory is refused.
     pub fn make_room(&mut self) -> std::result::Result<(), AllocError>
         ensures keeps { self.new ≡ record self.old { free = self.new.free } }
-        ensures room { OnOk result (ROOM ≤ self.new.free) }
+        ensures room { OnOk result (read_room ≤ self.new.free) }
     {
         self.held.reserve(ROOM)
     }

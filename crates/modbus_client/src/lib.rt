@@ -7,11 +7,11 @@
 #![tactic(auto)]
 
 mod call;
-mod caller;
 mod client;
 mod context;
 mod drive;
 pub mod laws;
+mod link_client;
 mod local;
 mod matching;
 mod polled;
@@ -24,9 +24,9 @@ mod typed;
 mod writer;
 
 pub use crate::call::{Call, ROOM};
-pub use crate::caller::TURNS;
 pub use crate::client::Client;
 pub use crate::context::Context;
+pub use crate::link_client::{LinkClient, TURNS};
 pub use crate::local::exchange;
 pub use crate::polled::PolledCall;
 pub use crate::protocol::{LookError, Protocol, Reply};

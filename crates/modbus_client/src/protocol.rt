@@ -5,12 +5,12 @@ ghost use Rattle.std.specs.Prelude.{◌≡◌, ℕ, ◌<◌, ◌++◌, ◌∷◌
 ghost use Rattle.modbus_frame.specs.Meaning.{meaning};
 ghost use Rattle.modbus_pdu.specs.Coding.{Encodes};
 ghost use Rattle.modbus_pdu.specs.RequestPdu.{request_pdu};
-ghost use Rattle.modbus_client.specs.Protocol.{Protocol as Finding, Found, waiting, IsOfMessage};
+ghost use Rattle.modbus_client.specs.Protocol.{Protocol as Finding, Heading, Found, waiting, IsOfMessage};
 ghost use Rattle.modbus_client.specs.Call.{LooksAs, IsOwn};
 
 use bytes::BytesMut;
 use modbus_frame::{
-    EncodeError, ExceptionResponse, HeaderSeen, Reason, Request, Response, TransportError,
+    EncodeError, ExceptionResponse, HeaderSeen, Reason, Request, Response, Slave, TransportError,
 };
 use std::alloc::Global;
 
@@ -39,10 +39,25 @@ pub trait Protocol: Drop {
     /// What stands beside the PDU of a request, as the slave address of an RTU frame.
     type Header: Copy;
 
+    /// What a client keeps between its calls for the headers of its requests, as the transaction identifier that comes next; `()`
+    /// where it keeps nothing.
+    type Ids: Drop;
+
     ghost protocol: { Finding Self.Header };
+
+    ghost heading: { Heading Self.Header Self.Ids };
 
     /// One that was given no byte.
     fn new() -> Self;
+
+    /// The identifiers of a client that asked nothing yet.
+    fn first_ids() -> Self::Ids
+        ensures { result ≡ heading.first };
+
+    /// The header of a client's next request to this slave, whose identifiers count on.
+    fn draw(ids: &mut Self::Ids, slave: Slave) -> Self::Header
+        ensures header { result ≡ heading.header ids.old slave.0 }
+        ensures next { ids.new ≡ heading.next ids.old };
 
     /// What is compared of a header.
     fn seen(header: Self::Header) -> HeaderSeen

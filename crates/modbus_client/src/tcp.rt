@@ -1,25 +1,21 @@
 //! Clients of TCP devices (MODBUS Messaging on TCP/IP V1.0b, section 3.1).
-ghost use Rattle.std.specs.Prelude.{◌≡◌, ◌↔◌, ℕ, ◌<◌, ◌++◌, ◌∷◌, List, [], false, length, IsNone, IfSome};
+ghost use Rattle.std.specs.Prelude.{◌≡◌, ℕ, ◌<◌, ◌++◌, ◌∷◌, List, [], length};
 ghost use Rattle.modbus_frame.specs.Meaning.{meaning};
-ghost use Rattle.modbus_client.specs.Tcp.{tcp_protocol};
+ghost use Rattle.modbus_client.specs.Tcp.{tcp_protocol, tcp_heading};
 ghost use Rattle.modbus_client.specs.State.{attached};
-ghost use Rattle.modbus_client.specs.Calling.{IsComplete};
 ghost use Rattle.modbus_client.specs.Polled.{OpensPolled};
-ghost use Rattle.modbus_client.specs.TcpClient.{TcpCalled, TcpDisconnected, TcpLimited, next_header};
 ghost use Rattle.modbus_client.specs.Connecting.{Connects};
 
-use crate::caller::Caller;
+use crate::link_client::LinkClient;
 use crate::protocol::{LookError, Protocol, Reply};
 use bytes::BytesMut;
 use modbus_frame::tcp::Header;
 use modbus_frame::{
-    ConnectFault, EncodeError, Error, HeaderSeen, Request, Response, Result, ShutdownFault, Slave,
-    SlaveContext, TransportError,
+    ConnectFault, EncodeError, Error, HeaderSeen, Request, Slave, TransportError,
 };
 use modbus_link::{Connector, Failed, Link};
 use modbus_tcp::{ClientCodec, TcpError, TransactionIds, encode_request_adu};
 use std::alloc::Global;
-use std::marker::Model;
 use std::net::SocketAddr;
 use std::time::Duration;
 
@@ -31,12 +27,26 @@ pub struct Adus {
 
 impl Protocol for Adus {
     type Header = Header;
+    type Ids = TransactionIds;
 
     ghost protocol = { tcp_protocol };
+
+    ghost heading = { tcp_heading };
 
     fn new() -> Adus {
         Adus {
             codec: ClientCodec::new(),
+        }
+    }
+
+    fn first_ids() -> TransactionIds {
+        TransactionIds::new()
+    }
+
+    fn draw(ids: &mut TransactionIds, slave: Slave) -> Header {
+        Header {
+            transaction_id: ids.next(),
+            unit_id: slave.0,
         }
     }
 
@@ -105,36 +115,20 @@ impl PolledCall {
 }
 
 /// A client of the devices behind one TCP link.
-#[derive(Drop)]
-pub struct Client<L> {
-    caller: Caller<Adus, L>,
-    ids: TransactionIds,
-}
-
-/// A contract sees what a client of a serial line keeps, and the transaction that comes next.
-impl<L> Model for Client<L> {
-    ghost use Rattle.modbus_client.specs.State.{TcpClientState};
-
-    ghost Value = { TcpClientState L };
-
-    ghost view = { λ client. record { client = client.caller; next = client.ids } };
-}
+pub type Client<L> = LinkClient<Adus, L>;
 
 /// A client of unit identifier 255 over a link. It keeps the allocator, and takes no memory yet.
 pub fn attach<L: Link>(alloc: Global, link: L) -> Client<L>
-    ensures { result ≡ record { client = attached link 255; next = 0 } }
+    ensures { result ≡ attached tcp_heading link 255 }
 {
     attach_slave(alloc, link, Slave::tcp_device())
 }
 
 /// A client of a unit identifier over a link. It keeps the allocator, and takes no memory yet.
 pub fn attach_slave<L: Link>(alloc: Global, link: L, slave: Slave) -> Client<L>
-    ensures { result ≡ record { client = attached link slave.0; next = 0 } }
+    ensures { result ≡ attached tcp_heading link slave.0 }
 {
-    Client {
-        caller: Caller::attach(alloc, link, slave),
-        ids: TransactionIds::new(),
-    }
+    Client::attach_slave(alloc, link, slave)
 }
 
 /// A client of unit 255 of the device at an address. It keeps the allocator, and takes no memory yet.
@@ -207,76 +201,9 @@ where
     match connector.connect(socket_addr, timeout) {
         Ok(link) => {
             let mut client = attach_slave(alloc, link, slave);
-            client.caller.set_timeout(timeout);
+            client.limit(timeout);
             Ok(client)
         }
         Err(Failed) => Err(ConnectFault),
-    }
-}
-
-impl<L> Client<L> {
-    /// How many reads of a call may give bytes from then on; `TURNS` at first.
-    pub fn set_turns(&mut self, turns: u64)
-        ensures { self.new ≡ record self.old { client = record self.old.client { turns = turns } } }
-    {
-        self.caller.set_turns(turns);
-    }
-
-    /// How many bytes are held that were read and not used.
-    pub fn held(&self) -> usize
-        ensures { result ≡ length self.now.client.held }
-    {
-        self.caller.held()
-    }
-
-    /// The link; `None` exactly where the client is disconnected.
-    pub fn link(&self) -> Option<&L>
-        ensures none { IsNone result ↔ (self.now.client.is_connected ≡ false) }
-        ensures some { IfSome result (λ link. link.now ≡ self.now.client.link) }
-    {
-        self.caller.link()
-    }
-}
-
-impl<L> SlaveContext for Client<L> {
-    ghost selected = { λ client. client.client.slave };
-
-    ghost set_slave_gives = { λ old slave new. new ≡ record old { client = record old.client { slave = slave } } };
-
-    fn set_slave(&mut self, slave: Slave) {
-        self.caller.set_slave(slave);
-    }
-}
-
-impl<L: Link + Send + Drop> crate::Client for Client<L> {
-    ghost answers = { λ old asked answer new. TcpCalled L.input L.output old asked answer new };
-
-    ghost disconnects = { λ old result new. TcpDisconnected L.line L.input L.output old result new };
-
-    ghost time_limit = { λ client. client.client.timeout };
-
-    ghost limits = { λ old duration new. TcpLimited L.line L.input L.output old duration new };
-
-    fn call(&mut self, request: Request<'_>) -> Result<Response>
-        ensures called { TcpCalled L.input L.output self.old (meaning request.entry) result self.new }
-        ensures complete { IsComplete tcp_protocol L.input L.output (next_header self.old) self.old.client (meaning request.entry) result self.new.client }
-    {
-        let header = Header {
-            transaction_id: self.ids.next(),
-            unit_id: self.caller.slave().0,
-        };
-        self.caller.call(header, &request)
-    }
-
-    fn disconnect(&mut self) -> std::result::Result<(), ShutdownFault> {
-        self.caller.disconnect()
-    }
-
-    fn timeout(&self) -> Option<Duration> {
-        self.caller.timeout()
-    }
-
-    fn set_timeout(&mut self, duration: Option<Duration>) {
-        self.caller.set_timeout(duration);
     }
 }

@@ -1,6 +1,6 @@
 use Rattle.std.proofs.Common.{rules, ◌≡◌, ◌<◌, ◌-◌, ◌^◌, length, take, drop, sym, ap, ◌∙◌, subst, arith}
 use Rattle.std.proofs.lemmas.List.{take_min, drop_min}
-use Rattle.modbus_client.specs.declared.call.TheConstants.{ROOM}
+use Rattle.modbus_client.specs.Limits.{read_room}
 use Rattle.modbus_client.proofs.Exchanging.{Going, going, goes_on, received, may_read}
 use Rattle.modbus_client.proofs.local.receive_all.Goals as goal
 
@@ -18,12 +18,12 @@ feed-requires-clause-may_read g c =
 
 pub returns-in-Some : goal.returns-in-Some
 returns-in-Some g c =
-    let is : c.split_at.result.0.now ≡ take ROOM c.pieces.left.now = c.split_at.ensures.front ∙ ap (λ n. take n c.pieces.left.now) c.min.ensures ∙ take_min ROOM c.pieces.left.now in
+    let is : c.split_at.result.0.now ≡ take read_room c.pieces.left.now = c.split_at.ensures.front ∙ ap (λ n. take n c.pieces.left.now) c.min.ensures ∙ take_min read_room c.pieces.left.now in
     received g.P.Protocol.protocol c.args.replies.now c.args.call.now c.pieces.call c.pieces.left.now c.pieces.invariant _ c.make_room.new.self c.feed.new.self c.make_room.ensures.keeps _ is c.in-Some.answer c.in-Some.ensures
 
 pub pieces-preserved : goal.pieces-preserved
 pieces-preserved g c =
-    let is : c.split_at.result.0.now ≡ take ROOM c.pieces.left.now = c.split_at.ensures.front ∙ ap (λ n. take n c.pieces.left.now) c.min.ensures ∙ take_min ROOM c.pieces.left.now in
-    let back : c.split_at.result.1.now ≡ drop ROOM c.pieces.left.now = c.split_at.ensures.back ∙ ap (λ n. drop n c.pieces.left.now) c.min.ensures ∙ drop_min ROOM c.pieces.left.now in
+    let is : c.split_at.result.0.now ≡ take read_room c.pieces.left.now = c.split_at.ensures.front ∙ ap (λ n. take n c.pieces.left.now) c.min.ensures ∙ take_min read_room c.pieces.left.now in
+    let back : c.split_at.result.1.now ≡ drop read_room c.pieces.left.now = c.split_at.ensures.back ∙ ap (λ n. drop n c.pieces.left.now) c.min.ensures ∙ drop_min read_room c.pieces.left.now in
     subst (λ l. Going g.P.Protocol.protocol c.args.replies.now c.args.call.now c.feed.new.self l) (sym back)
     (goes_on g.P.Protocol.protocol c.args.replies.now c.args.call.now c.pieces.call c.pieces.left.now c.pieces.invariant _ c.make_room.new.self c.feed.new.self c.make_room.ensures.keeps _ is (rw c.in_default.is at c.feed.ensures))

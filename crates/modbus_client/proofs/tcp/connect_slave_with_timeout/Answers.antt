@@ -1,4 +1,4 @@
-use Rattle.std.proofs.Common.{rules, Ok, ◌∙◌}
+use Rattle.std.proofs.Common.{rules, Ok}
 use Rattle.modbus_client.proofs.Connecting.{connected}
 use Rattle.modbus_client.proofs.tcp.connect_slave_with_timeout.Goals as goal
 
@@ -6,7 +6,6 @@ pub returns-in-Ok : goal.returns-in-Ok
 returns-in-Ok g c = record {
   given = Ok c.in-Ok.link;
   made = c.in-Ok.ensures.connects;
-  client = connected g.C.Link.Link.line g.C.Link.Ends.input g.C.Link.Ends.output c.args.slave.0 c.args.timeout c.in-Ok.link c.client.inside.caller c.set_timeout.new.self c.client.inside.ids
-      (c.client.view_is ∙ c.attach_slave-client.ensures) c.set_timeout.ensures;
+  client = connected g.C.Link.Link.line g.C.Link.Ends.input g.C.Link.Ends.output c.args.slave.0 c.args.timeout c.in-Ok.link _ _ c.attach_slave-client.ensures c.limit.ensures;
   fault = search rules;
 }

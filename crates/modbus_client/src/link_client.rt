@@ -1,0 +1,203 @@
+//! A client over a link, whatever its protocol.
+ghost use Rattle.std.specs.Prelude.{◌≡◌, ◌↔◌, IsNone, IfSome, false, length, not};
+ghost use Rattle.modbus_frame.specs.Meaning.{meaning};
+ghost use Rattle.modbus_client.specs.State.{attached};
+ghost use Rattle.modbus_client.specs.Sending.{stays_connected};
+ghost use Rattle.modbus_client.specs.Calling.{Called, SentAlone, IsComplete};
+ghost use Rattle.modbus_client.specs.Ending.{Disconnected, Limited};
+
+use crate::client::Client;
+use crate::drive::{exchange, send};
+use crate::protocol::Protocol;
+use bytes::BytesMut;
+use modbus_frame::{
+    Error, Request, Response, Result, ShutdownFault, Slave, SlaveContext, TransportError,
+};
+use modbus_link::{Failed, Link};
+use std::alloc::Global;
+use std::marker::Model;
+use std::time::Duration;
+
+/// How many reads of a call may give bytes, until a client is told otherwise.
+pub const TURNS: u64 = 1_048_576;
+
+/// A client of the devices behind one link, which speaks one protocol.
+#[derive(Drop)]
+pub struct LinkClient<P: Protocol, L> {
+    link: L,
+    is_connected: bool,
+    slave: Slave,
+    turns: u64,
+    timeout: Option<Duration>,
+    held: BytesMut,
+    ids: P::Ids,
+    alloc: Global,
+}
+
+/// A contract sees the link, whether it is connected, the slave, the turns, the timeout, the bytes that are held, and what the protocol
+/// keeps between calls.
+impl<P: Protocol, L> Model for LinkClient<P, L> {
+    ghost use Rattle.modbus_client.specs.State.{ClientState};
+
+    ghost Value = { ClientState P.Ids L };
+
+    ghost view = { λ client. record {
+      link = client.link;
+      is_connected = client.is_connected;
+      slave = client.slave.0;
+      turns = client.turns;
+      timeout = client.timeout;
+      held = client.held.items;
+      ids = client.ids;
+    } };
+}
+
+impl<P: Protocol, L> LinkClient<P, L> {
+    /// A client of a slave over a link. It keeps the allocator, and takes no memory yet.
+    pub fn attach_slave(alloc: Global, link: L, slave: Slave) -> LinkClient<P, L>
+        ensures { result ≡ attached P.heading link slave.0 }
+    {
+        LinkClient {
+            link,
+            is_connected: true,
+            slave,
+            turns: TURNS,
+            timeout: None,
+            held: BytesMut::new(alloc),
+            ids: P::first_ids(),
+            alloc,
+        }
+    }
+
+    /// How many reads of a call may give bytes from then on; `TURNS` at first.
+    pub fn set_turns(&mut self, turns: u64)
+        ensures { self.new ≡ record self.old { turns = turns } }
+    {
+        self.turns = turns;
+    }
+
+    /// How many bytes are held that were read and not used.
+    pub fn held(&self) -> usize
+        ensures { result ≡ length self.now.held }
+    {
+        self.held.len()
+    }
+
+    /// The link; `None` exactly where the client is disconnected.
+    pub fn link(&self) -> Option<&L>
+        ensures none { IsNone result ↔ (self.now.is_connected ≡ false) }
+        ensures some { IfSome result (λ link. link.now ≡ self.now.link) }
+    {
+        if self.is_connected {
+            Some(&self.link)
+        } else {
+            None
+        }
+    }
+}
+
+/// Whether the answer is that a write failed.
+fn is_write_fault<X>(answer: &std::result::Result<X, Error>) -> bool
+    ensures { result ≡ not (stays_connected answer.now) }
+{
+    matches!(answer, Err(Error::Transport(TransportError::WriteFault)))
+}
+
+impl<P: Protocol, L: Link> LinkClient<P, L> {
+    /// Writes a request under the header that comes next, and reads nothing: for a broadcast, to which no slave replies.
+    ///
+    /// # Errors
+    /// `NotConnected` exactly where the client is disconnected. `RequestTooLong` with the size of the PDU in bytes, exactly where
+    /// that is above 253. `WriteFault` only where the link's count of write faults rose; the client is then disconnected.
+    /// `NoMemory` where memory is refused.
+    pub fn send(&mut self, request: Request<'_>) -> std::result::Result<(), Error>
+        ensures { SentAlone P.protocol P.heading L.input L.output self.old (meaning request.entry) result self.new }
+    {
+        let header = P::draw(&mut self.ids, self.slave);
+        if !self.is_connected {
+            return Err(Error::Transport(TransportError::NotConnected));
+        }
+        let answer = send::<P, L>(
+            self.alloc,
+            &mut self.link,
+            header,
+            &request,
+            &mut self.held,
+        );
+        self.is_connected = !is_write_fault(&answer);
+        answer
+    }
+
+    /// Keeps how long a read or a write may take, and sets it on the link of a client that is connected.
+    pub(crate) fn limit(&mut self, duration: Option<Duration>)
+        ensures { Limited L.line L.input L.output self.old duration self.new }
+    {
+        self.timeout = duration;
+        if self.is_connected {
+            self.link.set_timeout(duration);
+        }
+    }
+}
+
+impl<P: Protocol, L> SlaveContext for LinkClient<P, L> {
+    ghost selected = { λ client. client.slave };
+
+    ghost set_slave_gives = { λ old slave new. new ≡ record old { slave = slave } };
+
+    fn set_slave(&mut self, slave: Slave) {
+        self.slave = slave;
+    }
+}
+
+impl<P: Protocol, L: Link + Send + Drop> Client for LinkClient<P, L>
+where
+    P::Ids: Send,
+{
+    ghost answers = { λ old asked answer new. Called P.protocol P.heading L.input L.output old asked answer new };
+
+    ghost disconnects = { λ old result new. Disconnected L.line L.input L.output old result new };
+
+    ghost time_limit = { λ client. client.timeout };
+
+    ghost limits = { λ old duration new. Limited L.line L.input L.output old duration new };
+
+    fn call(&mut self, request: Request<'_>) -> Result<Response>
+        ensures called { Called P.protocol P.heading L.input L.output self.old (meaning request.entry) result self.new }
+        ensures complete { IsComplete P.protocol P.heading L.input L.output self.old (meaning request.entry) result self.new }
+    {
+        P::laws();
+        let header = P::draw(&mut self.ids, self.slave);
+        if !self.is_connected {
+            return Err(Error::Transport(TransportError::NotConnected));
+        }
+        let answer = exchange::<P, L>(
+            self.alloc,
+            &mut self.link,
+            header,
+            &request,
+            self.turns,
+            &mut self.held,
+        );
+        self.is_connected = !is_write_fault(&answer);
+        answer
+    }
+
+    fn disconnect(&mut self) -> std::result::Result<(), ShutdownFault> {
+        if !self.is_connected {
+            return Ok(());
+        }
+        self.is_connected = false;
+        match self.link.shutdown() {
+            Ok(()) => Ok(()),
+            Err(Failed) => Err(ShutdownFault),
+        }
+    }
+
+    fn timeout(&self) -> Option<Duration> {
+        self.timeout
+    }
+
+    fn set_timeout(&mut self, duration: Option<Duration>) {
+        self.limit(duration);
+    }
+}
