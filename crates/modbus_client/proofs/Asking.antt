@@ -62,22 +62,6 @@ module _ (X : Type 0) {H : Type 0} (P : Protocol H) (header : H) (asked : Asked)
   sent_refused a k (Transport _) refused = absurd refused
   sent_refused a k NoMemory refused = sent_wanting a k refused
 
-  module _ (a b : Input) (k m : Output) (turns : ℕ) (old new : CallState) (same : b ≡ a) (stands : CallStands P [] [] [] old) (asks : IsCallFor P header asked turns old)
-      (fits : Fits (request_pdu asked)) (s : Sends k m old.unwritten new.unwritten) where
-    parts : P.adu header (request_pdu asked) ≡ s.sent ++ new.unwritten
-    parts = sym asks.request ∙ stands.wrote ∙ s.splits
-
-    passes : Passes a b k m [] [] s.sent
-    passes = passes_out a b k m s.sent same s.sink s.wrote
-
-    -- all was written
-    pub sent_all : (x : X) → new.unwritten ≡ [] → Sent P a b k m header asked held (Ok x)
-    sent_all x none = sent_fit a b k m (Ok x) s.sent fits same passes tt (λ size e. cc) (sym (parts ∙ ap (λ w. s.sent ++ w) none ∙ append-nil s.sent)) (λ e. cc)
-
-    -- a write failed
-    pub sent_part : Rose k.faults m.faults → Sent {X = X} P a b k m header asked held (Err (Transport transport.WriteFault))
-    sent_part rose = sent_fit a b k m (Err (Transport transport.WriteFault)) s.sent fits same passes tt (λ size e. cc) (new.unwritten, parts) (λ e. rose)
-
 -- a request that was not sent is the whole call
 module _ (X : Type 0) {H : Type 0} (P : Protocol H) (a b : Input) (k m : Output) (header : H) (asked : Asked) (turns : ℕ) (held : List ℕ) where
   abbrev pub SentAs : Error → Type 0

@@ -4,6 +4,7 @@ use Rattle.std.proofs.lemmas.List.{length-take-le}
 use Rattle.modbus_link.specs.Outside.{Input, Output, Rose, Advances, ReadIsTold, bytes_read, cuts_made}
 use Rattle.modbus_link.specs.Runs.{one_cut-one, one_cut-none}
 use Rattle.modbus_link.specs.Passing.{Passes, passes_in, passes_none, rises_one}
+use Rattle.bytes.specs.Filled.{Filled}
 use Rattle.modbus_frame.specs.declared.code.FunctionCode.{FunctionCode}
 use Rattle.modbus_frame.specs.declared.fault.Error.TheVariants.{Protocol as protocol, Transport, NoMemory}
 use Rattle.modbus_frame.specs.declared.fault.HeaderSeen.{HeaderSeen}
@@ -12,12 +13,20 @@ use Rattle.modbus_frame.specs.declared.fault.TransportError.TheVariants as trans
 use Rattle.modbus_client.specs.Limits.{read_room}
 use Rattle.modbus_client.specs.Protocol.{Protocol, waiting}
 use Rattle.modbus_client.specs.Matching.{Answer}
-use Rattle.modbus_client.specs.Call.{CallState, CallStands, IsSameCall, IsAnswered, IsOfBytesIfSome, FeedsAs, CallFed, TellsEnd}
+use Rattle.modbus_client.specs.Call.{CallAlone, CallState, holding, CallStands, IsSameCall, IsAnswered, IsOfBytesIfSome, FeedsAs, CallFed, TellsEnd}
 use Rattle.modbus_client.specs.Calling.{CallEndsAs, TurnsAs, TurnSpends, TurnEnds, Turned}
 
-pub keeps_more : (old now new : CallState) (w : List ℕ) → now ≡ record old { unwritten = now.unwritten } → new ≡ record now { unwritten = w } → new ≡ record old { unwritten = new.unwritten }
+pub keeps_more : (old now new : CallAlone) (w : List ℕ) → now ≡ record old { unwritten = now.unwritten } → new ≡ record now { unwritten = w } → new ≡ record old { unwritten = new.unwritten }
 keeps_more old now new w e f =
-    f ∙ ap (λ (s : CallState). record s { unwritten = w }) e ∙ ap (λ v. record old { unwritten = v }) (sym (ap (λ (s : CallState). s.unwritten) f))
+    f ∙ ap (λ (s : CallAlone). record s { unwritten = w }) e ∙ ap (λ v. record old { unwritten = v }) (sym (ap (λ (s : CallAlone). s.unwritten) f))
+
+-- a call whose buffer got more room
+pub roomier : (call : CallAlone) (old new : Filled) → new.items ≡ old.items → holding call new ≡ record (holding call old) { free = new.spare }
+roomier call old new e = ap (λ (bytes : List ℕ). record (holding call old) { held = bytes; free = new.spare }) e
+
+-- a call of whose request more was written
+pub still_holding : (old new : CallAlone) (buffer : Filled) → new ≡ record old { unwritten = new.unwritten } → holding new buffer ≡ record (holding old buffer) { unwritten = new.unwritten }
+still_holding old new buffer e = ap (λ (call : CallAlone). holding call buffer) e
 
 pub same_call : (old new : CallState) (n : ℕ) → new ≡ record old { free = n } → IsSameCall old new
 same_call old new n e = record {

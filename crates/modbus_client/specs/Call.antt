@@ -1,5 +1,6 @@
 -- What a call keeps, and what it does with the bytes that it is fed. There is no IO in it.
 use Rattle.std.specs.Prelude.{◌≡◌, ◌≢◌, ℕ, ◌+◌, ◌<◌, List, [], ◌∷◌, ◌++◌, length, Option, Some, None, Result, Ok, Err, OnOk, IfOk, IfErr}
+use Rattle.bytes.specs.Filled.{Filled}
 use Rattle.modbus_frame.specs.Meaning.{Asked, function_asked}
 use Rattle.modbus_frame.specs.declared.code.FunctionCode.{FunctionCode}
 use Rattle.modbus_frame.specs.declared.response.Response.{Response}
@@ -20,6 +21,16 @@ use Rattle.modbus_client.specs.declared.protocol.LookError.TheVariants as look
 use Rattle.modbus_client.specs.Protocol.{Protocol, waiting, reply, broken, IsOfProtocol}
 use Rattle.modbus_client.specs.Matching.{Answer, Judges}
 
+-- what a call keeps itself: the bytes that were fed and not used stand in a buffer beside it
+pub record CallAlone : Type 0 where
+  pub asked : HeaderSeen
+  pub function : FunctionCode
+  pub request : List ℕ
+  pub unwritten : List ℕ
+  pub reads : ℕ
+  pub turns : ℕ
+
+-- a call with the bytes that it holds
 pub record CallState : Type 0 where
   -- what is compared of the request's header, and its function
   pub asked : HeaderSeen
@@ -34,6 +45,24 @@ pub record CallState : Type 0 where
   -- how many reads gave bytes, and how many may
   pub reads : ℕ
   pub turns : ℕ
+
+-- a call beside this buffer
+abbrev pub holding : CallAlone → Filled → CallState
+holding call buffer = record {
+  asked = call.asked;
+  function = call.function;
+  request = call.request;
+  unwritten = call.unwritten;
+  held = buffer.items;
+  free = buffer.spare;
+  reads = call.reads;
+  turns = call.turns;
+}
+
+-- one that was opened beside it
+abbrev pub opened_with : {E : Type 0} → Filled → Result CallAlone E → Result CallState E
+opened_with buffer (Ok call) = Ok (holding call buffer)
+opened_with buffer (Err error) = Err error
 
 -- What a call that waits stands for: these bytes were written, which are a front of the request, and then those were fed with these
 -- cuts. It reads only once the whole request is written.

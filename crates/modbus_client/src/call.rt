@@ -3,7 +3,7 @@
 ghost use Rattle.std.specs.Prelude.{◌≡◌, ◌↔◌, ℕ, ◌<◌, ◌≤◌, [], length, drop, IsTrue, OnOk};
 ghost use Rattle.modbus_frame.specs.Meaning.{meaning};
 ghost use Rattle.modbus_client.specs.Limits.{read_room};
-ghost use Rattle.modbus_client.specs.Call.{OpensCall, CallFed, TellsEnd};
+ghost use Rattle.modbus_client.specs.Call.{holding, opened_with, OpensCall, CallFed, TellsEnd};
 
 use crate::matching::judge;
 use crate::protocol::{LookError, Protocol};
@@ -17,9 +17,10 @@ use std::marker::Model;
 /// The length in bytes of the room of each read.
 pub const ROOM: usize = 268;
 
-/// A request that was asked, the bytes of it that were not written yet, and the bytes that were fed and not used.
+/// A request that was asked, and the bytes of it that were not written yet.
 ///
-/// It reads once its request is written, and counts the reads that gave bytes.
+/// It reads once its request is written, and counts the reads that gave bytes. The bytes that were fed and not used stand in a buffer of
+/// the caller's, which keeps its memory from call to call: the same one from `open` on, changed by these methods alone.
 #[derive(Drop)]
 pub struct Call<P: Protocol> {
     protocol: P,
@@ -27,24 +28,21 @@ pub struct Call<P: Protocol> {
     function: FunctionCode,
     request: BytesMut,
     written: usize,
-    held: BytesMut,
     reads: u64,
     turns: u64,
 }
 
 impl<P: Protocol> Model for Call<P> {
     ghost use Rattle.std.specs.Prelude.{◌≤◌, length, drop};
-    ghost use Rattle.modbus_client.specs.Call.{CallState};
+    ghost use Rattle.modbus_client.specs.Call.{CallAlone};
 
-    ghost Value = { CallState };
+    ghost Value = { CallAlone };
 
     ghost view = { λ c. record {
       asked = c.asked;
       function = c.function;
       request = c.request.items;
       unwritten = drop c.written c.request.items;
-      held = c.held.items;
-      free = c.held.spare;
       reads = c.reads;
       turns = c.turns;
     } };
@@ -53,8 +51,8 @@ impl<P: Protocol> Model for Call<P> {
 }
 
 impl<P: Protocol> Call<P> {
-    /// A call of this request under this header, which may make `turns` reads that give bytes. It holds its bytes in `space`, whose
-    /// own bytes are dropped.
+    /// A call of this request under this header, which may make `turns` reads that give bytes. The bytes of `held` are dropped, whatever
+    /// it answers.
     ///
     /// # Errors
     /// `TooLong` with the size of the PDU in bytes, exactly where that is above 253. `NoMemory` where memory is refused.
@@ -63,12 +61,12 @@ impl<P: Protocol> Call<P> {
         header: P::Header,
         request: &Request<'_>,
         turns: u64,
-        space: BytesMut,
+        held: &mut BytesMut,
     ) -> std::result::Result<Call<P>, EncodeError>
-        ensures { OpensCall P.protocol header (meaning request.now) turns result }
+        ensures opens { OpensCall P.protocol header (meaning request.now) turns (opened_with held.new result) }
+        ensures empty { held.new.items ≡ [] }
     {
         P::laws();
-        let mut held = space;
         held.clear();
         let mut bytes = BytesMut::new(alloc);
         P::encode(alloc, header, request, &mut bytes)?;
@@ -78,7 +76,6 @@ impl<P: Protocol> Call<P> {
             function: request.function_code(),
             request: bytes,
             written: 0,
-            held,
             reads: 0,
             turns,
         })
@@ -111,25 +108,30 @@ impl<P: Protocol> Call<P> {
     ///
     /// # Errors
     /// `AllocError` where memory is refused.
-    pub fn make_room(&mut self) -> std::result::Result<(), AllocError>
-        ensures keeps { self.new ≡ record self.old { free = self.new.free } }
-        ensures room { OnOk result (read_room ≤ self.new.free) }
+    pub fn make_room(held: &mut BytesMut) -> std::result::Result<(), AllocError>
+        ensures keeps { held.new.items ≡ held.old.items }
+        ensures room { OnOk result (read_room ≤ held.new.spare) }
     {
-        self.held.reserve(ROOM)
+        held.reserve(ROOM)
     }
 
     /// Takes the bytes that a read gave, for which there is room, and looks for the reply. `None` where it waits for more.
-    pub fn feed(&mut self, alloc: Global, piece: &[u8]) -> Option<Result<Response>>
+    pub fn feed(
+        &mut self,
+        alloc: Global,
+        held: &mut BytesMut,
+        piece: &[u8],
+    ) -> Option<Result<Response>>
         requires written { self.old.unwritten ≡ [] }
         requires may_read { self.old.reads < self.old.turns }
         requires some { 0 < length piece.now }
-        requires free { length piece.now ≤ self.old.free }
-        ensures { CallFed P.protocol self.old self.new piece.now result }
+        requires free { length piece.now ≤ held.old.spare }
+        ensures { CallFed P.protocol (holding self.old held.old) (holding self.new held.new) piece.now result }
     {
         P::laws();
-        self.held.extend_reserved(piece);
+        held.extend_reserved(piece);
         self.reads += 1;
-        match self.protocol.look(alloc, &mut self.held) {
+        match self.protocol.look(alloc, held) {
             Ok(None) => None,
             Ok(Some(reply)) => Some(judge(self.asked, self.function, reply)),
             Err(LookError::Broken(fault)) => Some(Err(Error::Transport(fault))),
@@ -141,20 +143,13 @@ impl<P: Protocol> Call<P> {
     }
 
     /// How the end of the input is told: `BrokenPipe` where nothing is held, else `BytesRemaining`.
-    pub fn end(&self) -> TransportError
-        ensures { TellsEnd self.now.held result }
+    pub fn end(held: &BytesMut) -> TransportError
+        ensures { TellsEnd held.now.items result }
     {
-        if self.held.is_empty() {
+        if held.is_empty() {
             TransportError::BrokenPipe
         } else {
             TransportError::BytesRemaining
         }
-    }
-
-    /// The bytes that are held.
-    pub fn into_held(self) -> BytesMut
-        ensures { result.items ≡ self.held }
-    {
-        self.held
     }
 }

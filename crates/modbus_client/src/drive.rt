@@ -5,6 +5,7 @@ ghost use Rattle.modbus_link.specs.Outside.{Rose};
 ghost use Rattle.modbus_link.specs.Passing.{Sends};
 ghost use Rattle.modbus_link.specs.Polled.{Waited};
 ghost use Rattle.modbus_frame.specs.Meaning.{meaning};
+ghost use Rattle.modbus_client.specs.Call.{holding, opened_with};
 ghost use Rattle.modbus_client.specs.Calling.{Sent, Exchanged};
 ghost use Rattle.modbus_client.specs.Polled.{IsFlushed, TurnsTo, CallPolled, Opens};
 
@@ -14,7 +15,6 @@ use bytes::BytesMut;
 use modbus_frame::{EncodeError, Error, Request, Response, Result, TransportError};
 use modbus_link::{Failed, Polled, PolledLink, Sink, Source};
 use std::alloc::Global;
-use std::mem::replace;
 
 /// Writes what was not written yet of the request, as far as the link is ready.
 fn flush<P: Protocol, L: PolledLink>(
@@ -41,17 +41,18 @@ fn flush<P: Protocol, L: PolledLink>(
 /// Reads once, where the link is ready, and feeds what the read gave; `None` where the call waits for more.
 fn turn<P: Protocol, L: PolledLink>(
     call: &mut Call<P>,
+    held: &mut BytesMut,
     alloc: Global,
     link: &mut L,
 ) -> Polled<Option<Result<Response>>>
     requires written { call.old.unwritten ≡ [] }
     requires may_read { call.old.reads < call.old.turns }
-    ensures turned { TurnsTo P.protocol (L.input link.old) (L.input link.new) (L.output link.old) (L.output link.new) call.old call.new result }
+    ensures turned { TurnsTo P.protocol (L.input link.old) (L.input link.new) (L.output link.old) (L.output link.new) (holding call.old held.old) (holding call.new held.new) result }
     ensures waited { result ≡ Pending → Rose (L.not_ready link.old) (L.not_ready link.new) }
     ensures later { L.not_ready link.old ≤ L.not_ready link.new }
 {
     // Memory comes first, so that no byte is read that can't be kept.
-    if call.make_room().is_err() {
+    if Call::<P>::make_room(held).is_err() {
         return Polled::Ready(Some(Err(Error::NoMemory)));
     }
     let mut room = [0; ROOM];
@@ -60,9 +61,9 @@ fn turn<P: Protocol, L: PolledLink>(
         Ok(Polled::Pending) => Polled::Pending,
         Ok(Polled::Ready(count)) => {
             if count == 0 {
-                Polled::Ready(Some(Err(Error::Transport(call.end()))))
+                Polled::Ready(Some(Err(Error::Transport(Call::<P>::end(held)))))
             } else {
-                Polled::Ready(call.feed(alloc, &room[..count]))
+                Polled::Ready(call.feed(alloc, held, &room[..count]))
             }
         }
     }
@@ -71,10 +72,11 @@ fn turn<P: Protocol, L: PolledLink>(
 /// Writes what was not written yet of the request, and then waits for the reply, as far as the link is ready.
 pub(crate) fn poll<P: Protocol, L: PolledLink>(
     call: &mut Call<P>,
+    held: &mut BytesMut,
     alloc: Global,
     link: &mut L,
 ) -> Polled<Result<Response>>
-    ensures { CallPolled P.protocol (L.input link.old) (L.input link.new) (L.output link.old) (L.output link.new) (L.not_ready link.old) (L.not_ready link.new) call.old call.new result }
+    ensures { CallPolled P.protocol (L.input link.old) (L.input link.new) (L.output link.old) (L.output link.new) (L.not_ready link.old) (L.not_ready link.new) (holding call.old held.old) (holding call.new held.new) result }
 {
     match flush(call, link) {
         Err(Failed) => {
@@ -84,7 +86,7 @@ pub(crate) fn poll<P: Protocol, L: PolledLink>(
         Ok(Polled::Ready(())) => {}
     }
     'turns: while call.may_read() {
-        match turn(call, alloc, link) {
+        match turn(call, held, alloc, link) {
             Polled::Pending => return Polled::Pending,
             Polled::Ready(Some(answer)) => return Polled::Ready(answer),
             Polled::Ready(None) => {}
@@ -93,7 +95,7 @@ pub(crate) fn poll<P: Protocol, L: PolledLink>(
     Polled::Ready(Err(Error::Transport(TransportError::TurnLimit)))
 }
 
-/// Opens a call, which holds its bytes in `space`.
+/// Opens a call, which holds its bytes in `held`. Those that stood there are dropped.
 ///
 /// # Errors
 /// `RequestTooLong` with the size of the PDU in bytes, exactly where that is above 253. `NoMemory` where memory is refused.
@@ -102,11 +104,12 @@ pub(crate) fn open<P: Protocol>(
     header: P::Header,
     request: &Request<'_>,
     turns: u64,
-    space: BytesMut,
+    held: &mut BytesMut,
 ) -> std::result::Result<Call<P>, Error>
-    ensures { Opens P.protocol header (meaning request.now) turns result }
+    ensures opens { Opens P.protocol header (meaning request.now) turns (opened_with held.new result) }
+    ensures empty { held.new.items ≡ [] }
 {
-    match Call::<P>::open(alloc, header, request, turns, space) {
+    match Call::<P>::open(alloc, header, request, turns, held) {
         Ok(call) => Ok(call),
         Err(EncodeError::TooLong(size)) => {
             Err(Error::Transport(TransportError::RequestTooLong(size)))
@@ -125,20 +128,11 @@ pub(crate) fn send<P: Protocol, L: Source + Sink>(
 ) -> std::result::Result<(), Error>
     ensures { Sent P.protocol (L.input link.old) (L.input link.new) (L.output link.old) (L.output link.new) header (meaning request.now) held.new.items result }
 {
-    let space = replace(held, BytesMut::new(alloc));
-    match open::<P>(alloc, header, request, 0, space) {
-        Err(error) => Err(error),
-        Ok(call) => {
-            let mut call = call;
-            match flush(&mut call, link) {
-                Ok(Polled::Ready(())) => {
-                    *held = call.into_held();
-                    Ok(())
-                }
-                Ok(Polled::Pending) => unreachable!(),
-                Err(Failed) => Err(Error::Transport(TransportError::WriteFault)),
-            }
-        }
+    let mut call = open::<P>(alloc, header, request, 0, held)?;
+    match flush(&mut call, link) {
+        Ok(Polled::Ready(())) => Ok(()),
+        Ok(Polled::Pending) => unreachable!(),
+        Err(Failed) => Err(Error::Transport(TransportError::WriteFault)),
     }
 }
 
@@ -153,17 +147,9 @@ pub(crate) fn exchange<P: Protocol, L: Source + Sink>(
 ) -> Result<Response>
     ensures { Exchanged P.protocol (L.input link.old) (L.input link.new) (L.output link.old) (L.output link.new) header (meaning request.now) turns held.new.items result }
 {
-    let space = replace(held, BytesMut::new(alloc));
-    match open::<P>(alloc, header, request, turns, space) {
-        Err(error) => Err(error),
-        Ok(call) => {
-            let mut call = call;
-            let answer = poll(&mut call, alloc, link);
-            *held = call.into_held();
-            match answer {
-                Polled::Ready(answer) => answer,
-                Polled::Pending => unreachable!(),
-            }
-        }
+    let mut call = open::<P>(alloc, header, request, turns, held)?;
+    match poll(&mut call, held, alloc, link) {
+        Polled::Ready(answer) => answer,
+        Polled::Pending => unreachable!(),
     }
 }

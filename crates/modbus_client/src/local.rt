@@ -1,7 +1,7 @@
 //! A request to a service without a transport: a call and a connection take turns over memory.
 ghost use Rattle.std.specs.Prelude.{◌≡◌, ◌↔◌, ◌^◌, ◌-◌, [], IsTrue};
 ghost use Rattle.modbus_frame.specs.Meaning.{meaning};
-ghost use Rattle.modbus_client.specs.Call.{CallStands};
+ghost use Rattle.modbus_client.specs.Call.{CallStands, holding};
 ghost use Rattle.modbus_client.specs.Exchange.{IsWanting, ReadsAll, ExchangesLocally};
 ghost use Rattle.modbus_client.specs.Back.{ComesBack};
 
@@ -17,24 +17,29 @@ use modbus_server::{Answerer, ProcessError, serve_piece};
 use std::alloc::Global;
 
 /// Feeds a call whose request was written, in pieces of `ROOM` bytes, until it has an answer or the bytes end.
-fn receive_all<P: Protocol>(call: &mut Call<P>, alloc: Global, replies: &[u8]) -> Result<Response>
+fn receive_all<P: Protocol>(
+    call: &mut Call<P>,
+    held: &mut BytesMut,
+    alloc: Global,
+    replies: &[u8],
+) -> Result<Response>
     requires written { call.old.unwritten ≡ [] }
     requires turns { call.old.turns ≡ 2 ^ 64 - 1 }
-    requires stands { CallStands P.protocol call.old.request [] [] call.old }
-    ensures { ReadsAll P.protocol call.old.asked call.old.function replies.now call.new.held result }
+    requires stands { CallStands P.protocol call.old.request [] [] (holding call.old held.old) }
+    ensures { ReadsAll P.protocol call.old.asked call.old.function replies.now held.new.items result }
 {
     let mut left = replies;
     'pieces: while !left.is_empty() {
-        if call.make_room().is_err() {
+        if Call::<P>::make_room(held).is_err() {
             return Err(Error::NoMemory);
         }
         let (piece, rest) = left.split_at(ROOM.min(left.len()));
-        if let Some(answer) = call.feed(alloc, piece) {
+        if let Some(answer) = call.feed(alloc, held, piece) {
             return answer;
         }
         left = rest;
     }
-    Err(Error::Transport(call.end()))
+    Err(Error::Transport(Call::<P>::end(held)))
 }
 
 /// Whether memory was refused to the server.
@@ -74,8 +79,8 @@ pub fn exchange<V: Answerer>(
     modbus_pdu::request_reads_back(&request);
     outcomes_come_back::<V>();
     let header = Header { slave_id: slave.0 };
-    let space = BytesMut::new(alloc);
-    let mut call = match Call::<Frames>::open(alloc, header, &request, u64::MAX, space) {
+    let mut held = BytesMut::new(alloc);
+    let mut call = match Call::<Frames>::open(alloc, header, &request, u64::MAX, &mut held) {
         Ok(call) => call,
         Err(EncodeError::TooLong(size)) => {
             return Err(Error::Transport(TransportError::RequestTooLong(size)));
@@ -90,5 +95,5 @@ pub fn exchange<V: Answerer>(
     }
     let count = call.to_write().len();
     call.wrote(count);
-    receive_all(&mut call, alloc, replies.as_slice())
+    receive_all(&mut call, &mut held, alloc, replies.as_slice())
 }

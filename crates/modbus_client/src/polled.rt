@@ -18,16 +18,18 @@ use std::marker::Model;
 #[derive(Drop)]
 pub struct PolledCall<P: Protocol> {
     call: Call<P>,
+    held: BytesMut,
     is_open: bool,
     alloc: Global,
 }
 
 impl<P: Protocol> Model for PolledCall<P> {
+    ghost use Rattle.modbus_client.specs.Call.{holding};
     ghost use Rattle.modbus_client.specs.Polled.{PolledState};
 
     ghost Value = { PolledState };
 
-    ghost view = { λ polled. record { call = polled.call; is_open = polled.is_open } };
+    ghost view = { λ polled. record { call = holding polled.call polled.held; is_open = polled.is_open } };
 }
 
 impl<P: Protocol> PolledCall<P> {
@@ -43,10 +45,12 @@ impl<P: Protocol> PolledCall<P> {
     ) -> std::result::Result<PolledCall<P>, Error>
         ensures { OpensPolled P.protocol header (meaning request.now) turns result }
     {
-        match open::<P>(alloc, header, request, turns, BytesMut::new(alloc)) {
+        let mut held = BytesMut::new(alloc);
+        match open::<P>(alloc, header, request, turns, &mut held) {
             Err(error) => Err(error),
             Ok(call) => Ok(PolledCall {
                 call,
+                held,
                 is_open: true,
                 alloc,
             }),
@@ -74,7 +78,7 @@ impl<P: Protocol> PolledCall<P> {
         ensures asked { AsksWhole P.protocol (L.input link.old) (L.input link.new) (L.output link.old) (L.output link.new) self.old.call self.new.call result }
         ensures open { self.new.is_open ≡ is_pending result }
     {
-        let answer = poll(&mut self.call, self.alloc, link);
+        let answer = poll(&mut self.call, &mut self.held, self.alloc, link);
         self.is_open = answer.is_pending();
         answer
     }

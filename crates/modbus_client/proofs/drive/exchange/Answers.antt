@@ -1,16 +1,18 @@
-use Rattle.std.proofs.Common.{rules, ◌≡◌, []}
+use Rattle.std.proofs.Common.{[]}
+use Rattle.std.proofs.lemmas.Result.{err_from_is_err_and}
 use Rattle.modbus_link.specs.Passing.{passes_none}
 use Rattle.modbus_client.proofs.Asking.{sent_refused, exchanged_unsent}
 use Rattle.modbus_client.proofs.Polling.{exchanged_polled}
 use Rattle.modbus_client.proofs.drive.exchange.Goals as goal
 
-pub returns-in-Err : goal.returns-in-Err
-returns-in-Err g c =
-    let empty : c.replace-space.new.dest.items ≡ [] = search rules in
-    exchanged_unsent (Unit {0}) g.P.Protocol.protocol _ _ _ _ _ _ _ _ c.in-Err.error (sent_refused (Unit {0}) g.P.Protocol.protocol _ _ _ empty _ _ c.in-Err.error c.in-Err.ensures.cause)
+pub returns-in_err-call : goal.returns-in_err-call
+returns-in_err-call g c =
+    let told = err_from_is_err_and c.from_residual.result c.from_residual.ensures.1 in
+    rw (told.1, told.2)
+    (exchanged_unsent (Unit {0}) g.P.Protocol.protocol _ _ _ _ _ _ _ _ c.in_err-call.field-0.0
+    (sent_refused (Unit {0}) g.P.Protocol.protocol _ _ _ c.open.ensures.empty _ _ c.in_err-call.field-0.0 c.in_err-call.ensures.opens.cause))
 
-pub returns-in-Ready : goal.returns-in-Ready
-returns-in-Ready g c =
-    rw c.into_held.ensures
-    (exchanged_polled g.P.Protocol.protocol _ _ _ _ _ _ c.in-Ok.call c.poll-answer.new.call c.in-Ready.answer (rw c.in-Ready.is at c.poll-answer.ensures) _ _ c.args.turns [] [] [] _ _
-    c.in-Ok.ensures.asks c.in-Ok.ensures.fits c.in-Ok.ensures.goes (passes_none _ _))
+pub returns : goal.returns
+returns g c =
+    exchanged_polled g.P.Protocol.protocol _ _ _ _ _ _ _ _ c.in-Ready.answer (rw c.in-Ready.is at c.poll.ensures) _ _ c.args.turns [] [] [] _ _
+    c.in_ok-call.ensures.opens.asks c.in_ok-call.ensures.opens.fits c.in_ok-call.ensures.opens.goes (passes_none _ _)

@@ -1,37 +1,39 @@
 use Rattle.std.proofs.Common.{arith, refl}
 use Rattle.modbus_client.proofs.Polling.{flushed_all, flushed_some, flush_failed, polled_idle, polled_answer, goes_on, out_of_turns}
+use Rattle.modbus_client.specs.Call.{holding}
+use Rattle.modbus_client.proofs.Turning.{still_holding}
 use Rattle.modbus_client.proofs.drive.poll.Goals as goal
 
 pub returns-in-Err : goal.returns-in-Err
 returns-in-Err g c =
-    flush_failed g.P.Protocol.protocol _ _ _ _ _ _ c.args.call.now c.flush.new.call c.flush.ensures.source c.flush.ensures.sends c.flush.ensures.keeps c.flush.ensures.later c.in-Err.ensures.all c.in-Err.ensures.cause
+    flush_failed g.P.Protocol.protocol _ _ _ _ _ _ (holding c.args.call.now c.args.held.now) (holding c.flush.new.call c.args.held.now) c.flush.ensures.source c.flush.ensures.sends (still_holding c.args.call.now c.flush.new.call c.args.held.now c.flush.ensures.keeps) c.flush.ensures.later c.in-Err.ensures.all c.in-Err.ensures.cause
 
 pub returns-in-Ok-Pending : goal.returns-in-Ok-Pending
 returns-in-Ok-Pending g c =
     let found = rw c.in-Ok-Pending.field-0-is at c.in-Ok-Pending.ensures in
-    flushed_some g.P.Protocol.protocol _ _ _ _ _ _ c.args.call.now c.flush.new.call c.flush.ensures.source c.flush.ensures.sends c.flush.ensures.keeps c.flush.ensures.later found.waited
+    flushed_some g.P.Protocol.protocol _ _ _ _ _ _ (holding c.args.call.now c.args.held.now) (holding c.flush.new.call c.args.held.now) c.flush.ensures.source c.flush.ensures.sends (still_holding c.args.call.now c.flush.new.call c.args.held.now c.flush.ensures.keeps) c.flush.ensures.later found.waited
 
 pub turns-init : goal.turns-init
 turns-init g c =
     let found = rw c.in-Ok-Ready.field-0-is at c.in-Ok-Ready.ensures in
-    flushed_all g.P.Protocol.protocol _ _ _ _ _ _ c.args.call.now c.flush.new.call c.flush.ensures.source c.flush.ensures.sends c.flush.ensures.keeps c.flush.ensures.later found.all
+    flushed_all g.P.Protocol.protocol _ _ _ _ _ _ (holding c.args.call.now c.args.held.now) (holding c.flush.new.call c.args.held.now) c.flush.ensures.source c.flush.ensures.sends (still_holding c.args.call.now c.flush.new.call c.args.held.now c.flush.ensures.keeps) c.flush.ensures.later found.all
 
 pub returns-in-Pending : goal.returns-in-Pending
 returns-in-Pending g c =
-    polled_idle g.P.Protocol.protocol _ _ _ _ _ _ _ _ _ c.args.call.now c.turns.call c.turn.new.call c.turns.invariant c.turn.ensures.later c.in-Pending.ensures.turned (c.in-Pending.ensures.waited refl)
+    polled_idle g.P.Protocol.protocol _ _ _ _ _ _ _ _ _ (holding c.args.call.now c.args.held.now) (holding c.turns.call c.turns.held) (holding c.turn.new.call c.turn.new.held) c.turns.invariant c.turn.ensures.later c.in-Pending.ensures.turned (c.in-Pending.ensures.waited refl)
 
 pub returns-in-Ready-Some : goal.returns-in-Ready-Some
 returns-in-Ready-Some g c =
-    polled_answer g.P.Protocol.protocol _ _ _ _ _ _ _ _ _ c.args.call.now c.turns.call c.turn.new.call c.turns.invariant c.turn.ensures.later (c.may_read.ensures.0 c.turns-test.true) c.in-Ready-Some.answer
+    polled_answer g.P.Protocol.protocol _ _ _ _ _ _ _ _ _ (holding c.args.call.now c.args.held.now) (holding c.turns.call c.turns.held) (holding c.turn.new.call c.turn.new.held) c.turns.invariant c.turn.ensures.later (c.may_read.ensures.0 c.turns-test.true) c.in-Ready-Some.answer
     (rw c.in-Ready-Some.field-0-is at c.in-Ready-Some.ensures.turned)
 
 pub turns-preserved : goal.turns-preserved
 turns-preserved g c =
-    goes_on g.P.Protocol.protocol _ _ _ _ _ _ _ _ _ c.args.call.now c.turns.call c.turn.new.call c.turns.invariant c.turn.ensures.later (c.may_read.ensures.0 c.turns-test.true)
+    goes_on g.P.Protocol.protocol _ _ _ _ _ _ _ _ _ (holding c.args.call.now c.args.held.now) (holding c.turns.call c.turns.held) (holding c.turn.new.call c.turn.new.held) c.turns.invariant c.turn.ensures.later (c.may_read.ensures.0 c.turns-test.true)
     (rw c.in-Ready-None.field-0-is at c.in-Ready-None.ensures.turned)
 
 pub returns : goal.returns
-returns g c = out_of_turns g.P.Protocol.protocol _ _ _ _ _ _ c.args.call.now c.turns.call c.turns.invariant (λ less. absurd (cc (c.turns-test.false, c.may_read.ensures.1 less)))
+returns g c = out_of_turns g.P.Protocol.protocol _ _ _ _ _ _ (holding c.args.call.now c.args.held.now) (holding c.turns.call c.turns.held) c.turns.invariant (λ less. absurd (cc (c.turns-test.false, c.may_read.ensures.1 less)))
 
 pub turns-smaller : goal.turns-smaller
 turns-smaller g c =

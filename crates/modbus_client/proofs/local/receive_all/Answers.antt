@@ -1,29 +1,30 @@
 use Rattle.std.proofs.Common.{rules, ◌≡◌, ◌<◌, ◌-◌, ◌^◌, length, take, drop, sym, ap, ◌∙◌, subst, arith}
 use Rattle.std.proofs.lemmas.List.{take_min, drop_min}
 use Rattle.modbus_client.specs.Limits.{read_room}
+use Rattle.modbus_client.specs.Call.{holding}
+use Rattle.modbus_client.proofs.Turning.{roomier}
 use Rattle.modbus_client.proofs.Exchanging.{Going, going, goes_on, received, may_read}
 use Rattle.modbus_client.proofs.local.receive_all.Goals as goal
 
 pub pieces-init : goal.pieces-init
-pieces-init g c = going g.P.Protocol.protocol c.args.replies.now c.args.call.now c.requires.written c.requires.stands
+pieces-init g c = going g.P.Protocol.protocol c.args.replies.now (holding c.args.call.now c.args.held.now) c.requires.written c.requires.stands
 
 pub feed-requires-clause-may_read : goal.feed-requires-clause-may_read
 feed-requires-clause-may_read g c =
     let some : 0 < length c.pieces.left.now = search rules in
-    let less = may_read g.P.Protocol.protocol c.args.replies.now c.args.call.now c.pieces.call c.pieces.left.now c.pieces.invariant some in
-    let same : c.make_room.new.self.reads ≡ c.pieces.call.reads = search rules in
-    let limit : c.make_room.new.self.turns ≡ 2 ^ 64 - 1 = search rules in
+    let less = may_read g.P.Protocol.protocol c.args.replies.now (holding c.args.call.now c.args.held.now) (holding c.pieces.call c.pieces.held) c.pieces.left.now c.pieces.invariant some in
+    let limit : c.pieces.call.turns ≡ 2 ^ 64 - 1 = search rules in
     let within : length c.args.replies.now < 2 ^ 64 - 1 = search rules in
-    omega (arith, less, same, limit, within)
+    omega (arith, less, limit, within)
 
 pub returns-in-Some : goal.returns-in-Some
 returns-in-Some g c =
     let is : c.split_at.result.0.now ≡ take read_room c.pieces.left.now = c.split_at.ensures.front ∙ ap (λ n. take n c.pieces.left.now) c.min.ensures ∙ take_min read_room c.pieces.left.now in
-    received g.P.Protocol.protocol c.args.replies.now c.args.call.now c.pieces.call c.pieces.left.now c.pieces.invariant _ c.make_room.new.self c.feed.new.self c.make_room.ensures.keeps _ is c.in-Some.answer c.in-Some.ensures
+    received g.P.Protocol.protocol c.args.replies.now (holding c.args.call.now c.args.held.now) (holding c.pieces.call c.pieces.held) c.pieces.left.now c.pieces.invariant _ (holding c.pieces.call c.make_room.new.held) (holding c.feed.new.self c.feed.new.held) (roomier c.pieces.call c.pieces.held c.make_room.new.held c.make_room.ensures.keeps) _ is c.in-Some.answer c.in-Some.ensures
 
 pub pieces-preserved : goal.pieces-preserved
 pieces-preserved g c =
     let is : c.split_at.result.0.now ≡ take read_room c.pieces.left.now = c.split_at.ensures.front ∙ ap (λ n. take n c.pieces.left.now) c.min.ensures ∙ take_min read_room c.pieces.left.now in
     let back : c.split_at.result.1.now ≡ drop read_room c.pieces.left.now = c.split_at.ensures.back ∙ ap (λ n. drop n c.pieces.left.now) c.min.ensures ∙ drop_min read_room c.pieces.left.now in
-    subst (λ l. Going g.P.Protocol.protocol c.args.replies.now c.args.call.now c.feed.new.self l) (sym back)
-    (goes_on g.P.Protocol.protocol c.args.replies.now c.args.call.now c.pieces.call c.pieces.left.now c.pieces.invariant _ c.make_room.new.self c.feed.new.self c.make_room.ensures.keeps _ is (rw c.in_default.is at c.feed.ensures))
+    subst (λ l. Going g.P.Protocol.protocol c.args.replies.now (holding c.args.call.now c.args.held.now) (holding c.feed.new.self c.feed.new.held) l) (sym back)
+    (goes_on g.P.Protocol.protocol c.args.replies.now (holding c.args.call.now c.args.held.now) (holding c.pieces.call c.pieces.held) c.pieces.left.now c.pieces.invariant _ (holding c.pieces.call c.make_room.new.held) (holding c.feed.new.self c.feed.new.held) (roomier c.pieces.call c.pieces.held c.make_room.new.held c.make_room.ensures.keeps) _ is (rw c.in_default.is at c.feed.ensures))
