@@ -78,9 +78,9 @@ module _ {H : Type 0} (P : Protocol H) (alone : IsFoundAlone P) (from to : Input
       let facts = alone header pdu r.fed to.left (totals r.made) (reply held seen found) whole (joined (Err (Transport (transport.InvalidResponse reason))) r) finds in
       ok_err result reason (response_result_of pdu) means (ap response_result_of (sym facts.3) ∙ meant)
   completes (Err (Transport transport.TooManyRetries)) r =
-      absurd (alone header pdu r.fed to.left (totals r.made) (broken held transport.TooManyRetries) whole (joined (Err (Transport transport.TooManyRetries)) r) r.ends)
+      absurd (alone header pdu r.fed to.left (totals r.made) (broken held transport.TooManyRetries) whole (joined (Err (Transport transport.TooManyRetries)) r) r.ends.1)
   completes (Err (Transport transport.InvalidLength)) r =
-      absurd (alone header pdu r.fed to.left (totals r.made) (broken held transport.InvalidLength) whole (joined (Err (Transport transport.InvalidLength)) r) r.ends)
+      absurd (alone header pdu r.fed to.left (totals r.made) (broken held transport.InvalidLength) whole (joined (Err (Transport transport.InvalidLength)) r) r.ends.1)
   completes (Err (Transport (transport.InvalidProtocol number))) r =
-      absurd (alone header pdu r.fed to.left (totals r.made) (broken held (transport.InvalidProtocol number)) whole (joined (Err (Transport (transport.InvalidProtocol number))) r) r.ends)
+      absurd (alone header pdu r.fed to.left (totals r.made) (broken held (transport.InvalidProtocol number)) whole (joined (Err (Transport (transport.InvalidProtocol number))) r) r.ends.1)
   completes (Err NoMemory) r = inr refl

@@ -76,9 +76,9 @@ module _ {H : Type 0} (P : Protocol H) (opening : P.Finds [] [] (waiting [])) (o
       let is : response_result_of pdu ≡ Err reason = ap response_result_of second ∙ meant in
       let answer : Answer = Err (Transport (transport.InvalidResponse reason)) in
       inl (subst (λ m. IsAnswerTo (P.seen header) (function_asked asked) seen m answer) (sym is) refl)
-  told_reply kept seen pdu (Err (Transport transport.TooManyRetries)) r finds = no_break _ r kept held seen pdu transport.TooManyRetries finds r.ends
-  told_reply kept seen pdu (Err (Transport transport.InvalidLength)) r finds = no_break _ r kept held seen pdu transport.InvalidLength finds r.ends
-  told_reply kept seen pdu (Err (Transport (transport.InvalidProtocol number))) r finds = no_break _ r kept held seen pdu (transport.InvalidProtocol number) finds r.ends
+  told_reply kept seen pdu (Err (Transport transport.TooManyRetries)) r finds = no_break _ r kept held seen pdu transport.TooManyRetries finds r.ends.1
+  told_reply kept seen pdu (Err (Transport transport.InvalidLength)) r finds = no_break _ r kept held seen pdu transport.InvalidLength finds r.ends.1
+  told_reply kept seen pdu (Err (Transport (transport.InvalidProtocol number))) r finds = no_break _ r kept held seen pdu (transport.InvalidProtocol number) finds r.ends.1
   told_reply kept seen pdu (Err NoMemory) r finds = inr refl
 
   told_broken : (kept : List ℕ) (fault : TransportError) (answer : Answer) (r : Exchanged P from to sunk sinks header asked turns held answer) → P.Finds r.fed (totals r.made) (broken kept fault) → Tells answer (broken kept fault)
@@ -92,26 +92,26 @@ module _ {H : Type 0} (P : Protocol H) (opening : P.Finds [] [] (waiting [])) (o
   told_broken kept fault (Err (Transport transport.BrokenPipe)) r finds = breaks_not_waits _ r kept held fault finds r.ends.0
   told_broken kept fault (Err (Transport transport.BytesRemaining)) r finds = breaks_not_waits _ r kept held fault finds r.ends.0
   told_broken kept fault (Err (Transport (transport.InvalidResponse reason))) r finds = let (seen, pdu, finds', meant) = r.ends in no_break _ r held kept seen pdu fault finds' finds
-  told_broken kept fault (Err (Transport transport.TooManyRetries)) r finds = inl (ap (λ f. Err (Transport f)) (same_fault _ r kept held fault transport.TooManyRetries finds r.ends))
-  told_broken kept fault (Err (Transport transport.InvalidLength)) r finds = inl (ap (λ f. Err (Transport f)) (same_fault _ r kept held fault transport.InvalidLength finds r.ends))
-  told_broken kept fault (Err (Transport (transport.InvalidProtocol number))) r finds = inl (ap (λ f. Err (Transport f)) (same_fault _ r kept held fault (transport.InvalidProtocol number) finds r.ends))
+  told_broken kept fault (Err (Transport transport.TooManyRetries)) r finds = inl (ap (λ f. Err (Transport f)) (same_fault _ r kept held fault transport.TooManyRetries finds r.ends.1))
+  told_broken kept fault (Err (Transport transport.InvalidLength)) r finds = inl (ap (λ f. Err (Transport f)) (same_fault _ r kept held fault transport.InvalidLength finds r.ends.1))
+  told_broken kept fault (Err (Transport (transport.InvalidProtocol number))) r finds = inl (ap (λ f. Err (Transport f)) (same_fault _ r kept held fault (transport.InvalidProtocol number) finds r.ends.1))
   told_broken kept fault (Err NoMemory) r finds = inr refl
 
   told_waiting : (kept : List ℕ) (answer : Answer) (r : Exchanged P from to sunk sinks header asked turns held answer) → P.Finds r.fed (totals r.made) (waiting kept) → Tells answer (waiting kept)
   told_waiting kept (Ok x) r finds = let (seen, pdu, result, finds', meant, judges) = r.ends in no_wait _ r held kept seen pdu finds' finds
   told_waiting kept (Err (protocol fault)) r finds = let (seen, pdu, result, finds', meant, judges) = r.ends in no_wait _ r held kept seen pdu finds' finds
   told_waiting kept (Err (Transport transport.NotConnected)) r finds = absurd r.ends
-  told_waiting kept (Err (Transport (transport.RequestTooLong size))) r finds = tt
-  told_waiting kept (Err (Transport transport.WriteFault)) r finds = tt
-  told_waiting kept (Err (Transport transport.ReadFault)) r finds = tt
-  told_waiting kept (Err (Transport transport.TurnLimit)) r finds = tt
-  told_waiting kept (Err (Transport transport.BrokenPipe)) r finds = tt
-  told_waiting kept (Err (Transport transport.BytesRemaining)) r finds = tt
+  told_waiting kept (Err (Transport (transport.RequestTooLong size))) r finds = λ e. cc
+  told_waiting kept (Err (Transport transport.WriteFault)) r finds = λ e. cc
+  told_waiting kept (Err (Transport transport.ReadFault)) r finds = λ e. cc
+  told_waiting kept (Err (Transport transport.TurnLimit)) r finds = λ e. cc
+  told_waiting kept (Err (Transport transport.BrokenPipe)) r finds = λ e. cc
+  told_waiting kept (Err (Transport transport.BytesRemaining)) r finds = λ e. cc
   told_waiting kept (Err (Transport (transport.InvalidResponse reason))) r finds = let (seen, pdu, finds', meant) = r.ends in no_wait _ r held kept seen pdu finds' finds
-  told_waiting kept (Err (Transport transport.TooManyRetries)) r finds = breaks_not_waits _ r held kept transport.TooManyRetries r.ends finds
-  told_waiting kept (Err (Transport transport.InvalidLength)) r finds = breaks_not_waits _ r held kept transport.InvalidLength r.ends finds
-  told_waiting kept (Err (Transport (transport.InvalidProtocol number))) r finds = breaks_not_waits _ r held kept (transport.InvalidProtocol number) r.ends finds
-  told_waiting kept (Err NoMemory) r finds = tt
+  told_waiting kept (Err (Transport transport.TooManyRetries)) r finds = breaks_not_waits _ r held kept transport.TooManyRetries r.ends.1 finds
+  told_waiting kept (Err (Transport transport.InvalidLength)) r finds = breaks_not_waits _ r held kept transport.InvalidLength r.ends.1 finds
+  told_waiting kept (Err (Transport (transport.InvalidProtocol number))) r finds = breaks_not_waits _ r held kept (transport.InvalidProtocol number) r.ends.1 finds
+  told_waiting kept (Err NoMemory) r finds = λ e. cc
 
   pub told_of : (answer : Answer) (r : Exchanged P from to sunk sinks header asked turns held answer) (found : Found) → P.Finds r.fed (totals r.made) found → Tells answer found
   told_of answer r (waiting kept) finds = told_waiting kept answer r finds
@@ -150,4 +150,7 @@ module _ {H : Type 0} (P : Protocol H) (opening : P.Finds [] [] (waiting [])) (o
           end_told = λ none less. absurd (omega (arith, r.spends, less));
         }
         by_answer (Err NoMemory) r finds is = record { turn_limit = λ all. inr refl; end_told = λ none less. inr refl }
-        by_answer _ r finds is = absurd is
+        by_answer (Ok result) r finds is = absurd is
+        by_answer (Err (protocol fault)) r finds is = absurd (is refl)
+        by_answer (Err (Transport transport.NotConnected)) r finds is = absurd is
+        by_answer (Err (Transport _)) r finds is = absurd (is refl)

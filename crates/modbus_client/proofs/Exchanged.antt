@@ -16,14 +16,14 @@ use Rattle.modbus_client.specs.Back.{ComesBack}
 module _ {S : Type 0} (A : Answering S) (slave : ℕ) (asked : Asked) (before after : S) (fits : Fits (request_pdu asked)) where
   exchange_by : (answer : Answer) → IsOfReplies answer → LocalExchange A before after slave asked answer ⊎ ((answer ≡ Err NoMemory) × (after ≡ before)) → ExchangesLocally A before after slave asked answer
   exchange_by answer of asks = record {
-    too_long = λ size. (λ e. absurd (subst IsOfReplies e of), λ p. absurd (omega (arith, p.0, fits)));
+    too_long = λ size. (λ e. absurd ((subst IsOfReplies e of).0 refl), λ p. absurd (omega (arith, p.0, fits)));
     unasked = λ l. absurd (omega (arith, l, fits));
     asks = λ f. asks;
   }
 
   module _ (old new : List ℕ) (result : Result (Unit {0}) ProcessError) (s : ServedPiece rtu A (frame slave (request_pdu asked)) before after old new result) where
     pub exchange_unserved : IsWanting result → ExchangesLocally A before after slave asked (Err NoMemory)
-    exchange_unserved wants = exchange_by (Err NoMemory) tt (elim s.ends [
+    exchange_unserved wants = exchange_by (Err NoMemory) (λ e. cc, λ e. cc) (elim s.ends [
       | inl ends ↦ inl (record {
         sent = s.sent;
         served = result;
@@ -31,7 +31,7 @@ module _ {S : Type 0} (A : Answering S) (slave : ℕ) (asked : Asked) (before af
         server = ends;
         wanting = λ w. refl;
         held = [];
-        client = record { only = tt; reads = 0; ends = tt; ended = tt };
+        client = record { only = (λ e. cc, λ e. cc); reads = 0; ends = tt; ended = tt };
       })
       | inr none ↦ inr (refl, none.1)
     ])

@@ -21,13 +21,13 @@ count_full (suc n) bytes = length-append (full_cuts n bytes) (min (suc n * read_
 
 of_bytes : (answer : Answer) → IsOfBytesIfSome (Some answer) → IsOfReplies answer
 of_bytes (Ok result) late = tt
-of_bytes (Err (protocol fault)) late = tt
-of_bytes (Err (Transport (transport.InvalidResponse reason))) late = tt
-of_bytes (Err (Transport transport.TooManyRetries)) late = tt
-of_bytes (Err (Transport transport.InvalidLength)) late = tt
-of_bytes (Err (Transport (transport.InvalidProtocol number))) late = tt
-of_bytes (Err (Transport _)) late = absurd late
-of_bytes (Err NoMemory) late = tt
+of_bytes (Err (protocol fault)) late = (λ e. cc, λ e. cc)
+of_bytes (Err (Transport (transport.InvalidResponse reason))) late = (λ e. cc, λ e. cc)
+of_bytes (Err (Transport transport.TooManyRetries)) late = (λ e. cc, λ e. cc)
+of_bytes (Err (Transport transport.InvalidLength)) late = (λ e. cc, λ e. cc)
+of_bytes (Err (Transport (transport.InvalidProtocol number))) late = (λ e. cc, λ e. cc)
+of_bytes (Err (Transport _)) late = absurd cc
+of_bytes (Err NoMemory) late = (λ e. cc, λ e. cc)
 
 module _ {H : Type 0} (P : Protocol H) (bytes : List ℕ) where
   -- what the loop keeps, from a call whose request was written
@@ -53,11 +53,11 @@ module _ {H : Type 0} (P : Protocol H) (bytes : List ℕ) where
     may_read some = omega (arith, some, ap length g.rest, length-drop (g.reads * read_room) bytes, g.stands.counted, count_full g.reads bytes)
 
     pub no_memory : (held : List ℕ) → ReadsAll P first.asked first.function bytes held (Err NoMemory)
-    no_memory held = record { only = tt; reads = g.reads; ends = tt; ended = tt }
+    no_memory held = record { only = (λ e. cc, λ e. cc); reads = g.reads; ends = tt; ended = tt }
 
     pub over : left ≡ [] → (fault : TransportError) → TellsEnd old.held fault → ReadsAll P first.asked first.function bytes old.held (Err (Transport fault))
-    over none transport.BrokenPipe tells = record { only = tt; reads = g.reads; ends = (g.stands.finds, tells); ended = sym g.rest ∙ none }
-    over none transport.BytesRemaining tells = record { only = tt; reads = g.reads; ends = (g.stands.finds, tells); ended = sym g.rest ∙ none }
+    over none transport.BrokenPipe tells = record { only = (λ e. cc, λ e. cc); reads = g.reads; ends = (g.stands.finds, tells); ended = sym g.rest ∙ none }
+    over none transport.BytesRemaining tells = record { only = (λ e. cc, λ e. cc); reads = g.reads; ends = (g.stands.finds, tells); ended = sym g.rest ∙ none }
     over none _ tells = absurd tells
 
     module _ (free : ℕ) (mid new : CallState) (same : mid ≡ record old { free = free }) (piece : List ℕ) (is : piece ≡ take read_room left) (answer : Option Answer) (fed : CallFed P mid new piece answer) where

@@ -51,27 +51,23 @@ same_freed old new n e = record {
 -- an answer of a reply is one of a poll
 own_reply : (answer : Answer) → IsOfReply answer → IsOfPoll (Ready answer)
 own_reply (Ok result) late = tt
-own_reply (Err (protocol fault)) late = tt
-own_reply (Err (Transport transport.NotConnected)) late = late
-own_reply (Err (Transport (transport.RequestTooLong size))) late = late
-own_reply (Err (Transport _)) late = tt
-own_reply (Err NoMemory) late = tt
+own_reply (Err error) late = late.0
 
 -- where the whole request was written, that is what an answer of a reply says
 whole_written : (request written : List ℕ) (answer : Answer) → written ≡ request → IsOfReply answer → WritesRequest request written answer
 whole_written request written (Ok result) e late = e
 whole_written request written (Err (protocol fault)) e late = e
-whole_written request written (Err (Transport transport.NotConnected)) e late = absurd late
-whole_written request written (Err (Transport (transport.RequestTooLong size))) e late = absurd late
-whole_written request written (Err (Transport transport.WriteFault)) e late = absurd late
+whole_written request written (Err (Transport transport.NotConnected)) e late = absurd (late.0 refl)
+whole_written request written (Err (Transport (transport.RequestTooLong size))) e late = absurd (late.0 refl)
+whole_written request written (Err (Transport transport.WriteFault)) e late = absurd (late.1 refl)
 whole_written request written (Err (Transport _)) e late = e
 whole_written request written (Err NoMemory) e late = ([], sym e ∙ sym (append-nil written))
 
 not_write : (answer : Answer) → IsOfReply answer → answer ≡ Err (Transport transport.WriteFault) → ⊥
-not_write answer late e = subst IsOfReply e late
+not_write answer late e = (subst IsOfReply e late).1 refl
 
 not_long : (answer : Answer) → IsOfPoll (Ready answer) → (size : ℕ) → answer ≡ Err (Transport (transport.RequestTooLong size)) → ⊥
-not_long answer own size e = subst (λ a. IsOfPoll (Ready a)) e own
+not_long answer own size e = subst (λ a. IsOfPoll (Ready a)) e own refl
 
 grown : (bytes fed : List ℕ) → bytes ++ fed ≡ [] → fed ≡ []
 grown bytes fed e = none_left bytes fed e
@@ -195,7 +191,7 @@ module _ {H : Type 0} (P : Protocol H) where
                 let count = totals_count earlier in omega (arith, counted, within, count);
           };
       writes_first = λ read. absurd (read refl);
-      own = tt;
+      own = λ e. cc;
       ended = λ told. tt;
       waited = λ e. absurd cc;
       later = later;
@@ -359,7 +355,7 @@ module _ {H : Type 0} (P : Protocol H) where
           spends = omega (arith, counted, within, count, none);
         };
     writes_first = λ read. g.all;
-    own = tt;
+    own = λ e. cc;
     ended = λ told. tt;
     waited = λ e. absurd cc;
     later = g.later;

@@ -58,9 +58,12 @@ module _ (nothing_open : response_verdict [] ≡ Open) (seen_of : HeaderSeen) (f
   nothing_ends cuts held (Err (Transport transport.BrokenPipe)) only ends = inl refl
   nothing_ends cuts held (Err (Transport transport.BytesRemaining)) only ends = absurd (ends.1 (none_held cuts held ends.0))
   nothing_ends cuts held (Err (Transport (transport.InvalidResponse reason))) only (header, pdu, finds, meant) = absurd (no_frame cuts held header pdu finds)
-  nothing_ends cuts held (Err (Transport transport.TooManyRetries)) only ends = absurd (no_crowd cuts held transport.TooManyRetries ends)
-  nothing_ends cuts held (Err (Transport transport.InvalidLength)) only ends = absurd (no_crowd cuts held transport.InvalidLength ends)
-  nothing_ends cuts held (Err (Transport (transport.InvalidProtocol number))) only ends = absurd (no_crowd cuts held (transport.InvalidProtocol number) ends)
+  nothing_ends cuts held (Err (Transport transport.TooManyRetries)) only ends = absurd (no_crowd cuts held transport.TooManyRetries ends.1)
+  nothing_ends cuts held (Err (Transport transport.InvalidLength)) only ends = absurd (no_crowd cuts held transport.InvalidLength ends.1)
+  nothing_ends cuts held (Err (Transport (transport.InvalidProtocol number))) only ends = absurd (no_crowd cuts held (transport.InvalidProtocol number) ends.1)
+  nothing_ends cuts held (Err (Transport transport.NotConnected)) only ends = absurd ends
+  nothing_ends cuts held (Err (Transport (transport.RequestTooLong size))) only ends = absurd (only.0 refl)
+  nothing_ends cuts held (Err (Transport transport.WriteFault)) only ends = absurd (only.1 refl)
   nothing_ends cuts held (Err (Transport _)) only ends = absurd only
   nothing_ends cuts held (Err NoMemory) only ends = inr refl
 
@@ -94,9 +97,12 @@ module _ (good : FramesAreGood) (front : FrontsAreOpen) (slave : ℕ) (function 
   read_ends held (Err (Transport (transport.InvalidResponse reason))) only (from, other, finds, meant) ended =
       let facts = found_is (found.reply held from other) finds in
       ok_err result reason (response_result_of pdu) means (ap response_result_of (sym facts.3) ∙ meant)
-  read_ends held (Err (Transport transport.TooManyRetries)) only ends ended = absurd (found_is (found.broken held transport.TooManyRetries) ends)
-  read_ends held (Err (Transport transport.InvalidLength)) only ends ended = absurd (found_is (found.broken held transport.InvalidLength) ends)
-  read_ends held (Err (Transport (transport.InvalidProtocol number))) only ends ended = absurd (found_is (found.broken held (transport.InvalidProtocol number)) ends)
+  read_ends held (Err (Transport transport.TooManyRetries)) only ends ended = absurd (found_is (found.broken held transport.TooManyRetries) ends.1)
+  read_ends held (Err (Transport transport.InvalidLength)) only ends ended = absurd (found_is (found.broken held transport.InvalidLength) ends.1)
+  read_ends held (Err (Transport (transport.InvalidProtocol number))) only ends ended = absurd (found_is (found.broken held (transport.InvalidProtocol number)) ends.1)
+  read_ends held (Err (Transport transport.NotConnected)) only ends ended = absurd ends
+  read_ends held (Err (Transport (transport.RequestTooLong size))) only ends ended = absurd (only.0 refl)
+  read_ends held (Err (Transport transport.WriteFault)) only ends ended = absurd (only.1 refl)
   read_ends held (Err (Transport _)) only ends ended = absurd only
   read_ends held (Err NoMemory) only ends ended = inr refl
 

@@ -49,7 +49,7 @@ module _ {H : Type 0} (P : Protocol H) where
   answered_ends asked function bytes cuts held (Err (Transport transport.TooManyRetries)) is = is
   answered_ends asked function bytes cuts held (Err (Transport transport.InvalidLength)) is = is
   answered_ends asked function bytes cuts held (Err (Transport (transport.InvalidProtocol number))) is = is
-  answered_ends asked function bytes cuts held (Err (Transport _)) is = absurd is
+  answered_ends asked function bytes cuts held (Err (Transport _)) is = absurd is.0
   answered_ends asked function bytes cuts held (Err NoMemory) is = tt
 
   fed_turns : (written bytes cuts : List ℕ) (call : CallState) (answer : Option Answer) → FeedsAs P written bytes cuts call answer → TurnsAs P written bytes cuts call answer
@@ -60,11 +60,11 @@ fed_spends : (answer : Option Answer) → IsOfBytesIfSome answer → TurnSpends 
 fed_spends None late = refl
 fed_spends (Some (Ok result)) late = tt
 fed_spends (Some (Err (protocol fault))) late = tt
-fed_spends (Some (Err (Transport (transport.InvalidResponse reason)))) late = tt
-fed_spends (Some (Err (Transport transport.TooManyRetries))) late = tt
-fed_spends (Some (Err (Transport transport.InvalidLength))) late = tt
-fed_spends (Some (Err (Transport (transport.InvalidProtocol number)))) late = tt
-fed_spends (Some (Err (Transport _))) late = absurd late
+fed_spends (Some (Err (Transport (transport.InvalidResponse reason)))) late = refl
+fed_spends (Some (Err (Transport transport.TooManyRetries))) late = refl
+fed_spends (Some (Err (Transport transport.InvalidLength))) late = refl
+fed_spends (Some (Err (Transport (transport.InvalidProtocol number)))) late = refl
+fed_spends (Some (Err (Transport _))) late = absurd cc
 fed_spends (Some (Err NoMemory)) late = tt
 
 pub fed_goes : (answer : Option Answer) (left : List ℕ) → IsOfBytesIfSome answer → TurnEnds answer left
@@ -75,11 +75,11 @@ fed_goes (Some (Err (Transport (transport.InvalidResponse reason)))) left late =
 fed_goes (Some (Err (Transport transport.TooManyRetries))) left late = tt
 fed_goes (Some (Err (Transport transport.InvalidLength))) left late = tt
 fed_goes (Some (Err (Transport (transport.InvalidProtocol number)))) left late = tt
-fed_goes (Some (Err (Transport _))) left late = absurd late
+fed_goes (Some (Err (Transport _))) left late = absurd cc
 fed_goes (Some (Err NoMemory)) left late = tt
 
 fed_no_fault : (answer : Option Answer) → IsOfBytesIfSome answer → answer ≡ Some (Err (Transport transport.ReadFault)) → ⊥
-fed_no_fault answer late e = subst IsOfBytesIfSome e late
+fed_no_fault answer late e = let reading-is-bytes = subst IsOfBytesIfSome e late in cc
 
 pub none_left : (xs ys : List ℕ) → xs ++ ys ≡ [] → ys ≡ []
 none_left [] ys e = e

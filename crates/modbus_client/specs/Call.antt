@@ -2,6 +2,7 @@
 use Rattle.std.specs.Prelude.{◌≡◌, ◌≢◌, ℕ, ◌+◌, ◌<◌, List, [], ◌∷◌, ◌++◌, length, Option, Some, None, Result, Ok, Err, OnOk, IfOk, IfErr}
 use Rattle.bytes.specs.Filled.{Filled}
 use Rattle.modbus_frame.specs.Meaning.{Asked, function_asked}
+use Rattle.modbus_frame.specs.Stage.{of_bytes, transport_stage}
 use Rattle.modbus_frame.specs.declared.code.FunctionCode.{FunctionCode}
 use Rattle.modbus_frame.specs.declared.response.Response.{Response}
 use Rattle.modbus_frame.specs.declared.response.ExceptionResponse.{ExceptionResponse}
@@ -122,16 +123,12 @@ IsAnswered P asked function bytes cuts held (Ok result) = IsJudged P asked funct
 IsAnswered P asked function bytes cuts held (Err (error.Protocol fault)) = IsJudged P asked function bytes cuts held (Err (error.Protocol fault))
 IsAnswered P asked function bytes cuts held (Err (error.Transport (transport.InvalidResponse reason))) =
     (header : HeaderSeen) × (pdu : List ℕ) × P.Finds bytes cuts (reply held header pdu) × (response_result_of pdu ≡ Err reason)
-IsAnswered P asked function bytes cuts held (Err (error.Transport transport.TooManyRetries)) = P.Finds bytes cuts (broken held transport.TooManyRetries)
-IsAnswered P asked function bytes cuts held (Err (error.Transport transport.InvalidLength)) = P.Finds bytes cuts (broken held transport.InvalidLength)
-IsAnswered P asked function bytes cuts held (Err (error.Transport (transport.InvalidProtocol protocol))) = P.Finds bytes cuts (broken held (transport.InvalidProtocol protocol))
-IsAnswered P asked function bytes cuts held (Err (error.Transport fault)) = ⊥
+IsAnswered P asked function bytes cuts held (Err (error.Transport fault)) = IsOfProtocol fault × P.Finds bytes cuts (broken held fault)
 IsAnswered P asked function bytes cuts held (Err error.NoMemory) = Unit {0}
 
 -- the answers that the bytes may give, and not the link or the limits of the call
 abbrev pub IsOfBytes : Answer → Type 0
-IsOfBytes (Err (error.Transport (transport.InvalidResponse reason))) = Unit {0}
-IsOfBytes (Err (error.Transport fault)) = IsOfProtocol fault
+IsOfBytes (Err (error.Transport fault)) = transport_stage fault ≡ of_bytes
 IsOfBytes _ = Unit {0}
 
 abbrev pub IsOfBytesIfSome : Option Answer → Type 0

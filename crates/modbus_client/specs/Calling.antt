@@ -4,6 +4,7 @@ use Rattle.modbus_link.specs.Outside.{Input, Output, Rose, shifted}
 use Rattle.modbus_link.specs.Passing.{Passes}
 use Rattle.modbus_link.specs.Reads.{totals, HaveRooms, Spending, all_turns, fewer_turns, some_turns, Spends}
 use Rattle.modbus_frame.specs.Meaning.{Asked, function_asked}
+use Rattle.modbus_frame.specs.Stage.{unsent, writing, error_stage}
 use Rattle.modbus_frame.specs.declared.code.FunctionCode.{FunctionCode}
 use Rattle.modbus_frame.specs.declared.response.Response.{Response}
 use Rattle.modbus_frame.specs.declared.response.ExceptionResponse.{ExceptionResponse}
@@ -102,9 +103,7 @@ pub record Turned {H : Type 0} (P : Protocol H) (from to : Input) (sunk sinks : 
 
 -- an answer that comes only after the whole request was written
 abbrev pub IsOfReply : Answer → Type 0
-IsOfReply (Err (Transport transport.NotConnected)) = ⊥
-IsOfReply (Err (Transport (transport.RequestTooLong size))) = ⊥
-IsOfReply (Err (Transport transport.WriteFault)) = ⊥
+IsOfReply (Err error) = (error_stage error ≢ unsent) × (error_stage error ≢ writing)
 IsOfReply _ = Unit {0}
 
 -- What a connected client does with a link to ask this under this header, by its answer and by what it then holds. It holds for every

@@ -1,5 +1,6 @@
 -- What a call tells of a search, exactly.
-use Rattle.std.specs.Prelude.{◌≡◌, ◌⊎◌, ℕ, ◌<◌, List, [], ◌∷◌, Result, Ok, Err}
+use Rattle.std.specs.Prelude.{◌≡◌, ◌≢◌, ◌⊎◌, ℕ, ◌<◌, List, [], ◌∷◌, Result, Ok, Err}
+use Rattle.modbus_frame.specs.Stage.{of_bytes, error_stage}
 use Rattle.modbus_frame.specs.declared.code.FunctionCode.{FunctionCode}
 use Rattle.modbus_frame.specs.declared.fault.Reason.{Reason}
 use Rattle.modbus_frame.specs.declared.response.Response.{Response}
@@ -24,14 +25,9 @@ end_of (byte ∷ bytes) = transport.BytesRemaining
 
 -- the answers of a call whose search waits
 abbrev pub IsOfWaiting : Answer → Type 0
-IsOfWaiting (Err (Transport (transport.RequestTooLong size))) = Unit {0}
-IsOfWaiting (Err (Transport transport.WriteFault)) = Unit {0}
-IsOfWaiting (Err (Transport transport.ReadFault)) = Unit {0}
-IsOfWaiting (Err (Transport transport.BrokenPipe)) = Unit {0}
-IsOfWaiting (Err (Transport transport.BytesRemaining)) = Unit {0}
-IsOfWaiting (Err (Transport transport.TurnLimit)) = Unit {0}
-IsOfWaiting (Err NoMemory) = Unit {0}
-IsOfWaiting _ = ⊥
+IsOfWaiting (Err (Transport transport.NotConnected)) = ⊥
+IsOfWaiting (Err error) = error_stage error ≢ of_bytes
+IsOfWaiting (Ok result) = ⊥
 
 -- What a call tells of its search: a message gives its answer, and a fault of the bytes is told, unless memory is wanting; where the
 -- search waits, the answer is none of the bytes.

@@ -18,7 +18,7 @@ use Rattle.modbus_server.specs.Rtu.{rtu}
 use Rattle.modbus_client.specs.Limits.{read_room}
 use Rattle.modbus_client.specs.Protocol.{Protocol}
 use Rattle.modbus_client.specs.Matching.{Answer}
-use Rattle.modbus_client.specs.Calling.{CallEndsAs, CallEndsRead}
+use Rattle.modbus_client.specs.Calling.{CallEndsAs, CallEndsRead, IsOfReply}
 use Rattle.modbus_client.specs.Rtu.{rtu_protocol, slave_seen}
 
 -- the cuts of the first so many reads, each of which gives as many bytes as its room holds
@@ -28,12 +28,9 @@ full_cuts (suc n) bytes = full_cuts n bytes ++ min (suc n * read_room) (length b
 
 -- the answers of a call that gets bytes and then their end
 abbrev pub IsOfReplies : Answer → Type 0
-IsOfReplies (Err (Transport transport.NotConnected)) = ⊥
-IsOfReplies (Err (Transport (transport.RequestTooLong size))) = ⊥
-IsOfReplies (Err (Transport transport.WriteFault)) = ⊥
 IsOfReplies (Err (Transport transport.ReadFault)) = ⊥
 IsOfReplies (Err (Transport transport.TurnLimit)) = ⊥
-IsOfReplies _ = Unit {0}
+IsOfReplies answer = IsOfReply answer
 
 -- A call that was asked gets these bytes, as many in each read as its room holds, and then their end: so many reads were made of them,
 -- and it ended so.

@@ -6,6 +6,7 @@ use Rattle.modbus_link.specs.Outside.{Input, Output, Rose, Advances, bytes_read,
 use Rattle.modbus_link.specs.Passing.{Passes}
 use Rattle.modbus_link.specs.Reads.{totals, HaveRooms, Spends}
 use Rattle.modbus_frame.specs.Meaning.{Asked, function_asked}
+use Rattle.modbus_frame.specs.Stage.{unsent, error_stage}
 use Rattle.modbus_frame.specs.declared.response.Response.{Response}
 use Rattle.modbus_frame.specs.declared.response.ExceptionResponse.{ExceptionResponse}
 use Rattle.modbus_frame.specs.declared.fault.Error.{Error}
@@ -63,8 +64,7 @@ CallPollsAs P written bytes made call (Ready answer) = CallEnds P written bytes 
 
 -- the answers of a poll: a request that was opened is connected, and not too long
 abbrev pub IsOfPoll : Polled Answer → Type 0
-IsOfPoll (Ready (Err (Transport transport.NotConnected))) = ⊥
-IsOfPoll (Ready (Err (Transport (transport.RequestTooLong size)))) = ⊥
+IsOfPoll (Ready (Err error)) = error_stage error ≢ unsent
 IsOfPoll _ = Unit {0}
 
 -- it ends with the input
