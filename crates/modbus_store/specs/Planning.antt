@@ -37,11 +37,12 @@ Plans t slave asked (Ok planned) = store_step t slave asked ≡ (told planned.re
 Plans t slave asked (Err (Exception c)) = store_step t slave asked ≡ (exception c, t)
 Plans t slave asked (Err NoMemory) = NeedsMemory t asked
 
--- the same, whatever its slave
-abbrev pub PlansRequest : Tables → Asked → Result (Response × Change) ServiceError → Type 0
-PlansRequest t asked (Ok planned) = step_of t asked ≡ (reply planned.0, changed t planned.1)
-PlansRequest t asked (Err (Exception c)) = step_of t asked ≡ (exception c, t)
-PlansRequest t asked (Err NoMemory) = Unit {0}
+-- A step over what has tables and takes in changes, whatever the slave: the response and the change are the whole step, and the change was
+-- taken in. After an exception or want of memory all is as it was.
+abbrev pub Steps : {T : Type 0} → (T → Tables) → (T → Change → T → Type 0) → T → Asked → Result (Response × Change) ServiceError → T → Type 0
+Steps tables makes old asked (Ok done) new = (step_of (tables old) asked ≡ (reply done.0, changed (tables old) done.1)) × makes old done.1 new
+Steps tables makes old asked (Err (Exception c)) new = (step_of (tables old) asked ≡ (exception c, tables old)) × (new ≡ old)
+Steps tables makes old asked (Err NoMemory) new = NeedsMemory (tables old) asked × (new ≡ old)
 
 -- what a read of a table answers
 abbrev pub ReadsAs : {T V : Type 0} → (V → List T) → List T → ℕ → ℕ → ℕ → Result V ServiceError → Type 0

@@ -1,9 +1,8 @@
 //! A request in two parts: its plan, which takes all memory and changes nothing, and its change, which takes none.
-ghost use Rattle.std.specs.Prelude.{◌≡◌, Err};
+ghost use Rattle.std.specs.Prelude.{◌≡◌};
 ghost use Rattle.modbus_frame.specs.Meaning.{meaning};
-ghost use Rattle.modbus_service.specs.declared.service.ServiceError.TheVariants as ServiceErrors;
-ghost use Rattle.modbus_store.specs.Step.{NeedsMemory, masked};
-ghost use Rattle.modbus_store.specs.Planning.{Plans, PlansRequest, changed};
+ghost use Rattle.modbus_store.specs.Step.{masked};
+ghost use Rattle.modbus_store.specs.Planning.{Plans, Steps, changed};
 
 use crate::bounds::{check_count, check_range};
 use crate::change::{Change, write_entries};
@@ -23,6 +22,65 @@ pub struct Planned<'a> {
     pub change: Change<'a>,
 }
 
+/// What a request is asked of: a store, whose tables change at once, or one that only shows what it would answer.
+pub(crate) trait Target {
+    ghost use Rattle.modbus_store.specs.Tables.{Tables};
+    ghost use Rattle.modbus_store.specs.declared.change.Change.{Change};
+
+    ghost tables: { Self → Tables };
+
+    ghost makes: { Self → Change → Self → Type 0 };
+
+    /// The store that is asked.
+    fn store(&self) -> &RegisterStore
+        ensures { result.now ≡ tables self.now };
+
+    /// Takes in a change, once nothing can fail any more.
+    fn make(&mut self, change: Change<'_>)
+        ensures { makes self.old change.entry self.new };
+}
+
+impl Target for RegisterStore {
+    ghost use Rattle.std.specs.Prelude.{◌≡◌};
+    ghost use Rattle.modbus_store.specs.Planning.{changed};
+
+    ghost tables = { λ store. store };
+
+    ghost makes = { λ old change new. new ≡ changed old change };
+
+    #[inline(always)]
+    fn store(&self) -> &RegisterStore {
+        self
+    }
+
+    #[inline(always)]
+    fn make(&mut self, change: Change<'_>) {
+        self.commit(change);
+    }
+}
+
+/// A store that stays as it is.
+#[derive(Drop)]
+struct Untouched<'s> {
+    store: &'s RegisterStore,
+}
+
+impl<'s> Target for Untouched<'s> {
+    ghost use Rattle.std.specs.Prelude.{◌≡◌};
+
+    ghost tables = { λ target. target.store.now };
+
+    ghost makes = { λ old change new. new ≡ old };
+
+    #[inline(always)]
+    fn store(&self) -> &RegisterStore {
+        self.store
+    }
+
+    #[inline(always)]
+    fn make(&mut self, _change: Change<'_>) {}
+}
+
 impl RegisterStore {
     /// What a request of a slave comes to; nothing changes. With `commit` of its change it is a call in two parts, of which this one takes
     /// all memory.
@@ -30,7 +88,6 @@ impl RegisterStore {
     /// # Errors
     /// Those of `apply`: the exception that the request is answered, which changes nothing, or `NoMemory` where memory was refused for what
     /// is read.
-    #[inline(always)]
     #[tactic(auto, unfolding(crate::specs::Step::store_step))]
     pub fn plan<'a>(
         &self,
@@ -40,7 +97,8 @@ impl RegisterStore {
         ensures { Plans self.now request.now.slave (meaning request.now.request) result }
     {
         let is_silent = self.broadcast && request.slave == 0;
-        match self.plan_request(alloc, &request.request) {
+        let mut target = Untouched { store: self };
+        match step(&mut target, alloc, &request.request) {
             Ok((response, change)) => {
                 let response = if is_silent { None } else { Some(response) };
                 Ok(Planned { response, change })
@@ -53,7 +111,7 @@ impl RegisterStore {
         }
     }
 
-    /// Makes a change. One that reaches past the end of its table changes nothing. It takes no memory.
+    /// Makes a change, as `plan` told it. One that reaches past the end of its table changes nothing. It takes no memory.
     #[inline(always)]
     pub fn commit(&mut self, change: Change<'_>)
         ensures { self.new ≡ changed self.old change.entry }
@@ -68,92 +126,104 @@ impl RegisterStore {
             Change::Registers(first, words) => write_entries(registers, first, words),
         };
     }
+}
 
-    /// What a request comes to, whatever its slave.
-    #[inline(always)]
-    #[tactic(auto, unfolding(crate::specs::Step::step_of))]
-    fn plan_request<'a>(
-        &self,
-        alloc: Global,
-        request: &'a Request<'_>,
-    ) -> Result<(Response, Change<'a>), ServiceError>
-        ensures step { PlansRequest self.now (meaning request.now) result }
-        ensures memory { result ≡ Err ServiceErrors.NoMemory → NeedsMemory self.now (meaning request.now) }
-    {
-        match request {
-            Request::ReadCoils(address, quantity) => {
-                let table = self.coils.as_slice();
-                let found = read_entries(alloc, table, *address, *quantity, MAX_READ_COILS)?;
-                let response = Response::ReadCoils(Coils::new(found));
-                Ok((response, Change::Nothing))
-            }
-            Request::ReadDiscreteInputs(address, quantity) => {
-                let table = self.discrete_inputs.as_slice();
-                let found = read_entries(alloc, table, *address, *quantity, MAX_READ_COILS)?;
-                let response = Response::ReadDiscreteInputs(Coils::new(found));
-                Ok((response, Change::Nothing))
-            }
-            Request::ReadHoldingRegisters(address, quantity) => {
-                let table = self.holding_registers.as_slice();
-                let found = read_entries(alloc, table, *address, *quantity, MAX_READ_REGISTERS)?;
-                let response = Response::ReadHoldingRegisters(Words::new(found));
-                Ok((response, Change::Nothing))
-            }
-            Request::ReadInputRegisters(address, quantity) => {
-                let table = self.input_registers.as_slice();
-                let found = read_entries(alloc, table, *address, *quantity, MAX_READ_REGISTERS)?;
-                let response = Response::ReadInputRegisters(Words::new(found));
-                Ok((response, Change::Nothing))
-            }
-            Request::WriteSingleCoil(address, coil) => {
-                check_range(self.coils.len(), *address, 1)?;
-                let response = Response::WriteSingleCoil(*address, *coil);
-                Ok((response, Change::Coil(*address, *coil)))
-            }
-            Request::WriteSingleRegister(address, word) => {
-                check_range(self.holding_registers.len(), *address, 1)?;
-                let response = Response::WriteSingleRegister(*address, *word);
-                Ok((response, Change::Register(*address, *word)))
-            }
-            Request::WriteMultipleCoils(address, coils) => {
-                let coils = coils.as_slice();
-                check_count(coils.len(), MAX_WRITE_COILS)?;
-                check_range(self.coils.len(), *address, coils.len())?;
-                let response = Response::WriteMultipleCoils(*address, coils.len() as Quantity);
-                Ok((response, Change::Coils(*address, coils)))
-            }
-            Request::WriteMultipleRegisters(address, words) => {
-                let words = words.as_slice();
-                check_count(words.len(), MAX_WRITE_REGISTERS)?;
-                check_range(self.holding_registers.len(), *address, words.len())?;
-                let response = Response::WriteMultipleRegisters(*address, words.len() as Quantity);
-                Ok((response, Change::Registers(*address, words)))
-            }
-            Request::MaskWriteRegister(address, and_mask, or_mask) => {
-                check_range(self.holding_registers.len(), *address, 1)?;
-                let old = self.holding_registers[usize::from(*address)];
-                let new = mask_word(old, *and_mask, *or_mask);
-                let response = Response::MaskWriteRegister(*address, *and_mask, *or_mask);
-                Ok((response, Change::Register(*address, new)))
-            }
-            Request::ReadWriteMultipleRegisters(address, quantity, write_address, words) => {
-                let table = self.holding_registers.as_slice();
-                let words = words.as_slice();
-                let found = read_after_write(
-                    alloc,
-                    table,
-                    *address,
-                    *quantity,
-                    *write_address,
-                    words,
-                )?;
-                let response = Response::ReadWriteMultipleRegisters(Words::new(found));
-                Ok((response, Change::Registers(*write_address, words)))
-            }
-            Request::ReportServerId
-            | Request::ReadDeviceIdentification(_, _)
-            | Request::Custom(_, _) => Err(ServiceError::Exception(ExceptionCode::IllegalFunction)),
+/// The end of a step: its change is made, and told beside the response.
+#[inline(always)]
+fn done<'a, T: Target>(
+    target: &mut T,
+    response: Response,
+    change: Change<'a>,
+) -> (Response, Change<'a>)
+    ensures made { T.makes target.old change.entry target.new }
+    ensures told { (result.0 ≡ response) × (result.1 ≡ change.entry) }
+{
+    target.make(change);
+    (response, change)
+}
+
+/// What a request comes to, whatever its slave: the one match over its kinds.
+///
+/// Each arm makes its change itself. Where the arms had met, the kind would be told apart again by the change and by the response, which
+/// costs a single write up to 55 instructions more.
+#[inline(always)]
+#[tactic(auto, unfolding(crate::specs::Step::step_of))]
+pub(crate) fn step<'a, T: Target>(
+    target: &mut T,
+    alloc: Global,
+    request: &'a Request<'_>,
+) -> Result<(Response, Change<'a>), ServiceError>
+    ensures { Steps (λ t. T.tables t) (λ old change new. T.makes old change new) target.old (meaning request.now) result target.new }
+{
+    match request {
+        Request::ReadCoils(address, quantity) => {
+            let table = target.store().coils.as_slice();
+            let found = read_entries(alloc, table, *address, *quantity, MAX_READ_COILS)?;
+            let response = Response::ReadCoils(Coils::new(found));
+            Ok(done(target, response, Change::Nothing))
         }
+        Request::ReadDiscreteInputs(address, quantity) => {
+            let table = target.store().discrete_inputs.as_slice();
+            let found = read_entries(alloc, table, *address, *quantity, MAX_READ_COILS)?;
+            let response = Response::ReadDiscreteInputs(Coils::new(found));
+            Ok(done(target, response, Change::Nothing))
+        }
+        Request::ReadHoldingRegisters(address, quantity) => {
+            let table = target.store().holding_registers.as_slice();
+            let found = read_entries(alloc, table, *address, *quantity, MAX_READ_REGISTERS)?;
+            let response = Response::ReadHoldingRegisters(Words::new(found));
+            Ok(done(target, response, Change::Nothing))
+        }
+        Request::ReadInputRegisters(address, quantity) => {
+            let table = target.store().input_registers.as_slice();
+            let found = read_entries(alloc, table, *address, *quantity, MAX_READ_REGISTERS)?;
+            let response = Response::ReadInputRegisters(Words::new(found));
+            Ok(done(target, response, Change::Nothing))
+        }
+        Request::WriteSingleCoil(address, coil) => {
+            check_range(target.store().coils.len(), *address, 1)?;
+            let response = Response::WriteSingleCoil(*address, *coil);
+            Ok(done(target, response, Change::Coil(*address, *coil)))
+        }
+        Request::WriteSingleRegister(address, word) => {
+            check_range(target.store().holding_registers.len(), *address, 1)?;
+            let response = Response::WriteSingleRegister(*address, *word);
+            Ok(done(target, response, Change::Register(*address, *word)))
+        }
+        Request::WriteMultipleCoils(address, coils) => {
+            let coils = coils.as_slice();
+            check_count(coils.len(), MAX_WRITE_COILS)?;
+            check_range(target.store().coils.len(), *address, coils.len())?;
+            let response = Response::WriteMultipleCoils(*address, coils.len() as Quantity);
+            Ok(done(target, response, Change::Coils(*address, coils)))
+        }
+        Request::WriteMultipleRegisters(address, words) => {
+            let words = words.as_slice();
+            check_count(words.len(), MAX_WRITE_REGISTERS)?;
+            check_range(
+                target.store().holding_registers.len(),
+                *address,
+                words.len(),
+            )?;
+            let response = Response::WriteMultipleRegisters(*address, words.len() as Quantity);
+            Ok(done(target, response, Change::Registers(*address, words)))
+        }
+        Request::MaskWriteRegister(address, and_mask, or_mask) => {
+            check_range(target.store().holding_registers.len(), *address, 1)?;
+            let old = target.store().holding_registers[usize::from(*address)];
+            let new = mask_word(old, *and_mask, *or_mask);
+            let response = Response::MaskWriteRegister(*address, *and_mask, *or_mask);
+            Ok(done(target, response, Change::Register(*address, new)))
+        }
+        Request::ReadWriteMultipleRegisters(address, quantity, write_address, words) => {
+            let table = target.store().holding_registers.as_slice();
+            let words = words.as_slice();
+            let found = read_after_write(alloc, table, *address, *quantity, *write_address, words)?;
+            let response = Response::ReadWriteMultipleRegisters(Words::new(found));
+            Ok(done(target, response, Change::Registers(*write_address, words)))
+        }
+        Request::ReportServerId | Request::ReadDeviceIdentification(_, _) | Request::Custom(_, _) =>
+            Err(ServiceError::Exception(ExceptionCode::IllegalFunction)),
     }
 }
 

@@ -7,7 +7,7 @@ ghost use Rattle.modbus_service.specs.Answering.{Keeps};
 ghost use Rattle.modbus_store.specs.Step.{device, inside};
 
 use crate::change::write_entries;
-use crate::plan::Planned;
+use crate::plan::step;
 use modbus_frame::{Address, Coil, Response, SlaveRequest, Word};
 use modbus_service::{Service, ServiceError};
 use std::alloc::{AllocError, Global};
@@ -180,6 +180,7 @@ impl RegisterStore {
     /// where a count is out of its bounds, `IllegalDataAddress` where a range is not inside a table (section 7). `NoMemory` where
     /// memory was refused for what is read; the store is then as it was.
     #[inline(always)]
+    #[tactic(auto, unfolding(crate::specs::Step::store_step))]
     pub fn apply(
         &mut self,
         alloc: Global,
@@ -187,9 +188,13 @@ impl RegisterStore {
     ) -> Result<Option<Response>, ServiceError>
         ensures { Keeps device self.old request.entry.slave (meaning request.entry.request) result self.new }
     {
-        let Planned { response, change } = self.plan(alloc, &request)?;
-        self.commit(change);
-        Ok(response)
+        let is_silent = self.broadcast && request.slave == 0;
+        match step(self, alloc, &request.request) {
+            Ok(_) if is_silent => Ok(None),
+            Err(ServiceError::Exception(_)) if is_silent => Ok(None),
+            Ok((response, _)) => Ok(Some(response)),
+            Err(error) => Err(error),
+        }
     }
 }
 
