@@ -1,8 +1,8 @@
 -- What is written of a request, and what a call makes of one that was not sent.
-use Rattle.std.proofs.Common.{◌≡◌, ◌↔◌, ℕ, ◌<◌, List, [], ◌++◌, length, Result, Ok, Err, refl, sym, ap, ◌∙◌, arith, append-nil}
+use Rattle.std.proofs.Common.{◌≡◌, ◌↔◌, ℕ, ◌<◌, List, [], length, Result, Err, refl, sym, ap, ◌∙◌, arith}
 use Rattle.std.specs.Prelude.{IfErr}
 use Rattle.modbus_link.specs.Outside.{Input, Output, Rose}
-use Rattle.modbus_link.specs.Passing.{Passes, Sends, passes_none, passes_out}
+use Rattle.modbus_link.specs.Passing.{Passes, passes_none}
 use Rattle.modbus_link.specs.Reads.{Spends}
 use Rattle.modbus_frame.specs.Meaning.{Asked, function_asked}
 use Rattle.modbus_frame.specs.declared.fault.Error.{Error}
@@ -14,7 +14,6 @@ use Rattle.modbus_pdu.specs.RequestPdu.{request_pdu}
 use Rattle.modbus_client.specs.Protocol.{Protocol}
 use Rattle.modbus_client.specs.Matching.{Answer}
 use Rattle.modbus_client.specs.Sending.{WritesRequest, IsOfSending}
-use Rattle.modbus_client.specs.Call.{CallState, CallStands, IsCallFor}
 use Rattle.modbus_client.specs.Calling.{CallEndsAs, CallEndsRead, call_spending, Sent, Exchanged}
 use Rattle.modbus_client.specs.Polled.{IsRefused}
 

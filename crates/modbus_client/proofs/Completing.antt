@@ -15,10 +15,11 @@ use Rattle.modbus_frame.specs.declared.fault.TransportError.TheVariants as trans
 use Rattle.modbus_pdu.specs.Coding.{Fits}
 use Rattle.modbus_pdu.specs.RequestPdu.{request_pdu}
 use Rattle.modbus_pdu.specs.ResponseOf.{response_result_of}
-use Rattle.modbus_client.specs.Protocol.{Protocol, Found, waiting, reply, broken, IsOfMessage}
+use Rattle.modbus_client.specs.Protocol.{Protocol, Heading, Found, waiting, reply, broken, IsOfMessage}
 use Rattle.modbus_client.specs.Matching.{Answer, IsOf, Judges, answer_of}
 use Rattle.modbus_client.specs.Call.{IsJudged}
-use Rattle.modbus_client.specs.Calling.{Exchanged}
+use Rattle.modbus_client.specs.State.{ClientState, next_header}
+use Rattle.modbus_client.specs.Calling.{Exchanged, Called, IsComplete}
 
 abbrev pub IsFoundAlone : {H : Type 0} → Protocol H → Type 0
 IsFoundAlone {H} P = (header : H) (pdu bytes rest cuts : List ℕ) (found : Found) → P.IsWhole header pdu → P.adu header pdu ≡ bytes ++ rest → P.Finds bytes cuts found → IsOfMessage (P.seen header) pdu rest found
@@ -84,3 +85,10 @@ module _ {H : Type 0} (P : Protocol H) (alone : IsFoundAlone P) (from to : Input
   completes (Err (Transport (transport.InvalidProtocol number))) r =
       absurd (alone header pdu r.fed to.left (totals r.made) (broken held (transport.InvalidProtocol number)) whole (joined (Err (Transport (transport.InvalidProtocol number))) r) r.ends.1)
   completes (Err NoMemory) r = inr refl
+
+-- what a call did to a client says so of it
+pub called_completes : {L H I : Type 0} (P : Protocol H) (N : Heading H I) → IsFoundAlone P → (input : L → Input) (output : L → Output) (old : ClientState I L) (asked : Asked) (answer : Answer) (new : ClientState I L)
+    → Called P N input output old asked answer new → IsComplete P N input output old asked answer new
+called_completes P N alone input output old asked answer new called = λ on fits told no_read no_write pdu result whole means of left short.
+    completes P alone (input old.link) (input new.link) (output old.link) (output new.link) (next_header N old) asked old.turns new.held fits told no_read no_write pdu result whole means of left short
+    answer (called.ran on)

@@ -1,7 +1,7 @@
 //! A client over a link, whatever its protocol.
-ghost use Rattle.std.specs.Prelude.{◌≡◌, ◌↔◌, IsNone, IfSome, false, length, not};
+ghost use Rattle.std.specs.Prelude.{◌≡◌, ◌↔◌, IsNone, IfSome, IfOk, IfErr, IsTrue, false, length, not};
 ghost use Rattle.modbus_frame.specs.Meaning.{meaning};
-ghost use Rattle.modbus_client.specs.State.{attached};
+ghost use Rattle.modbus_client.specs.State.{attached, drawn, next_header};
 ghost use Rattle.modbus_client.specs.Sending.{stays_connected};
 ghost use Rattle.modbus_client.specs.Calling.{Called, SentAlone, IsComplete};
 ghost use Rattle.modbus_client.specs.Ending.{Disconnected, Limited};
@@ -96,6 +96,24 @@ impl<P: Protocol, L> LinkClient<P, L> {
     }
 }
 
+impl<P: Protocol, L> LinkClient<P, L> {
+    /// Draws the header of the next request, which a disconnected client does not send.
+    ///
+    /// # Errors
+    /// `NotConnected` exactly where it is disconnected.
+    fn draw(&mut self) -> std::result::Result<P::Header, Error>
+        ensures draws { self.new ≡ drawn P.heading self.old }
+        ensures connected { IfOk result (λ header. IsTrue self.old.is_connected × (header ≡ next_header P.heading self.old)) }
+        ensures disconnected { IfErr result (λ error. (self.old.is_connected ≡ false) × (error ≡ Error.Transport TransportError.NotConnected)) }
+    {
+        let header = P::draw(&mut self.ids, self.slave);
+        if !self.is_connected {
+            return Err(Error::Transport(TransportError::NotConnected));
+        }
+        Ok(header)
+    }
+}
+
 /// Whether the answer is that a write failed.
 fn is_write_fault<X>(answer: &std::result::Result<X, Error>) -> bool
     ensures { result ≡ not (stays_connected answer.now) }
@@ -113,17 +131,8 @@ impl<P: Protocol, L: Link> LinkClient<P, L> {
     pub fn send(&mut self, request: Request<'_>) -> std::result::Result<(), Error>
         ensures { SentAlone P.protocol P.heading L.input L.output self.old (meaning request.entry) result self.new }
     {
-        let header = P::draw(&mut self.ids, self.slave);
-        if !self.is_connected {
-            return Err(Error::Transport(TransportError::NotConnected));
-        }
-        let answer = send::<P, L>(
-            self.alloc,
-            &mut self.link,
-            header,
-            &request,
-            &mut self.held,
-        );
+        let header = self.draw()?;
+        let answer = send::<P, L>(self.alloc, &mut self.link, header, &request, &mut self.held);
         self.is_connected = !is_write_fault(&answer);
         answer
     }
@@ -166,10 +175,7 @@ where
         ensures complete { IsComplete P.protocol P.heading L.input L.output self.old (meaning request.entry) result self.new }
     {
         P::laws();
-        let header = P::draw(&mut self.ids, self.slave);
-        if !self.is_connected {
-            return Err(Error::Transport(TransportError::NotConnected));
-        }
+        let header = self.draw()?;
         let answer = exchange::<P, L>(
             self.alloc,
             &mut self.link,

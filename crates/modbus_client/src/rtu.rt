@@ -22,6 +22,7 @@ pub struct Frames {
 
 impl Protocol for Frames {
     type Header = Header;
+
     type Ids = ();
 
     ghost protocol = { rtu_protocol };

@@ -10,9 +10,7 @@ use crate::link_client::LinkClient;
 use crate::protocol::{LookError, Protocol, Reply};
 use bytes::BytesMut;
 use modbus_frame::tcp::Header;
-use modbus_frame::{
-    ConnectFault, EncodeError, Error, HeaderSeen, Request, Slave, TransportError,
-};
+use modbus_frame::{ConnectFault, EncodeError, Error, HeaderSeen, Request, Slave, TransportError};
 use modbus_link::{Connector, Failed, Link};
 use modbus_tcp::{ClientCodec, TcpError, TransactionIds, encode_request_adu};
 use std::alloc::Global;
@@ -27,6 +25,7 @@ pub struct Adus {
 
 impl Protocol for Adus {
     type Header = Header;
+
     type Ids = TransactionIds;
 
     ghost protocol = { tcp_protocol };
