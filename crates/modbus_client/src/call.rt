@@ -63,7 +63,8 @@ impl<P: Protocol> Call<P> {
         turns: u64,
         held: &mut BytesMut,
     ) -> std::result::Result<Call<P>, EncodeError>
-        ensures opens { OpensCall P.protocol header (meaning request.now) turns (opened_with held.new result) }
+        ensures opens { OpensCall P.protocol header (meaning request.now) turns
+            (opened_with held.new result) }
         ensures empty { held.new.items ≡ [] }
     {
         P::laws();
@@ -126,7 +127,8 @@ impl<P: Protocol> Call<P> {
         requires may_read { self.old.reads < self.old.turns }
         requires some { 0 < length piece.now }
         requires free { length piece.now ≤ held.old.spare }
-        ensures { CallFed P.protocol (holding self.old held.old) (holding self.new held.new) piece.now result }
+        ensures { CallFed P.protocol (holding self.old held.old) (holding self.new held.new)
+            piece.now result }
     {
         P::laws();
         held.extend_reserved(piece);

@@ -47,7 +47,9 @@ fn turn<P: Protocol, L: PolledLink>(
 ) -> Polled<Option<Result<Response>>>
     requires written { call.old.unwritten ≡ [] }
     requires may_read { call.old.reads < call.old.turns }
-    ensures turned { TurnsTo P.protocol (L.input link.old) (L.input link.new) (L.output link.old) (L.output link.new) (holding call.old held.old) (holding call.new held.new) result }
+    ensures turned { TurnsTo P.protocol (L.input link.old) (L.input link.new)
+        (L.output link.old) (L.output link.new)
+        (holding call.old held.old) (holding call.new held.new) result }
     ensures waited { result ≡ Pending → Rose (L.not_ready link.old) (L.not_ready link.new) }
     ensures later { L.not_ready link.old ≤ L.not_ready link.new }
 {
@@ -76,7 +78,9 @@ pub(crate) fn poll<P: Protocol, L: PolledLink>(
     alloc: Global,
     link: &mut L,
 ) -> Polled<Result<Response>>
-    ensures { CallPolled P.protocol (L.input link.old) (L.input link.new) (L.output link.old) (L.output link.new) (L.not_ready link.old) (L.not_ready link.new) (holding call.old held.old) (holding call.new held.new) result }
+    ensures { CallPolled P.protocol (L.input link.old) (L.input link.new)
+        (L.output link.old) (L.output link.new) (L.not_ready link.old) (L.not_ready link.new)
+        (holding call.old held.old) (holding call.new held.new) result }
 {
     match flush(call, link) {
         Err(Failed) => {

@@ -103,8 +103,10 @@ impl<P: Protocol, L> LinkClient<P, L> {
     /// `NotConnected` exactly where it is disconnected.
     fn draw(&mut self) -> std::result::Result<P::Header, Error>
         ensures draws { self.new ≡ drawn P.heading self.old }
-        ensures connected { IfOk result (λ header. IsTrue self.old.is_connected × (header ≡ next_header P.heading self.old)) }
-        ensures disconnected { IfErr result (λ error. (self.old.is_connected ≡ false) × (error ≡ Error.Transport TransportError.NotConnected)) }
+        ensures connected { IfOk result (λ header. IsTrue self.old.is_connected
+            × (header ≡ next_header P.heading self.old)) }
+        ensures disconnected { IfErr result (λ error. (self.old.is_connected ≡ false)
+            × (error ≡ Error.Transport TransportError.NotConnected)) }
     {
         let header = P::draw(&mut self.ids, self.slave);
         if !self.is_connected {
@@ -129,7 +131,8 @@ impl<P: Protocol, L: Link> LinkClient<P, L> {
     /// that is above 253. `WriteFault` only where the link's count of write faults rose; the client is then disconnected.
     /// `NoMemory` where memory is refused.
     pub fn send(&mut self, request: Request<'_>) -> std::result::Result<(), Error>
-        ensures { SentAlone P.protocol P.heading L.input L.output self.old (meaning request.entry) result self.new }
+        ensures { SentAlone P.protocol P.heading L.input L.output self.old (meaning request.entry)
+            result self.new }
     {
         let header = self.draw()?;
         let answer = send::<P, L>(self.alloc, &mut self.link, header, &request, &mut self.held);
@@ -162,7 +165,8 @@ impl<P: Protocol, L: Link + Send + Drop> Client for LinkClient<P, L>
 where
     P::Ids: Send,
 {
-    ghost answers = { λ old asked answer new. Called P.protocol P.heading L.input L.output old asked answer new };
+    ghost answers = { λ old asked answer new.
+        Called P.protocol P.heading L.input L.output old asked answer new };
 
     ghost disconnects = { λ old result new. Disconnected L.line L.input L.output old result new };
 
@@ -171,8 +175,10 @@ where
     ghost limits = { λ old duration new. Limited L.line L.input L.output old duration new };
 
     fn call(&mut self, request: Request<'_>) -> Result<Response>
-        ensures called { Called P.protocol P.heading L.input L.output self.old (meaning request.entry) result self.new }
-        ensures complete { IsComplete P.protocol P.heading L.input L.output self.old (meaning request.entry) result self.new }
+        ensures called { Called P.protocol P.heading L.input L.output self.old
+            (meaning request.entry) result self.new }
+        ensures complete { IsComplete P.protocol P.heading L.input L.output self.old
+            (meaning request.entry) result self.new }
     {
         P::laws();
         let header = self.draw()?;
