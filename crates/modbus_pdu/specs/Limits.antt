@@ -61,7 +61,8 @@ read_write_head = 10
 abbrev pub identification_request : ℕ
 identification_request = 4
 
--- the bytes before the coils, registers or other data of a response: the function code and the byte count (sections 6.1 to 6.4, 6.17)
+-- the bytes before the coils, registers or other data of a response: the function code and the byte count (sections 6.1 to 6.4,
+-- 6.17)
 abbrev pub read_head : ℕ
 read_head = 2
 

@@ -47,8 +47,8 @@ pub const TWO_WORDS_PDU: usize = 5;
 /// The bytes of the PDU of a function code and three words: an address and two masks (V1.1b3, section 6.16).
 pub const THREE_WORDS_PDU: usize = 7;
 
-/// The bytes before the coils or registers of a write: the function code, an address, a quantity and the byte count (V1.1b3, sections
-/// 6.11 and 6.12).
+/// The bytes before the coils or registers of a write: the function code, an address, a quantity and the byte count (V1.1b3,
+/// sections 6.11 and 6.12).
 pub const WRITE_HEAD: usize = 6;
 
 /// The bytes before the registers of a read and write: the function code, two addresses, two quantities and the byte count (V1.1b3,

@@ -44,9 +44,9 @@ DecodesFrame n old before (Err (fault.Crc mismatch)) new after =
 DecodesFrame n old before (Err fault.NoMemory) new after =
     (n + overhead ≤ length old) × (sum_made n old ≡ sum_sent n old) × (new ≡ old) × (after ≡ before)
 
--- The same of a decoder that looks for the next frame, by what judges the bytes from an offset on. The frame is given with all bytes
--- before it; where the search waits, the bad offsets before the open one are dropped; `max_retries` bad offsets are dropped too. Where
--- memory is wanting for a frame, the bad offsets before it are dropped, and it stays.
+-- The same of a decoder that looks for the next frame, by what judges the bytes from an offset on. The frame is given with all
+-- bytes before it; where the search waits, the bad offsets before the open one are dropped; `max_retries` bad offsets are dropped
+-- too. Where memory is wanting for a frame, the bad offsets before it are dropped, and it stays.
 abbrev pub DecodesBy : (List ℕ → Verdict) → List ℕ → List ℕ → Result (Option (ℕ × List ℕ)) RtuError → List ℕ → List ℕ → Type 0
 DecodesBy judge old before (Ok (Some frame)) new after =
     (start : ℕ) × (n : ℕ) × IsNextBy judge old (Frame start n) × (frame ≡ (slice_index old start, take n (drop (start + 1) old))) × (new ≡ drop (start + (n + overhead)) old) × (after ≡ [])

@@ -1,5 +1,5 @@
--- The numbers of a frame, of a search and of what a decoder records, each of which stands here alone (MODBUS over Serial Line V1.02,
--- section 2.5.1; Modbus Application Protocol V1.1b3, section 6).
+-- The numbers of a frame, of a search and of what a decoder records, each of which stands here alone (MODBUS over Serial Line
+-- V1.02, section 2.5.1; Modbus Application Protocol V1.1b3, section 6).
 use Rattle.std.specs.Prelude.{ℕ, ◌+◌, ◌*◌}
 use Rattle.modbus_pdu.specs.Limits.{max_pdu, read_write_head, identification_head}
 

@@ -11,8 +11,8 @@ use Rattle.modbus_rtu.specs.Limits.{overhead, max_retries}
 abbrev pub AreBadBy : (List ℕ → Verdict) → List ℕ → ℕ → Type 0
 AreBadBy judge held n = (i : ℕ) → i < n → judge (drop i held) ≡ Bad
 
--- The next frame stands at the first good offset after fewer than `max_retries` bad ones; or the search waits at an open offset after
--- fewer than `max_retries` bad ones; or the first `max_retries` offsets are bad.
+-- The next frame stands at the first good offset after fewer than `max_retries` bad ones; or the search waits at an open offset
+-- after fewer than `max_retries` bad ones; or the first `max_retries` offsets are bad.
 abbrev pub IsNextBy : (List ℕ → Verdict) → List ℕ → Next → Type 0
 IsNextBy judge held (Frame start pdu_len) = (start < max_retries) × AreBadBy judge held start × (judge (drop start held) ≡ Good pdu_len)
 IsNextBy judge held (Waiting dropped) = (dropped < max_retries) × AreBadBy judge held dropped × (judge (drop dropped held) ≡ Open)

@@ -9,8 +9,8 @@ use Rattle.modbus_rtu.specs.Limits.{overhead, max_retries}
 abbrev pub IsStop : List ℕ → ℕ → Type 0
 IsStop bytes stop = (frames : List ℕ) × IsLeftmost bytes frames stop
 
--- A crowd begins at k: `max_retries` consecutive offsets from k on are bad and uncovered, and they came with one read: none of them lies
--- below the stop of the bytes before it, and all of them lie below the stop of the bytes after it.
+-- A crowd begins at k: `max_retries` consecutive offsets from k on are bad and uncovered, and they came with one read: none of
+-- them lies below the stop of the bytes before it, and all of them lie below the stop of the bytes after it.
 pub record IsCrowd (old now : List ℕ) (k : ℕ) : Type 0 where
   pub before : ℕ
   pub frames : List ℕ

@@ -6,8 +6,8 @@ use Rattle.modbus_rtu.specs.Leftmost.{IsLeftmost, IsUncovered}
 use Rattle.modbus_rtu.specs.Stands.{frame_at}
 use Rattle.modbus_rtu.specs.Limits.{max_retries}
 
--- The reading ends where the bytes end, there are no `max_retries` offsets of no use in a row, and the delivered frames carry these messages,
--- each a slave address and a PDU.
+-- The reading ends where the bytes end, there are no `max_retries` offsets of no use in a row, and the delivered frames carry
+-- these messages, each a slave address and a PDU.
 pub record IsQuietLine (bytes : List ℕ) (messages : List (ℕ × List ℕ)) : Type 0 where
   pub frames : List ℕ
   pub reading : IsLeftmost bytes frames (length bytes)

@@ -14,7 +14,8 @@ pub data ResponseRule : Type 0 where
   counted : ResponseRule
   -- the function code, a byte count of two bytes at places 2 and 3, the high one first, and as many as it says
   counted_word : ResponseRule
-  -- with the MEI type of device identification at place 2: up to the end of the last object. Another type is read as an unknown function
+  -- with the MEI type of device identification at place 2: up to the end of the last object. Another type is read as an unknown
+  -- function
   identification : ResponseRule
   -- all bytes that are held, but for the slave address and the checksum
   unknown : ResponseRule

@@ -47,9 +47,10 @@ impl ClientCodec {
     /// there is no whole frame; the bytes that begin none are dropped, and fewer than `LONGEST_IDENTIFICATION` bytes are left.
     ///
     /// # Errors
-    /// `TooManyRetries` exactly where no frame stands at the first `MAX_RETRIES` offsets; they are dropped. `Invalid` with the reason,
-    /// exactly where the PDU of the next frame is refused; the frame is gone. `NoMemory` where memory is refused for a frame; then
-    /// the bytes before it are gone, and it stays, or is gone too where its PDU is a response that carries a list or bytes.
+    /// `TooManyRetries` exactly where no frame stands at the first `MAX_RETRIES` offsets; they are dropped. `Invalid` with the
+    /// reason, exactly where the PDU of the next frame is refused; the frame is gone. `NoMemory` where memory is refused for a
+    /// frame; then the bytes before it are gone, and it stays, or is gone too where its PDU is a response that carries a list or
+    /// bytes.
     #[tactic(auto, unfolding(crate::specs::ResponseHead::response_verdict))]
     pub fn decode(
         &mut self,
@@ -72,8 +73,8 @@ impl ClientCodec {
     /// Appends the frame of a request: its slave address, its PDU, and the checksum of both.
     ///
     /// # Errors
-    /// `TooLong` with the size of the PDU in bytes, exactly where that is above `MAX_PDU`. `NoMemory` where memory is refused. The bytes
-    /// of the buffer are then as they were.
+    /// `TooLong` with the size of the PDU in bytes, exactly where that is above `MAX_PDU`. `NoMemory` where memory is refused.
+    /// The bytes of the buffer are then as they were.
     pub fn encode(
         &mut self,
         alloc: Global,
@@ -99,9 +100,9 @@ impl ServerCodec {
     /// bytes that begin none are dropped, and fewer than `CAPACITY` bytes are left.
     ///
     /// # Errors
-    /// `TooManyRetries` exactly where no frame stands at the first `MAX_RETRIES` offsets; they are dropped. `Invalid` with the reason,
-    /// exactly where the PDU of the next frame is refused; the frame is gone. `NoMemory` where memory is refused for a frame; then
-    /// the bytes before it are gone, and it stays, or is gone too where its PDU is a request that carries a list.
+    /// `TooManyRetries` exactly where no frame stands at the first `MAX_RETRIES` offsets; they are dropped. `Invalid` with the
+    /// reason, exactly where the PDU of the next frame is refused; the frame is gone. `NoMemory` where memory is refused for a
+    /// frame; then the bytes before it are gone, and it stays, or is gone too where its PDU is a request that carries a list.
     #[tactic(auto, unfolding(crate::specs::Frame::verdict_of))]
     pub fn decode(
         &mut self,
@@ -125,8 +126,8 @@ impl ServerCodec {
     /// exception is below `EXCEPTION_BIT`.
     ///
     /// # Errors
-    /// `TooLong` with the size of the PDU in bytes, exactly where that is above `MAX_PDU`. `NoMemory` where memory is refused, only where the
-    /// buffer had no room for the whole frame. The bytes of the buffer are then as they were.
+    /// `TooLong` with the size of the PDU in bytes, exactly where that is above `MAX_PDU`. `NoMemory` where memory is refused,
+    /// only where the buffer had no room for the whole frame. The bytes of the buffer are then as they were.
     pub fn encode(
         &mut self,
         alloc: Global,

@@ -244,13 +244,13 @@ impl<R: LengthRule> Decoder<R> {
         self.frames.dropped_bytes()
     }
 
-    /// Takes off the next frame, with all bytes before it: the first good offset after fewer than `MAX_RETRIES` bad ones. Gives its slave
-    /// address and its PDU. `None` where an open offset comes first; the bad ones before it are dropped, and fewer bytes are left
-    /// than the longest frame has that is waited for.
+    /// Takes off the next frame, with all bytes before it: the first good offset after fewer than `MAX_RETRIES` bad ones. Gives
+    /// its slave address and its PDU. `None` where an open offset comes first; the bad ones before it are dropped, and fewer
+    /// bytes are left than the longest frame has that is waited for.
     ///
     /// # Errors
-    /// `TooManyRetries` exactly where the first `MAX_RETRIES` offsets are bad; they are dropped. `NoMemory` where memory is refused for a
-    /// frame; the bad offsets before it are dropped. `Invalid` never.
+    /// `TooManyRetries` exactly where the first `MAX_RETRIES` offsets are bad; they are dropped. `NoMemory` where memory is
+    /// refused for a frame; the bad offsets before it are dropped. `Invalid` never.
     pub fn decode(
         &mut self,
         _alloc: Global,

@@ -34,8 +34,8 @@ fn put_checksum(buf: &mut BytesMut, start: usize)
 /// Appends the frame of a request: its slave address, its PDU, and the checksum of both.
 ///
 /// # Errors
-/// `TooLong` with the size of the PDU in bytes, exactly where that is above `MAX_PDU`. `NoMemory` where memory is refused. The bytes of
-/// the buffer are then as they were.
+/// `TooLong` with the size of the PDU in bytes, exactly where that is above `MAX_PDU`. `NoMemory` where memory is refused. The
+/// bytes of the buffer are then as they were.
 #[tactic(auto, unfolding(crate::specs::Frame::frame))]
 pub fn encode_request_frame(
     _alloc: Global,
@@ -55,11 +55,12 @@ pub fn encode_request_frame(
     Ok(())
 }
 
-/// Appends the frame of a response or an exception: its slave address, its PDU, and the checksum of both. The function of an exception is below `EXCEPTION_BIT`.
+/// Appends the frame of a response or an exception: its slave address, its PDU, and the checksum of both. The function of an
+/// exception is below `EXCEPTION_BIT`.
 ///
 /// # Errors
-/// `TooLong` with the size of the PDU in bytes, exactly where that is above `MAX_PDU`. `NoMemory` where memory is refused, only where the buffer
-/// had no room for the whole frame. The bytes of the buffer are then as they were.
+/// `TooLong` with the size of the PDU in bytes, exactly where that is above `MAX_PDU`. `NoMemory` where memory is refused, only
+/// where the buffer had no room for the whole frame. The bytes of the buffer are then as they were.
 #[inline(always)]
 #[tactic(auto, unfolding(crate::specs::Frame::frame))]
 pub fn encode_response_frame(

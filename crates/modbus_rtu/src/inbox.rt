@@ -163,8 +163,8 @@ impl Inbox {
         self.ring.truncate_front(left);
     }
 
-    /// Reads from the source into a room of `CAPACITY` bytes less those that are held, appends what it gave, and answers how many bytes that
-    /// were: 0 exactly where the input has ended. It takes no memory.
+    /// Reads from the source into a room of `CAPACITY` bytes less those that are held, appends what it gave, and answers how many
+    /// bytes that were: 0 exactly where the input has ended. It takes no memory.
     ///
     /// # Errors
     /// `Failed`, only where the source's count of faults rose; then nothing was read, and the same bytes are held.
@@ -230,11 +230,12 @@ impl Inbox {
         }
     }
 
-    /// Takes off the next frame: the first good offset after fewer than `MAX_RETRIES` bad ones, with all bytes before it. `None` where
-    /// an open offset comes first; the bad ones before it are dropped. It takes no memory.
+    /// Takes off the next frame: the first good offset after fewer than `MAX_RETRIES` bad ones, with all bytes before it. `None`
+    /// where an open offset comes first; the bad ones before it are dropped. It takes no memory.
     ///
     /// # Errors
-    /// `TooManyRetries` exactly where the first `MAX_RETRIES` offsets are bad, and these are dropped. `Invalid` and `NoMemory` never.
+    /// `TooManyRetries` exactly where the first `MAX_RETRIES` offsets are bad, and these are dropped. `Invalid` and `NoMemory`
+    /// never.
     pub fn next(&mut self) -> Result<Option<RtuFrame>, RtuError>
         ensures gives { TakesFrame self.old result self.new }
         ensures causes { IfErr result (λ error. error ≡ RtuError.TooManyRetries) }

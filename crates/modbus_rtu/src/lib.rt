@@ -2,7 +2,8 @@
 //! (MODBUS over Serial Line V1.02, section 2.5.1).
 //!
 //! A line carries noise, and its bytes come in pieces. The definitions say which frames a whole list of bytes has, whatever its
-//! pieces; the laws say how that reading goes on when bytes follow; and the inbox keeps to it with at most `CAPACITY` bytes in hand.
+//! pieces; the laws say how that reading goes on when bytes follow; and the inbox keeps to it with at most `CAPACITY` bytes in
+//! hand.
 #![tactic(auto)]
 
 mod codec;

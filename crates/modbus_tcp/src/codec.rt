@@ -67,8 +67,8 @@ impl ClientCodec {
     /// Appends the ADU of a request: the header, with the transaction and the unit identifier, and the PDU (section 3.1).
     ///
     /// # Errors
-    /// `TooLong` with the size of the PDU in bytes, exactly where that is above `MAX_PDU`. `NoMemory` where memory is refused. The bytes
-    /// of the buffer are then as they were.
+    /// `TooLong` with the size of the PDU in bytes, exactly where that is above `MAX_PDU`. `NoMemory` where memory is refused.
+    /// The bytes of the buffer are then as they were.
     #[inline]
     pub fn encode(
         &mut self,
@@ -120,8 +120,8 @@ impl ServerCodec {
     /// the PDU (section 3.1). The function of an exception is below `EXCEPTION_BIT`.
     ///
     /// # Errors
-    /// `TooLong` with the size of the PDU in bytes, exactly where that is above `MAX_PDU`. `NoMemory` where memory is refused. The bytes
-    /// of the buffer are then as they were.
+    /// `TooLong` with the size of the PDU in bytes, exactly where that is above `MAX_PDU`. `NoMemory` where memory is refused.
+    /// The bytes of the buffer are then as they were.
     #[inline]
     pub fn encode(
         &mut self,

@@ -38,8 +38,8 @@ fn put_header(buf: &mut BytesMut, header: tcp::Header, pdu_len: usize)
 /// Appends the ADU of a request: the header, with its transaction and its unit identifier, and the PDU (section 3.1).
 ///
 /// # Errors
-/// `TooLong` with the size of the PDU in bytes, exactly where that is above `MAX_PDU`. `NoMemory` where memory is refused. The bytes of the
-/// buffer are then as they were.
+/// `TooLong` with the size of the PDU in bytes, exactly where that is above `MAX_PDU`. `NoMemory` where memory is refused. The
+/// bytes of the buffer are then as they were.
 #[tactic(auto, unfolding(crate::specs::Adu::adu_of))]
 pub fn encode_request_adu(
     _alloc: Global,
@@ -61,8 +61,8 @@ pub fn encode_request_adu(
 /// (section 3.1). The function of an exception is below `EXCEPTION_BIT`.
 ///
 /// # Errors
-/// `TooLong` with the size of the PDU in bytes, exactly where that is above `MAX_PDU`. `NoMemory` where memory is refused, only where the
-/// buffer had no room for the whole ADU. The bytes of the buffer are then as they were.
+/// `TooLong` with the size of the PDU in bytes, exactly where that is above `MAX_PDU`. `NoMemory` where memory is refused, only
+/// where the buffer had no room for the whole ADU. The bytes of the buffer are then as they were.
 #[inline(always)]
 #[tactic(auto, unfolding(crate::specs::Adu::adu_of))]
 pub fn encode_response_adu(
