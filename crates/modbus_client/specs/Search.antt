@@ -5,7 +5,7 @@
 -- offset depends on how far the bytes go then: the frame of a function without a length rule is all that is held. So the search says
 -- for each offset in which cut it is looked at.
 use Rattle.std.specs.Prelude.{◌≡◌, ◌≢◌, ℕ, zero, suc, ◌+◌, ◌-◌, ◌<◌, ◌≤◌, List, length, take, drop, slice_index, Contains}
-use Rattle.modbus_rtu.specs.declared.search.TheConstants.{TRIES}
+use Rattle.modbus_rtu.specs.Limits.{max_retries}
 use Rattle.modbus_rtu.specs.declared.verdict.Verdict.{Verdict}
 use Rattle.modbus_rtu.specs.declared.verdict.Verdict.TheVariants.{Open, Bad, Good}
 use Rattle.modbus_rtu.specs.ResponseHead.{response_verdict}
@@ -36,7 +36,7 @@ Share looks offset count cut = (i : ℕ) → i < count → slice_index looks (of
 pub record ArePassed (bytes cuts looks : List ℕ) : Type 0 where
   pub looked : (k : ℕ) → k < length looks → IsLookedAt bytes cuts (counts_from looks k) k (slice_index looks k)
   pub bad : (k : ℕ) → k < length looks → seen bytes k (slice_index looks k) ≡ Bad
-  pub calm : (k cut : ℕ) → k + TRIES ≤ length looks → Share looks k TRIES cut → ⊥
+  pub calm : (k cut : ℕ) → k + max_retries ≤ length looks → Share looks k max_retries cut → ⊥
 
 -- How the search stands.
 pub data SearchState : Type 0 where
@@ -53,7 +53,7 @@ IsFoundAfter bytes cuts looks (reply offset pdu_len) =
     (offset ≡ length looks) × (cut : ℕ) × IsLookedAt bytes cuts (counts_from looks offset) offset cut × (seen bytes offset cut ≡ Good pdu_len)
 IsFoundAfter bytes cuts looks (crowd offset) =
     (offset ≡ length looks) × (cut : ℕ) × IsLookedAt bytes cuts (counts_from looks offset) offset cut × (seen bytes offset cut ≡ Bad)
-    × (first : ℕ) × (first + (TRIES - 1) ≡ offset) × Share looks first (TRIES - 1) cut
+    × (first : ℕ) × (first + (max_retries - 1) ≡ offset) × Share looks first (max_retries - 1) cut
 IsFoundAfter bytes cuts looks (waiting offset) =
     (offset ≡ length looks) × ((cut : ℕ) → Contains cuts cut → counts_from looks offset ≤ cut → seen bytes offset cut ≡ Open)
 
