@@ -33,7 +33,8 @@ pub(crate) fn write_entries<T: Copy>(
     first: Address,
     values: &[T],
 ) -> Result<(), OutOfRange>
-    ensures { Sets (inside (length table.old) first (length values.now)) table.old (written first values.now table.old) result table.new }
+    ensures { Sets (inside (length table.old) first (length values.now)) table.old
+        (written first values.now table.old) result table.new }
 {
     if !is_inside(table.len(), first, values.len()) {
         return Err(OutOfRange);

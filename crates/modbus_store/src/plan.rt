@@ -153,7 +153,7 @@ pub(crate) fn step<'a, T: Target>(
     alloc: Global,
     request: &'a Request<'_>,
 ) -> Result<(Response, Change<'a>), ServiceError>
-    ensures { Steps (λ t. T.tables t) (λ old change new. T.makes old change new) target.old (meaning request.now) result target.new }
+    ensures { Steps T.tables T.makes target.old (meaning request.now) result target.new }
 {
     match request {
         Request::ReadCoils(address, quantity) => {

@@ -84,7 +84,9 @@ fn settle<'a>(
     alloc: Global,
     request: &'a SlaveRequest<'_>,
 ) -> Result<(Outcome, Change<'a>), AllocError>
-    ensures { IfOk result (λ done. store_step store.now request.now.slave (meaning request.now.request) ≡ (outcome_of done.0, changed store.now done.1)) }
+    ensures { IfOk result (λ done.
+        store_step store.now request.now.slave (meaning request.now.request)
+        ≡ (outcome_of done.0, changed store.now done.1)) }
 {
     match store.plan(alloc, request) {
         Ok(Planned { response, change }) => Ok((Outcome::of(response), change)),

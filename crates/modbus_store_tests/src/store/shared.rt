@@ -5,7 +5,9 @@ use modbus_frame::{ExceptionCode, Request, Response, Words};
 use modbus_link::{MemorySink, MemorySource};
 use modbus_server::tcp;
 use modbus_service::{Service, ServiceError};
-use modbus_store::{ClosedStore, History, Outcome, Planned, RegisterStore, SharedStore, StoreTable};
+use modbus_store::{
+    Change, ClosedStore, History, Outcome, Planned, RegisterStore, SharedStore, StoreTable,
+};
 use std::alloc::{AllocError, Global};
 use std::borrow::CowSlice;
 use std::sync::Wait;
@@ -129,6 +131,12 @@ fn a_call_in_two_parts_is_planned_and_then_done(rt: HostRuntime) -> Result<(), F
             store.holding_register(2)
         ),
         (Some(7), Some(20), Some(30))
+    );
+    store.commit(Change::Registers(2, &[1, 2]));
+    store.commit(Change::Coil(1, false));
+    assert_eq!(rt;
+        (store.holding_register(2), store.coil(0)),
+        (Some(30), Some(true))
     );
     Ok(())
 }
