@@ -1,6 +1,6 @@
 //! What a call needs of its protocol: how a request is framed, and how the reply is found in the bytes that come.
 //!
-//! RTU frames and Modbus TCP are protocols; another crate can add its own.
+//! RTU frames and Modbus TCP are protocols; another crate can add its own, and `LinkClient` is its client.
 ghost use Rattle.std.specs.Prelude.{◌≡◌, ℕ, ◌<◌, ◌++◌, ◌∷◌, List, [], length};
 ghost use Rattle.modbus_frame.specs.Meaning.{meaning};
 ghost use Rattle.modbus_pdu.specs.Coding.{Encodes};
