@@ -21,6 +21,7 @@ function_answered (response.WriteMultipleRegisters address quantity) = function.
 function_answered (response.ReportServerId id run bytes) = function.ReportServerId
 function_answered (response.MaskWriteRegister address and_mask or_mask) = function.MaskWriteRegister
 function_answered (response.ReadWriteMultipleRegisters words) = function.ReadWriteMultipleRegisters
+function_answered (response.ReadFifoQueue words) = function.ReadFifoQueue
 function_answered (response.ReadDeviceIdentification found) = function.EncapsulatedInterfaceTransport
 function_answered (response.Custom code bytes) = function.Custom code
 

@@ -21,6 +21,7 @@ pub data Asked : Type 0 where
   ReportServerId : Asked
   MaskWriteRegister : (address : ℕ) (and_mask : ℕ) (or_mask : ℕ) → Asked
   ReadWriteMultipleRegisters : (read_address : ℕ) (quantity : ℕ) (write_address : ℕ) (words : List ℕ) → Asked
+  ReadFifoQueue : (address : ℕ) → Asked
   ReadDeviceIdentification : (code : ReadCode) (id : ℕ) → Asked
   Custom : (code : ℕ) (bytes : List ℕ) → Asked
 
@@ -37,6 +38,7 @@ meaning (request.WriteMultipleRegisters address words) = WriteMultipleRegisters 
 meaning request.ReportServerId = ReportServerId
 meaning (request.MaskWriteRegister address and_mask or_mask) = MaskWriteRegister address and_mask or_mask
 meaning (request.ReadWriteMultipleRegisters read_address quantity write_address words) = ReadWriteMultipleRegisters read_address quantity write_address (cow_slice_items words)
+meaning (request.ReadFifoQueue address) = ReadFifoQueue address
 meaning (request.ReadDeviceIdentification code id) = ReadDeviceIdentification code id
 meaning (request.Custom code bytes) = Custom code (cow_slice_items bytes)
 
@@ -53,5 +55,6 @@ function_asked (WriteMultipleRegisters address words) = function.WriteMultipleRe
 function_asked ReportServerId = function.ReportServerId
 function_asked (MaskWriteRegister address and_mask or_mask) = function.MaskWriteRegister
 function_asked (ReadWriteMultipleRegisters read_address quantity write_address words) = function.ReadWriteMultipleRegisters
+function_asked (ReadFifoQueue address) = function.ReadFifoQueue
 function_asked (ReadDeviceIdentification code id) = function.EncapsulatedInterfaceTransport
 function_asked (Custom code bytes) = function.Custom code

@@ -41,6 +41,8 @@ pub enum Request<'a> {
     /// Write holding registers, then read others (section 6.17): the first address to read and how many registers, the
     /// first address to write and the contents.
     ReadWriteMultipleRegisters(Address, Quantity, Address, CowSlice<'a, Word>),
+    /// Read a first-in-first-out queue of registers (section 6.18): the address of its count.
+    ReadFifoQueue(Address),
     /// Ask for objects of the device identification (section 6.21): which kind of objects, and the first object or the
     /// one that is asked for.
     ReadDeviceIdentification(ReadCode, ObjectId),
@@ -79,6 +81,7 @@ impl<'a> Request<'a> {
             Request::MaskWriteRegister(_, _, _) => FunctionCode::MaskWriteRegister,
             Request::ReadWriteMultipleRegisters(_, _, _, _) =>
                 FunctionCode::ReadWriteMultipleRegisters,
+            Request::ReadFifoQueue(_) => FunctionCode::ReadFifoQueue,
             Request::ReadDeviceIdentification(_, _) => FunctionCode::EncapsulatedInterfaceTransport,
             Request::Custom(code, _) => FunctionCode::Custom(*code),
         }
@@ -121,6 +124,7 @@ impl<'a> Request<'a> {
                     CowSlice::Owned(words.into_owned(alloc)?),
                 )
             }
+            Request::ReadFifoQueue(address) => Request::ReadFifoQueue(address),
             Request::ReadDeviceIdentification(code, id) => Request::ReadDeviceIdentification(
                 code, id,
             ),
@@ -168,6 +172,7 @@ impl<'a> Request<'a> {
                     copied(words, alloc)?,
                 )
             }
+            Request::ReadFifoQueue(address) => Request::ReadFifoQueue(*address),
             Request::ReadDeviceIdentification(code, id) => Request::ReadDeviceIdentification(
                 *code, *id,
             ),

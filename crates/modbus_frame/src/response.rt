@@ -38,6 +38,8 @@ pub enum Response {
     MaskWriteRegister(Address, Word, Word),
     /// The registers that were read (section 6.17).
     ReadWriteMultipleRegisters(Words),
+    /// The registers of the queue, the oldest first (section 6.18).
+    ReadFifoQueue(Words),
     /// Objects of the device identification (section 6.21).
     ReadDeviceIdentification(ReadDeviceIdentificationResponse),
     /// A response of any other function: the number of the function, and the bytes after it.
@@ -61,6 +63,7 @@ impl Response {
             Response::ReportServerId(_, _, _) => FunctionCode::ReportServerId,
             Response::MaskWriteRegister(_, _, _) => FunctionCode::MaskWriteRegister,
             Response::ReadWriteMultipleRegisters(_) => FunctionCode::ReadWriteMultipleRegisters,
+            Response::ReadFifoQueue(_) => FunctionCode::ReadFifoQueue,
             Response::ReadDeviceIdentification(_) => FunctionCode::EncapsulatedInterfaceTransport,
             Response::Custom(code, _) => FunctionCode::Custom(*code),
         }
@@ -102,6 +105,7 @@ impl Response {
             Response::ReadWriteMultipleRegisters(words) => {
                 Response::ReadWriteMultipleRegisters(words.try_clone(alloc)?)
             }
+            Response::ReadFifoQueue(words) => Response::ReadFifoQueue(words.try_clone(alloc)?),
             Response::ReadDeviceIdentification(found) => {
                 Response::ReadDeviceIdentification(found.try_clone(alloc)?)
             }
