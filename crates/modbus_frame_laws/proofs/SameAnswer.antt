@@ -68,8 +68,9 @@ response_kind (response.WriteMultipleRegisters address quantity) = 7
 response_kind (response.ReportServerId id run extra) = 8
 response_kind (response.MaskWriteRegister address and_mask or_mask) = 9
 response_kind (response.ReadWriteMultipleRegisters words) = 10
-response_kind (response.ReadDeviceIdentification found) = 11
-response_kind (response.Custom code bytes) = 12
+response_kind (response.ReadFifoQueue words) = 11
+response_kind (response.ReadDeviceIdentification found) = 12
+response_kind (response.Custom code bytes) = 13
 
 responses_Decide-ReadCoils : (x0 : List Bool) (y : Response) → Decides (derived.eq-value.it (response.ReadCoils x0) y) (response.ReadCoils x0 ≡ y)
 responses_Decide-ReadCoils x0 (response.ReadCoils y0) = one _ (slice_eq-Decides booleans_Decides x0 y0 _ refl) (λ p. cc) (λ e. cc)
@@ -115,6 +116,10 @@ responses_Decide-ReadWriteMultipleRegisters : (x0 : List ℕ) (y : Response) →
 responses_Decide-ReadWriteMultipleRegisters x0 (response.ReadWriteMultipleRegisters y0) = one _ (slice_eq-Decides Decides-eqb x0 y0 _ refl) (λ p. cc) (λ e. cc)
 responses_Decide-ReadWriteMultipleRegisters x0 y = ((λ h. absurd (false≢true h)), λ e. absurd (differ response_kind e refl))
 
+responses_Decide-ReadFifoQueue : (x0 : List ℕ) (y : Response) → Decides (derived.eq-value.it (response.ReadFifoQueue x0) y) (response.ReadFifoQueue x0 ≡ y)
+responses_Decide-ReadFifoQueue x0 (response.ReadFifoQueue y0) = one _ (slice_eq-Decides Decides-eqb x0 y0 _ refl) (λ p. cc) (λ e. cc)
+responses_Decide-ReadFifoQueue x0 y = ((λ h. absurd (false≢true h)), λ e. absurd (differ response_kind e refl))
+
 responses_Decide-ReadDeviceIdentification : (x0 : ReadDeviceIdentificationResponse) (y : Response) → Decides (derived.eq-value.it (response.ReadDeviceIdentification x0) y) (response.ReadDeviceIdentification x0 ≡ y)
 responses_Decide-ReadDeviceIdentification x0 (response.ReadDeviceIdentification y0) = one _ (identifications_Decide x0 y0) (λ p. cc) (λ e. cc)
 responses_Decide-ReadDeviceIdentification x0 y = ((λ h. absurd (false≢true h)), λ e. absurd (differ response_kind e refl))
@@ -135,5 +140,6 @@ responses_Decide (response.WriteMultipleRegisters x0 x1) y = responses_Decide-Wr
 responses_Decide (response.ReportServerId x0 x1 x2) y = responses_Decide-ReportServerId x0 x1 x2 y
 responses_Decide (response.MaskWriteRegister x0 x1 x2) y = responses_Decide-MaskWriteRegister x0 x1 x2 y
 responses_Decide (response.ReadWriteMultipleRegisters x0) y = responses_Decide-ReadWriteMultipleRegisters x0 y
+responses_Decide (response.ReadFifoQueue x0) y = responses_Decide-ReadFifoQueue x0 y
 responses_Decide (response.ReadDeviceIdentification x0) y = responses_Decide-ReadDeviceIdentification x0 y
 responses_Decide (response.Custom x0 x1) y = responses_Decide-Custom x0 x1 y

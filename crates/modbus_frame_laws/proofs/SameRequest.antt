@@ -5,7 +5,7 @@ use Rattle.std.proofs.lemmas.Bool.{false≢true}
 use Rattle.std.specs.Cmp.{booleans_Decides}
 use Rattle.std.proofs.lemmas.Bool.Decides.{Decides-eqb}
 use Rattle.std.proofs.lemmas.Slice.Eq.{slice_eq-Decides}
-use Rattle.modbus_frame_laws.proofs.Same.{both, codes_Decide, differ}
+use Rattle.modbus_frame_laws.proofs.Same.{one, both, codes_Decide, differ}
 use Rattle.modbus_frame.specs.declared.request.Request.{Request}
 use Rattle.modbus_frame.specs.declared.request.Request.TheVariants as request
 use Rattle.modbus_frame.specs.declared.request.SlaveRequest.{SlaveRequest}
@@ -31,8 +31,9 @@ asked_kind (asked.WriteMultipleRegisters address words) = 7
 asked_kind asked.ReportServerId = 8
 asked_kind (asked.MaskWriteRegister address and_mask or_mask) = 9
 asked_kind (asked.ReadWriteMultipleRegisters read_address quantity write_address words) = 10
-asked_kind (asked.ReadDeviceIdentification code id) = 11
-asked_kind (asked.Custom code bytes) = 12
+asked_kind (asked.ReadFifoQueue address) = 11
+asked_kind (asked.ReadDeviceIdentification code id) = 12
+asked_kind (asked.Custom code bytes) = 13
 
 requests_Decide-ReadCoils : (x0 : ℕ) (x1 : ℕ) → (y : Request) → Decides (derived.eq-value.it (request.ReadCoils x0 x1) y) (meaning (request.ReadCoils x0 x1) ≡ meaning y)
 requests_Decide-ReadCoils x0 x1 (request.ReadCoils y0 y1) = both _ _ (Decides-eqb x0 y0) (Decides-eqb x1 y1) (λ p q. cc) (λ e. cc) (λ e. cc)
@@ -78,6 +79,10 @@ requests_Decide-ReadWriteMultipleRegisters : (x0 : ℕ) (x1 : ℕ) (x2 : ℕ) (x
 requests_Decide-ReadWriteMultipleRegisters x0 x1 x2 x3 (request.ReadWriteMultipleRegisters y0 y1 y2 y3) = both {Q = (x1 ≡ y1) × (x2 ≡ y2) × (cow_slice_items x3 ≡ cow_slice_items y3)} _ _ (Decides-eqb x0 y0) (both {Q = (x2 ≡ y2) × (cow_slice_items x3 ≡ cow_slice_items y3)} {R = (x1 ≡ y1) × (x2 ≡ y2) × (cow_slice_items x3 ≡ cow_slice_items y3)} _ _ (Decides-eqb x1 y1) (both {R = (x2 ≡ y2) × (cow_slice_items x3 ≡ cow_slice_items y3)} _ _ (Decides-eqb x2 y2) (slice_eq-Decides Decides-eqb (cow_slice_items x3) (cow_slice_items y3) _ refl) (λ p q. (p, q)) (λ e. e.0) (λ e. e.1)) (λ p q. (p, q.0, q.1)) (λ e. e.0) (λ e. (e.1, e.2))) (λ p q. let a = q.0 in let b = q.1 in let d = q.2 in cc) (λ e. cc) (λ e. (cc, cc, cc))
 requests_Decide-ReadWriteMultipleRegisters x0 x1 x2 x3 y = ((λ h. absurd (false≢true h)), λ e. absurd (differ asked_kind e refl))
 
+requests_Decide-ReadFifoQueue : (x0 : ℕ) → (y : Request) → Decides (derived.eq-value.it (request.ReadFifoQueue x0) y) (meaning (request.ReadFifoQueue x0) ≡ meaning y)
+requests_Decide-ReadFifoQueue x0 (request.ReadFifoQueue y0) = one _ (Decides-eqb x0 y0) (λ p. cc) (λ e. cc)
+requests_Decide-ReadFifoQueue x0 y = ((λ h. absurd (false≢true h)), λ e. absurd (differ asked_kind e refl))
+
 requests_Decide-ReadDeviceIdentification : (x0 : ReadCode) (x1 : ℕ) → (y : Request) → Decides (derived.eq-value.it (request.ReadDeviceIdentification x0 x1) y) (meaning (request.ReadDeviceIdentification x0 x1) ≡ meaning y)
 requests_Decide-ReadDeviceIdentification x0 x1 (request.ReadDeviceIdentification y0 y1) = both _ _ (codes_Decide x0 y0) (Decides-eqb x1 y1) (λ p q. cc) (λ e. cc) (λ e. cc)
 requests_Decide-ReadDeviceIdentification x0 x1 y = ((λ h. absurd (false≢true h)), λ e. absurd (differ asked_kind e refl))
@@ -98,6 +103,7 @@ requests_Decide (request.WriteMultipleRegisters x0 x1) y = requests_Decide-Write
 requests_Decide request.ReportServerId y = requests_Decide-ReportServerId y
 requests_Decide (request.MaskWriteRegister x0 x1 x2) y = requests_Decide-MaskWriteRegister x0 x1 x2 y
 requests_Decide (request.ReadWriteMultipleRegisters x0 x1 x2 x3) y = requests_Decide-ReadWriteMultipleRegisters x0 x1 x2 x3 y
+requests_Decide (request.ReadFifoQueue x0) y = requests_Decide-ReadFifoQueue x0 y
 requests_Decide (request.ReadDeviceIdentification x0 x1) y = requests_Decide-ReadDeviceIdentification x0 x1 y
 requests_Decide (request.Custom x0 x1) y = requests_Decide-Custom x0 x1 y
 
