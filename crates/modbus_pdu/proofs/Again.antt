@@ -7,13 +7,13 @@ use Rattle.std.specs.List.{AllByRecursion}
 use Rattle.modbus_frame.specs.declared.code.ReadCode.{ReadCode}
 use Rattle.modbus_frame.specs.declared.code.ReadCode.TheVariants as read
 use Rattle.modbus_frame.specs.Codes.{read_code_number}
-use Rattle.modbus_frame.specs.Meaning.{Asked, ReadCoils, ReadDiscreteInputs, WriteSingleCoil, WriteMultipleCoils, ReadInputRegisters, ReadHoldingRegisters, WriteSingleRegister, WriteMultipleRegisters, ReportServerId, MaskWriteRegister, ReadWriteMultipleRegisters, ReadDeviceIdentification, Custom}
+use Rattle.modbus_frame.specs.Meaning.{Asked, ReadCoils, ReadDiscreteInputs, WriteSingleCoil, WriteMultipleCoils, ReadInputRegisters, ReadHoldingRegisters, WriteSingleRegister, WriteMultipleRegisters, ReportServerId, MaskWriteRegister, ReadWriteMultipleRegisters, ReadFifoQueue, ReadDeviceIdentification, Custom}
 use Rattle.modbus_frame.specs.FunctionCodes as number
 use Rattle.modbus_pdu.specs.Limits.{max_pdu, mei_device_identification}
 use Rattle.modbus_pdu.specs.Fields.{word_at, words_of, coils_of, packed, packed_size}
 use Rattle.modbus_pdu.specs.Writing.{word, words}
 use Rattle.modbus_pdu.specs.RequestPdu.{request_pdu}
-use Rattle.modbus_pdu.specs.RequestOf.{request_of, asked_by, two_words_of, single_coil_of, three_words_of, only_code_of, identification_of, registers_at, words_written_of, coils_written_of, read_write_of, IsModelled}
+use Rattle.modbus_pdu.specs.RequestOf.{request_of, asked_by, two_words_of, single_coil_of, three_words_of, only_code_of, one_word_of, identification_of, registers_at, words_written_of, coils_written_of, read_write_of, IsModelled}
 use Rattle.modbus_pdu.specs.Laws.{IsWord, IsInRange, ReadsBack}
 use Rattle.modbus_pdu.proofs.Sizes.{words_length, packed_length}
 use Rattle.modbus_pdu.proofs.Unpacked.{packed_back}
@@ -66,9 +66,10 @@ custom_back code bytes small other =
     let n11 = other_code code number.report_server_id other refl in
     let n16 = other_code code number.mask_write_register other refl in
     let n17 = other_code code number.read_write_multiple_registers other refl in
+    let n18 = other_code code number.read_fifo_queue other refl in
     let n2B = other_code code number.encapsulated_interface_transport other refl in
     let low : ltb code number.exception_bit ≡ true = lt-ltb code number.exception_bit small in
-    rw (n01, n02, n03, n04, n05, n06, n0F, n10, n11, n16, n17, n2B, low) refl
+    rw (n01, n02, n03, n04, n05, n06, n0F, n10, n11, n16, n17, n18, n2B, low) refl
 
 identification_back : (code : ReadCode) (id : ℕ) → identification_of (number.encapsulated_interface_transport ∷ mei_device_identification ∷ read_code_number code ∷ id ∷ []) ≡ Ok (code, id)
 unfolding identification_of
@@ -78,7 +79,7 @@ identification_back read.Extended id = refl
 identification_back read.Specific id = refl
 
 pub again : (r : Asked) → IsInRange r → ReadsBack r
-unfolding request_of asked_by request_pdu two_words_of single_coil_of three_words_of only_code_of
+unfolding request_of asked_by request_pdu one_word_of two_words_of single_coil_of three_words_of only_code_of
 again (ReadCoils a q) is readable fits = rw (word_back a is.0, word_back q is.1) refl
 again (ReadDiscreteInputs a q) is readable fits = rw (word_back a is.0, word_back q is.1) refl
 again (WriteSingleCoil a true) is readable fits = rw (word_back a is) refl
@@ -103,5 +104,6 @@ again (ReadWriteMultipleRegisters a q b ns) is readable fits =
     let n = length ns in
     let few : n < 2 ^ 16 = omega (arith, fits, len) in
     rw (read_write_back number.read_write_multiple_registers (a / 256 % 256) (a % 256) (q / 256 % 256) (q % 256) (b / 256 % 256) (b % 256) (n / 256 % 256) (n % 256) (2 * n) (words ns) (omega arith) len (omega (arith, fits, len)), word_back a is.0, word_back q is.1, word_back b is.2, word_back n few, words_back ns is.3) refl
+again (ReadFifoQueue a) is readable fits = rw (word_back a is) refl
 again (ReadDeviceIdentification code id) is readable fits = rw (identification_back code id) refl
 again (Custom code bytes) is readable fits = custom_back code bytes readable.0 readable.1

@@ -1,5 +1,5 @@
 -- A response that is written is read again.
-use Rattle.std.proofs.Common.{◌≡◌, ℕ, ◌+◌, ◌-◌, ◌*◌, ◌/◌, ◌%◌, ◌<◌, ◌≤◌, Bool, true, false, List, [], ◌∷◌, length, get_or, ◌∙◌, Ok, refl, arith, eqb}
+use Rattle.std.proofs.Common.{◌≡◌, ℕ, ◌+◌, ◌-◌, ◌*◌, ◌/◌, ◌%◌, ◌^◌, ◌<◌, ◌≤◌, Bool, true, false, List, [], ◌∷◌, ◌++◌, length, get_or, ◌∙◌, Ok, refl, arith, eqb}
 use Rattle.std.proofs.lemmas.Bool.Decides.{nat_tests}
 use Rattle.std.specs.List.{AllByRecursion}
 use Rattle.modbus_frame.specs.declared.code.ReadCode.{ReadCode}
@@ -13,13 +13,13 @@ use Rattle.modbus_frame.specs.declared.response.ExceptionResponse.{ExceptionResp
 use Rattle.modbus_frame.specs.Answered.{function_answered}
 use Rattle.modbus_frame.specs.Codes.{function_number, read_code_number, level_number}
 use Rattle.modbus_frame.specs.FunctionCodes as number
-use Rattle.modbus_pdu.specs.Limits.{max_pdu, mei_device_identification}
+use Rattle.modbus_pdu.specs.Limits.{max_pdu, mei_device_identification, fifo_count_size}
 use Rattle.modbus_pdu.specs.Fields.{words_of, coils_of, packed, packed_size}
 use Rattle.modbus_pdu.specs.Laws.{IsWord}
 use Rattle.modbus_pdu.specs.Decoding.{◌>>=◌, read_code_or}
 use Rattle.modbus_pdu.specs.RequestOf.{two_words_of, single_coil_of, three_words_of, IsModelled}
-use Rattle.modbus_pdu.specs.Writing.{words}
-use Rattle.modbus_pdu.specs.ResponseOf.{objects_at, level_or, coils_read_of, words_read_of, server_id_of, device_identification_of, answered_by, response_of, exception_response_of, response_result_of}
+use Rattle.modbus_pdu.specs.Writing.{word, words}
+use Rattle.modbus_pdu.specs.ResponseOf.{objects_at, level_or, coils_read_of, words_read_of, queue_of, server_id_of, device_identification_of, answered_by, response_of, exception_response_of, response_result_of}
 use Rattle.modbus_pdu.specs.ResponsePdu.{flag, objects, device_identification_pdu, response_pdu}
 use Rattle.modbus_pdu.specs.ResponseLaws.{filled, ResponseReadsBack, ResultReadsBack, ExceptionReadsBack}
 use Rattle.modbus_pdu.proofs.Again.{word_back, words_back, other_code}
@@ -37,6 +37,10 @@ words_read_back f n rest len fits =
     let even : (2 * n) % 2 ≡ 0 = omega arith in
     let half : 2 * n / 2 ≡ n = omega arith in
     rw (even, half) (grind (arith, nat_tests))
+
+queue_back : (f a b n m : ℕ) (rest : List ℕ) → a * 256 + b ≡ 2 + 2 * (n * 256 + m) → length rest ≡ 2 * (n * 256 + m) → 5 + length rest ≤ max_pdu → queue_of (f ∷ a ∷ b ∷ n ∷ m ∷ rest) ≡ Ok (words_of rest (n * 256 + m))
+unfolding queue_of
+queue_back f a b n m rest counted len fits = grind (arith, nat_tests)
 
 server_id_back : (id : ℕ) (run : Bool) (extra : List ℕ) → 4 + length extra ≤ max_pdu → server_id_of (number.report_server_id ∷ (2 + length extra) ∷ id ∷ flag run ∷ extra) ≡ Ok (id, run, extra)
 unfolding server_id_of
@@ -93,8 +97,9 @@ custom_back code bytes other =
     let n11 = other_code code number.report_server_id other refl in
     let n16 = other_code code number.mask_write_register other refl in
     let n17 = other_code code number.read_write_multiple_registers other refl in
+    let n18 = other_code code number.read_fifo_queue other refl in
     let n2B = other_code code number.encapsulated_interface_transport other refl in
-    rw (n01, n02, n03, n04, n05, n06, n0F, n10, n11, n16, n17, n2B) refl
+    rw (n01, n02, n03, n04, n05, n06, n0F, n10, n11, n16, n17, n18, n2B) refl
 
 -- a PDU with a first byte is read by it
 by_code : (code : ℕ) (rest : List ℕ) → response_of (code ∷ rest) ≡ answered_by code (code ∷ rest)
@@ -112,6 +117,16 @@ with_coils : (f : ℕ) (coils : List Bool) → 2 + length (packed coils) ≤ max
 with_coils f coils fits =
     let len = packed_length coils in
     rw (coils_read_back f (packed_size (length coils)) (packed coils) len (omega (arith, fits, len)), filled_back coils) refl
+
+-- the fields of a queue
+with_queue : (ns : List ℕ) → AllByRecursion IsWord ns → 5 + length (words ns) ≤ max_pdu → queue_of (number.read_fifo_queue ∷ word (fifo_count_size + 2 * length ns) ++ word (length ns) ++ words ns) ≡ Ok ns
+with_queue ns are fits =
+    let n = length ns in
+    let k = fifo_count_size + 2 * n in
+    let len = words_length ns in
+    let few : n < 2 ^ 16 = omega (arith, fits, len) in
+    let counted : k < 2 ^ 16 = omega (arith, fits, len) in
+    rw (queue_back number.read_fifo_queue (k / 256 % 256) (k % 256) (n / 256 % 256) (n % 256) (words ns) (omega (arith, word_back k counted, word_back n few)) (omega (arith, len, word_back n few)) fits, word_back n few, words_back ns are) refl
 
 with_identification : (found : ReadDeviceIdentificationResponse) → length (device_identification_pdu found) ≤ max_pdu → response_of (device_identification_pdu found) ≡ Ok (response.ReadDeviceIdentification found)
 unfolding response_of answered_by device_identification_pdu
@@ -131,6 +146,7 @@ again (response.WriteMultipleRegisters a q) is fits = rw (by_code, word_back a i
 again (response.ReportServerId id run extra) is fits = rw (by_code, server_id_back id run extra (omega (arith, fits))) refl
 again (response.MaskWriteRegister a x y) is fits = rw (by_code, word_back a is.0, word_back x is.1, word_back y is.2) refl
 again (response.ReadWriteMultipleRegisters ns) is fits = rw (by_code, with_words number.read_write_multiple_registers ns is (omega (arith, fits))) refl
+again (response.ReadFifoQueue ns) is fits = rw (by_code, with_queue ns is (omega (arith, fits))) refl
 again (response.ReadDeviceIdentification found) is fits = with_identification found fits
 again (response.Custom code bytes) is fits = rw (by_code, custom_back code bytes is) refl
 
@@ -148,6 +164,7 @@ starts (response.WriteMultipleRegisters a q) = (omega arith, refl)
 starts (response.ReportServerId id run extra) = (omega arith, refl)
 starts (response.MaskWriteRegister a x y) = (omega arith, refl)
 starts (response.ReadWriteMultipleRegisters ns) = (omega arith, refl)
+starts (response.ReadFifoQueue ns) = (omega arith, refl)
 starts (response.ReadDeviceIdentification found) = (omega arith, refl)
 starts (response.Custom code bytes) = (omega arith, refl)
 

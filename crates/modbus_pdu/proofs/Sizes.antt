@@ -3,7 +3,7 @@ use Rattle.std.proofs.Common.{◌≡◌, ℕ, ◌+◌, ◌*◌, sum_by, Bool, Li
 use Rattle.std.proofs.lemmas.List.Sums.{sum_by-cons}
 use Rattle.std.proofs.lemmas.List.FromFn.{length-map-range_with_len}
 use Rattle.modbus_pdu.specs.Fields.{bits_at, packed, packed_size}
-use Rattle.modbus_frame.specs.Meaning.{Asked, ReadCoils, ReadDiscreteInputs, WriteSingleCoil, WriteMultipleCoils, ReadInputRegisters, ReadHoldingRegisters, WriteSingleRegister, WriteMultipleRegisters, ReportServerId, MaskWriteRegister, ReadWriteMultipleRegisters, ReadDeviceIdentification, Custom}
+use Rattle.modbus_frame.specs.Meaning.{Asked, ReadCoils, ReadDiscreteInputs, WriteSingleCoil, WriteMultipleCoils, ReadInputRegisters, ReadHoldingRegisters, WriteSingleRegister, WriteMultipleRegisters, ReportServerId, MaskWriteRegister, ReadWriteMultipleRegisters, ReadFifoQueue, ReadDeviceIdentification, Custom}
 use Rattle.modbus_frame.specs.declared.identification.DeviceIdObject.{DeviceIdObject}
 use Rattle.modbus_frame.specs.declared.response.Response.{Response}
 use Rattle.modbus_frame.specs.declared.response.Response.TheVariants as response
@@ -35,6 +35,7 @@ request_length (WriteMultipleRegisters address registers) = omega (arith, words_
 request_length ReportServerId = refl
 request_length (MaskWriteRegister address and_mask or_mask) = refl
 request_length (ReadWriteMultipleRegisters read_address quantity write_address registers) = omega (arith, words_length registers)
+request_length (ReadFifoQueue address) = refl
 request_length (ReadDeviceIdentification code id) = refl
 request_length (Custom code bytes) = omega arith
 
@@ -60,6 +61,7 @@ response_length (response.WriteMultipleCoils address quantity) = refl
 response_length (response.WriteMultipleRegisters address quantity) = refl
 response_length (response.ReportServerId id run extra) = omega arith
 response_length (response.MaskWriteRegister address and_mask or_mask) = refl
+response_length (response.ReadFifoQueue registers) = omega (arith, words_length registers)
 response_length (response.ReadDeviceIdentification found) = omega (arith, objects_length found.device_id_objects)
 response_length (response.Custom code bytes) = omega arith
 

@@ -1,11 +1,11 @@
 -- The requests that read back from their PDUs, and the sizes of PDUs.
 use Rattle.std.specs.Prelude.{◌≡◌, ℕ, ◌+◌, ◌*◌, ◌<◌, ◌^◌, length, Ok, ⊤}
 use Rattle.std.specs.List.{AllByRecursion}
-use Rattle.modbus_frame.specs.Meaning.{Asked, ReadCoils, ReadDiscreteInputs, WriteSingleCoil, WriteMultipleCoils, ReadInputRegisters, ReadHoldingRegisters, WriteSingleRegister, WriteMultipleRegisters, ReportServerId, MaskWriteRegister, ReadWriteMultipleRegisters, ReadDeviceIdentification, Custom}
+use Rattle.modbus_frame.specs.Meaning.{Asked, ReadCoils, ReadDiscreteInputs, WriteSingleCoil, WriteMultipleCoils, ReadInputRegisters, ReadHoldingRegisters, WriteSingleRegister, WriteMultipleRegisters, ReportServerId, MaskWriteRegister, ReadWriteMultipleRegisters, ReadFifoQueue, ReadDeviceIdentification, Custom}
 use Rattle.modbus_frame.specs.FunctionCodes as number
 use Rattle.modbus_pdu.specs.Coding.{Fits}
 use Rattle.modbus_pdu.specs.Fields.{packed_size}
-use Rattle.modbus_pdu.specs.Limits.{code_pdu, two_words_pdu, three_words_pdu, write_head, read_write_head, identification_request}
+use Rattle.modbus_pdu.specs.Limits.{code_pdu, one_word_pdu, two_words_pdu, three_words_pdu, write_head, read_write_head, identification_request}
 use Rattle.modbus_pdu.specs.RequestOf.{request_of, IsModelled}
 use Rattle.modbus_pdu.specs.RequestPdu.{request_pdu}
 
@@ -30,6 +30,7 @@ IsInRange (WriteMultipleRegisters address words) = IsWord address × AllByRecurs
 IsInRange ReportServerId = ⊤
 IsInRange (MaskWriteRegister address and_mask or_mask) = IsWord address × IsWord and_mask × IsWord or_mask
 IsInRange (ReadWriteMultipleRegisters read_address quantity write_address words) = IsWord read_address × IsWord quantity × IsWord write_address × AllByRecursion IsWord words
+IsInRange (ReadFifoQueue address) = IsWord address
 IsInRange (ReadDeviceIdentification code id) = IsByte id
 IsInRange (Custom code bytes) = IsByte code
 
@@ -56,5 +57,6 @@ request_size (WriteMultipleRegisters address words) = write_head + 2 * length wo
 request_size ReportServerId = code_pdu
 request_size (MaskWriteRegister address and_mask or_mask) = three_words_pdu
 request_size (ReadWriteMultipleRegisters read_address quantity write_address words) = read_write_head + 2 * length words
+request_size (ReadFifoQueue address) = one_word_pdu
 request_size (ReadDeviceIdentification code id) = identification_request
 request_size (Custom code bytes) = code_pdu + length bytes

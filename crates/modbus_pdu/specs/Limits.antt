@@ -25,6 +25,10 @@ max_write_registers = 123
 abbrev pub max_read_write_registers : ℕ
 max_read_write_registers = 121
 
+-- the most registers of a queue (section 6.18)
+abbrev pub max_fifo_count : ℕ
+max_fifo_count = 31
+
 -- the MEI type of device identification (section 6.21)
 abbrev pub mei_device_identification : ℕ
 mei_device_identification = 0x0E
@@ -69,6 +73,14 @@ read_head = 2
 -- the bytes before the data of a server: the function code, the byte count, an id and the run indicator (section 6.13)
 abbrev pub server_id_head : ℕ
 server_id_head = 4
+
+-- the bytes of a queue that its byte count does not count: the function code and the byte count (section 6.18)
+abbrev pub fifo_head : ℕ
+fifo_head = 3
+
+-- the bytes of the count of a queue's registers, which its byte count counts too (section 6.18)
+abbrev pub fifo_count_size : ℕ
+fifo_count_size = 2
 
 -- the bytes before the objects of a device identification, the last of which is their number (section 6.21)
 abbrev pub identification_head : ℕ

@@ -5,9 +5,9 @@ use Rattle.std.specs.List.{list_any}
 use Rattle.modbus_frame.specs.declared.fault.Reason.{Reason}
 use Rattle.modbus_frame.specs.declared.fault.Reason.TheVariants as reason
 use Rattle.modbus_frame.specs.declared.code.ReadCode.{ReadCode}
-use Rattle.modbus_frame.specs.Meaning.{Asked, ReadCoils, ReadDiscreteInputs, WriteSingleCoil, WriteMultipleCoils, ReadInputRegisters, ReadHoldingRegisters, WriteSingleRegister, WriteMultipleRegisters, ReportServerId, MaskWriteRegister, ReadWriteMultipleRegisters, ReadDeviceIdentification, Custom}
+use Rattle.modbus_frame.specs.Meaning.{Asked, ReadCoils, ReadDiscreteInputs, WriteSingleCoil, WriteMultipleCoils, ReadInputRegisters, ReadHoldingRegisters, WriteSingleRegister, WriteMultipleRegisters, ReportServerId, MaskWriteRegister, ReadWriteMultipleRegisters, ReadFifoQueue, ReadDeviceIdentification, Custom}
 use Rattle.modbus_frame.specs.FunctionCodes as number
-use Rattle.modbus_pdu.specs.Limits.{max_pdu, mei_device_identification, code_pdu, two_words_pdu, three_words_pdu, write_head, identification_request}
+use Rattle.modbus_pdu.specs.Limits.{max_pdu, mei_device_identification, code_pdu, one_word_pdu, two_words_pdu, three_words_pdu, write_head, identification_request}
 use Rattle.modbus_pdu.specs.Fields.{word_at, words_of, coils_of, coil_of}
 use Rattle.modbus_pdu.specs.Decoding.{◌>>=◌, read_code_or}
 
@@ -76,6 +76,13 @@ read_write_of pdu =
     if nat_lt max_pdu (length pdu) then Err reason.SizeExceeded
     else (registers_at 7 pdu >>= λ registers. Ok (word_at pdu 1, word_at pdu 3, word_at pdu 5, registers))
 
+-- Read FIFO Queue (6.18): the address of the queue's count at place 1.
+unfoldable pub one_word_of : List ℕ → Result ℕ Reason
+one_word_of pdu =
+    if nat_lt (length pdu) one_word_pdu then Err reason.UnexpectedEnd
+    else if nat_lt one_word_pdu (length pdu) then Err reason.UndecodedData
+    else Ok (word_at pdu 1)
+
 -- Read Device Identification (6.21): the MEI type at place 1, the read code at place 2, the object
 -- id at place 3. The MEI type is told first of all, the size of a PDU next.
 unfoldable pub identification_of : List ℕ → Result (ReadCode × ℕ) Reason
@@ -105,6 +112,7 @@ asked_by code pdu =
     else if code == number.report_server_id then only_code_of pdu
     else if code == number.mask_write_register then (three_words_of pdu >>= λ x. Ok (MaskWriteRegister x.0 x.1 x.2))
     else if code == number.read_write_multiple_registers then (read_write_of pdu >>= λ x. Ok (ReadWriteMultipleRegisters x.0 x.1 x.2 x.3))
+    else if code == number.read_fifo_queue then (one_word_of pdu >>= λ address. Ok (ReadFifoQueue address))
     else if code == number.encapsulated_interface_transport then (identification_of pdu >>= λ x. Ok (ReadDeviceIdentification x.0 x.1))
     else if nat_lt code number.exception_bit then Ok (Custom code (drop 1 pdu))
     else Err (reason.InvalidFunction code)
@@ -116,7 +124,7 @@ request_of (code ∷ rest) = asked_by code (code ∷ rest)
 
 -- the function codes of the modelled kinds, each kind but a custom function
 abbrev pub IsModelled : ℕ → Type 0
-IsModelled code = IsTrue (list_any (λ k. k == code) (number.read_coils ∷ number.read_discrete_inputs ∷ number.read_holding_registers ∷ number.read_input_registers ∷ number.write_single_coil ∷ number.write_single_register ∷ number.write_multiple_coils ∷ number.write_multiple_registers ∷ number.report_server_id ∷ number.mask_write_register ∷ number.read_write_multiple_registers ∷ number.encapsulated_interface_transport ∷ []))
+IsModelled code = IsTrue (list_any (λ k. k == code) (number.read_coils ∷ number.read_discrete_inputs ∷ number.read_holding_registers ∷ number.read_input_registers ∷ number.write_single_coil ∷ number.write_single_register ∷ number.write_multiple_coils ∷ number.write_multiple_registers ∷ number.report_server_id ∷ number.mask_write_register ∷ number.read_write_multiple_registers ∷ number.read_fifo_queue ∷ number.encapsulated_interface_transport ∷ []))
 
 -- the requests that carry a list of coils, registers or bytes; all others are a few numbers
 abbrev pub CarriesList : Asked → Type 0
@@ -131,5 +139,6 @@ CarriesList (ReadHoldingRegisters address quantity) = ⊥
 CarriesList (WriteSingleCoil address coil) = ⊥
 CarriesList (WriteSingleRegister address word) = ⊥
 CarriesList (MaskWriteRegister address and_mask or_mask) = ⊥
+CarriesList (ReadFifoQueue address) = ⊥
 CarriesList (ReadDeviceIdentification code id) = ⊥
 CarriesList ReportServerId = ⊥

@@ -10,7 +10,7 @@ use Rattle.modbus_frame.specs.FunctionCodes as number
 use Rattle.modbus_pdu.specs.Coding.{Fits}
 use Rattle.modbus_pdu.specs.Fields.{packed_size}
 use Rattle.modbus_pdu.specs.Laws.{IsWord}
-use Rattle.modbus_pdu.specs.Limits.{code_pdu, two_words_pdu, three_words_pdu, read_head, server_id_head, identification_head}
+use Rattle.modbus_pdu.specs.Limits.{code_pdu, two_words_pdu, three_words_pdu, read_head, server_id_head, fifo_head, fifo_count_size, identification_head}
 use Rattle.modbus_pdu.specs.RequestOf.{IsModelled}
 use Rattle.modbus_pdu.specs.ResponseOf.{response_of, response_result_of}
 use Rattle.modbus_pdu.specs.ResponsePdu.{response_pdu, exception_pdu}
@@ -28,6 +28,7 @@ IsResponse (response.WriteMultipleRegisters address quantity) = IsWord address �
 IsResponse (response.ReportServerId id run extra) = ⊤
 IsResponse (response.MaskWriteRegister address and_mask or_mask) = IsWord address × IsWord and_mask × IsWord or_mask
 IsResponse (response.ReadWriteMultipleRegisters words) = AllByRecursion IsWord words
+IsResponse (response.ReadFifoQueue words) = AllByRecursion IsWord words
 IsResponse (response.ReadDeviceIdentification found) = ⊤
 IsResponse (response.Custom code bytes) = IsModelled code → ⊥
 
@@ -55,7 +56,7 @@ ResultReadsBack r = IsResponse r → function_number (function_answered r) < num
 abbrev pub ExceptionReadsBack : ExceptionResponse → Type 0
 ExceptionReadsBack e = function_number e.function < number.exception_bit → response_result_of (exception_pdu e) ≡ Ok (Err (record { function = function_of (function_number e.function); exception = exception_of (exception_number e.exception) }))
 
--- How many bytes the PDU of a response has (sections 6.1 to 6.6, 6.11 to 6.13, 6.16, 6.17 and 6.21).
+-- How many bytes the PDU of a response has (sections 6.1 to 6.6, 6.11 to 6.13, 6.16 to 6.18 and 6.21).
 abbrev pub response_size : Response → ℕ
 response_size (response.ReadCoils coils) = read_head + packed_size (length coils)
 response_size (response.ReadDiscreteInputs coils) = read_head + packed_size (length coils)
@@ -68,5 +69,6 @@ response_size (response.WriteMultipleCoils address quantity) = two_words_pdu
 response_size (response.WriteMultipleRegisters address quantity) = two_words_pdu
 response_size (response.ReportServerId id run extra) = server_id_head + length extra
 response_size (response.MaskWriteRegister address and_mask or_mask) = three_words_pdu
+response_size (response.ReadFifoQueue words) = fifo_head + fifo_count_size + 2 * length words
 response_size (response.ReadDeviceIdentification found) = identification_head + sum_by (λ object. 2 + length object.value) found.device_id_objects
 response_size (response.Custom code bytes) = code_pdu + length bytes

@@ -13,8 +13,8 @@ use Rattle.modbus_frame.specs.declared.response.Response.TheVariants as response
 use Rattle.modbus_frame.specs.declared.response.ExceptionResponse.{ExceptionResponse}
 use Rattle.modbus_frame.specs.Codes.{function_of, exception_of, level_of}
 use Rattle.modbus_frame.specs.FunctionCodes as number
-use Rattle.modbus_pdu.specs.Limits.{max_pdu, mei_device_identification, one_byte_pdu, read_head, server_id_head, identification_head}
-use Rattle.modbus_pdu.specs.Fields.{words_of, coils_of}
+use Rattle.modbus_pdu.specs.Limits.{max_pdu, mei_device_identification, one_byte_pdu, read_head, server_id_head, fifo_head, fifo_count_size, identification_head}
+use Rattle.modbus_pdu.specs.Fields.{word_at, words_of, coils_of}
 use Rattle.modbus_pdu.specs.Decoding.{◌>>=◌, read_code_or}
 use Rattle.modbus_pdu.specs.ResponsePdu.{flag}
 use Rattle.modbus_pdu.specs.RequestOf.{two_words_of, single_coil_of, three_words_of}
@@ -41,6 +41,21 @@ words_read_of pdu =
     else if nat_lt (length pdu) (read_head + count) then Err reason.UnexpectedEnd
     else if nat_lt (read_head + count) (length pdu) then Err reason.UndecodedData
     else Ok (words_of (drop read_head pdu) (count / 2))
+
+-- Read FIFO Queue: at most `max_pdu` bytes; the byte count at place 1 and the count of words at place 3, both in two bytes, and
+-- exactly so many words. The byte count counts the bytes of the count of words and of the words; it is no more than two bytes
+-- hold, so a count whose bytes do not go into it has none that agrees (section 6.18)
+unfoldable pub queue_of : List ℕ → Result (List ℕ) Reason
+queue_of pdu =
+    let bytes = word_at pdu 1 in
+    let count = word_at pdu 3 in
+    if nat_lt max_pdu (length pdu) then Err reason.SizeExceeded
+    else if nat_lt (length pdu) (fifo_head + fifo_count_size) then Err reason.UnexpectedEnd
+    else if bytes == fifo_count_size + 2 * count then
+    (if nat_lt (length pdu) (fifo_head + bytes) then Err reason.UnexpectedEnd
+    else if nat_lt (fifo_head + bytes) (length pdu) then Err reason.UndecodedData
+    else Ok (words_of (drop (fifo_head + fifo_count_size) pdu) count))
+    else Err reason.InvalidQuantity
 
 -- the run indicator: FF is on, 00 is off (section 6.13)
 abbrev pub run_status_of : ℕ → Result Bool Reason
@@ -127,6 +142,7 @@ answered_by code pdu =
     else if code == number.report_server_id then (server_id_of pdu >>= λ x. Ok (response.ReportServerId x.0 x.1 x.2))
     else if code == number.mask_write_register then (three_words_of pdu >>= λ x. Ok (response.MaskWriteRegister x.0 x.1 x.2))
     else if code == number.read_write_multiple_registers then (words_read_of pdu >>= λ words. Ok (response.ReadWriteMultipleRegisters words))
+    else if code == number.read_fifo_queue then (queue_of pdu >>= λ words. Ok (response.ReadFifoQueue words))
     else if code == number.encapsulated_interface_transport then (device_identification_of pdu >>= λ found. Ok (response.ReadDeviceIdentification found))
     else Ok (response.Custom code (drop 1 pdu))
 
@@ -160,6 +176,7 @@ CarriesMemory (response.ReadDiscreteInputs coils) = ⊤
 CarriesMemory (response.ReadInputRegisters words) = ⊤
 CarriesMemory (response.ReadHoldingRegisters words) = ⊤
 CarriesMemory (response.ReadWriteMultipleRegisters words) = ⊤
+CarriesMemory (response.ReadFifoQueue words) = ⊤
 CarriesMemory (response.ReportServerId id run extra) = ⊤
 CarriesMemory (response.ReadDeviceIdentification found) = ⊤
 CarriesMemory (response.Custom code bytes) = ⊤

@@ -9,7 +9,7 @@ use Rattle.modbus_frame.specs.declared.response.Response.{Response}
 use Rattle.modbus_frame.specs.declared.response.Response.TheVariants as response
 use Rattle.modbus_frame.specs.declared.response.ExceptionResponse.{ExceptionResponse}
 use Rattle.modbus_frame.specs.FunctionCodes as number
-use Rattle.modbus_pdu.specs.Limits.{mei_device_identification}
+use Rattle.modbus_pdu.specs.Limits.{mei_device_identification, fifo_count_size}
 use Rattle.modbus_pdu.specs.Fields.{packed, packed_size, coil_word}
 use Rattle.modbus_pdu.specs.Writing.{word, words}
 
@@ -46,6 +46,7 @@ response_pdu (response.WriteMultipleRegisters address quantity) = number.write_m
 response_pdu (response.ReportServerId id run extra) = number.report_server_id ∷ (2 + length extra) ∷ id ∷ flag run ∷ extra
 response_pdu (response.MaskWriteRegister address and_mask or_mask) = number.mask_write_register ∷ word address ++ word and_mask ++ word or_mask
 response_pdu (response.ReadWriteMultipleRegisters registers) = number.read_write_multiple_registers ∷ (2 * length registers) ∷ words registers
+response_pdu (response.ReadFifoQueue registers) = number.read_fifo_queue ∷ word (fifo_count_size + 2 * length registers) ++ word (length registers) ++ words registers
 response_pdu (response.ReadDeviceIdentification found) = device_identification_pdu found
 response_pdu (response.Custom code bytes) = code ∷ bytes
 

@@ -47,7 +47,9 @@ fn request_is_in_range(request: &Request<'_>)
         | Request::WriteSingleRegister(address, word) => {
             let _numbers = (*address, *word);
         }
-        Request::WriteSingleCoil(address, _) | Request::WriteMultipleCoils(address, _) => {
+        Request::WriteSingleCoil(address, _)
+        | Request::WriteMultipleCoils(address, _)
+        | Request::ReadFifoQueue(address) => {
             let _address = *address;
         }
         Request::WriteMultipleRegisters(address, registers) => {

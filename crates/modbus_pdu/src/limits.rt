@@ -28,6 +28,9 @@ pub const MAX_WRITE_REGISTERS: usize = 123;
 /// The most registers that a read and write writes (V1.1b3, section 6.17).
 pub const MAX_READ_WRITE_REGISTERS: usize = 121;
 
+/// The most registers of a queue (V1.1b3, section 6.18).
+pub const MAX_FIFO_COUNT: usize = 31;
+
 /// The MEI type of device identification (V1.1b3, section 6.21).
 pub const MEI_DEVICE_IDENTIFICATION: u8 = 0x0E;
 
@@ -64,6 +67,12 @@ pub const READ_HEAD: usize = 2;
 
 /// The bytes before the data of a server: the function code, the byte count, an id and the run indicator (V1.1b3, section 6.13).
 pub(crate) const SERVER_ID_HEAD: usize = 4;
+
+/// The bytes of a queue that its byte count does not count: the function code and the byte count (V1.1b3, section 6.18).
+pub const FIFO_HEAD: usize = 3;
+
+/// The bytes of the count of a queue's registers, which its byte count counts too (V1.1b3, section 6.18).
+pub(crate) const FIFO_COUNT_SIZE: usize = 2;
 
 /// The bytes before the objects of a device identification, the last of which is their number (V1.1b3, section 6.21).
 pub const IDENTIFICATION_HEAD: usize = 7;

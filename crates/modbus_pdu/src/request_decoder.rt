@@ -7,7 +7,7 @@ ghost use Rattle.modbus_frame.specs.Codes.{function_number};
 ghost use Rattle.modbus_frame.specs.FunctionCodes.{exception_bit, read_coils, read_discrete_inputs, read_holding_registers, read_input_registers, write_single_coil, write_single_register};
 ghost use Rattle.modbus_frame.specs.Meaning.{meaning, function_asked};
 ghost use Rattle.modbus_pdu.specs.Decoding.{Decodes};
-ghost use Rattle.modbus_pdu.specs.RequestOf.{CarriesList, asked_by, coils_written_of, identification_of, read_write_of, registers_at, request_of, single_coil_of, three_words_of, two_words_of, words_written_of};
+ghost use Rattle.modbus_pdu.specs.RequestOf.{CarriesList, asked_by, coils_written_of, identification_of, one_word_of, read_write_of, registers_at, request_of, single_coil_of, three_words_of, two_words_of, words_written_of};
 
 use crate::coils::{coil_to_bool, decode_packed_coils};
 use crate::cursor::Cursor;
@@ -18,7 +18,7 @@ use modbus_frame::{Address, Coil, Coils, PduError, Quantity, ReadCode, Reason, R
 use std::alloc::Global;
 use std::borrow::CowSlice;
 
-/// The request of a PDU (V1.1b3, sections 6.1 to 6.6, 6.11 to 6.13, 6.16, 6.17 and 6.21).
+/// The request of a PDU (V1.1b3, sections 6.1 to 6.6, 6.11 to 6.13, 6.16 to 6.18 and 6.21).
 ///
 /// A function code below `EXCEPTION_BIT` that stands for none of these kinds gives a custom request with the
 /// bytes after it. Quantities of reads are not judged.
@@ -139,6 +139,10 @@ fn request_of_other_fields(
                 CowSlice::Owned(words),
             ))
         }
+        function_code::READ_FIFO_QUEUE => {
+            let address = one_word(cursor)?;
+            Ok(Request::ReadFifoQueue(address))
+        }
         function_code::ENCAPSULATED_INTERFACE_TRANSPORT => {
             let (code, id) = identification(cursor)?;
             Ok(Request::ReadDeviceIdentification(code, id))
@@ -149,6 +153,17 @@ fn request_of_other_fields(
             Ok(Request::Custom(code, CowSlice::Owned(data)))
         }
     }
+}
+
+/// An address.
+#[tactic(auto, unfolding(crate::specs::RequestOf::one_word_of))]
+fn one_word(mut cursor: Cursor<'_>) -> Result<u16, Reason>
+    requires { cursor.at ≡ 1 }
+    ensures { result ≡ one_word_of cursor.entry.bytes.now }
+{
+    let address = cursor.word()?;
+    cursor.finish()?;
+    Ok(address)
 }
 
 /// An address, and a quantity or a value.

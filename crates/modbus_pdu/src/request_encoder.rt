@@ -8,8 +8,8 @@ ghost use Rattle.modbus_pdu.specs.RequestPdu.{counted_registers, request_pdu};
 
 use crate::coils::{bool_to_coil, packed_coils_size, put_packed_coils};
 use crate::limits::{
-    CODE_PDU, IDENTIFICATION_REQUEST, MEI_DEVICE_IDENTIFICATION, READ_WRITE_HEAD, THREE_WORDS_PDU,
-    TWO_WORDS_PDU, TooLong, WRITE_HEAD, within_limit,
+    CODE_PDU, IDENTIFICATION_REQUEST, MEI_DEVICE_IDENTIFICATION, ONE_WORD_PDU, READ_WRITE_HEAD,
+    THREE_WORDS_PDU, TWO_WORDS_PDU, TooLong, WRITE_HEAD, within_limit,
 };
 use crate::writing::{put_byte, put_word, put_words};
 use bytes::BytesMut;
@@ -29,7 +29,7 @@ pub fn request_pdu_size(request: &Request<'_>) -> Result<usize, TooLong>
 }
 
 /// Appends the PDU of a request whose size is at most `MAX_PDU` bytes (V1.1b3, sections 6.1 to 6.6, 6.11
-/// to 6.13, 6.16, 6.17 and 6.21).
+/// to 6.13, 6.16 to 6.18 and 6.21).
 ///
 /// The one error is want of memory, which leaves the bytes of the buffer as they were and comes
 /// only where the buffer had no room for the whole PDU.
@@ -72,13 +72,14 @@ fn request_len(request: &Request<'_>) -> usize
             .len()
             .saturating_mul(2)
             .saturating_add(READ_WRITE_HEAD),
+        Request::ReadFifoQueue(_) => ONE_WORD_PDU,
         Request::ReadDeviceIdentification(_, _) => IDENTIFICATION_REQUEST,
         Request::Custom(_, data) => data.len().saturating_add(CODE_PDU),
     }
 }
 
 /// Appends the PDU of a request whose size is at most `MAX_PDU` bytes (V1.1b3, sections 6.1 to 6.6, 6.11
-/// to 6.13, 6.16, 6.17 and 6.21), where the buffer has room for it.
+/// to 6.13, 6.16 to 6.18 and 6.21), where the buffer has room for it.
 #[inline(always)]
 #[tactic(auto, using(crate::proofs::Sizes::sizes), unfolding(crate::specs::RequestPdu::request_pdu))]
 pub fn put_request_pdu(buf: &mut BytesMut, request: &Request<'_>)
@@ -123,6 +124,7 @@ pub fn put_request_pdu(buf: &mut BytesMut, request: &Request<'_>)
             put_word(buf, *write_address);
             put_registers(buf, registers.as_slice());
         }
+        Request::ReadFifoQueue(address) => put_word(buf, *address),
         Request::ReadDeviceIdentification(code, id) => {
             put_byte(buf, MEI_DEVICE_IDENTIFICATION);
             put_byte(buf, code.value());

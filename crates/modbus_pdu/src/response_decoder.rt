@@ -4,12 +4,12 @@
 //! is defined by places of the whole PDU (MODBUS Application Protocol V1.1b3, section 6).
 ghost use Rattle.std.specs.Prelude.{◌≡◌, ◌≤◌, length, Err, IfOk, IsOk, IsOkAnd};
 ghost use Rattle.modbus_pdu.specs.Decoding.{Decodes};
-ghost use Rattle.modbus_pdu.specs.ResponseOf.{AnswerCarriesMemory, CarriesMemory, coils_read_of, words_read_of, run_status_of, server_id_of, object_at, objects_at, place_after, device_identification_of, answered_by, response_of, response_result_of};
+ghost use Rattle.modbus_pdu.specs.ResponseOf.{AnswerCarriesMemory, CarriesMemory, coils_read_of, words_read_of, queue_of, run_status_of, server_id_of, object_at, objects_at, place_after, device_identification_of, answered_by, response_of, response_result_of};
 
 use crate::coils::decode_packed_coils;
 use crate::cursor::Cursor;
 use crate::exception::decode_exception;
-use crate::limits::{FLAG_OFF, FLAG_ON, MAX_PDU, MEI_DEVICE_IDENTIFICATION};
+use crate::limits::{FIFO_COUNT_SIZE, FLAG_OFF, FLAG_ON, MAX_PDU, MEI_DEVICE_IDENTIFICATION};
 use crate::request_decoder::{single_coil, three_words, two_words};
 use crate::words::decode_words;
 use bytes::Bytes;
@@ -59,6 +59,29 @@ fn words_read(alloc: Global, mut cursor: Cursor<'_>) -> Result<Words, PduError>
         return Err(PduError::Refused(Reason::UndecodedData));
     }
     Ok(Words::new(decode_words(alloc, words, count / 2)?))
+}
+
+/// The words of a queue after the byte count and their count.
+#[tactic(auto, unfolding(crate::specs::ResponseOf::queue_of))]
+fn queue(alloc: Global, mut cursor: Cursor<'_>) -> Result<Words, PduError>
+    requires { cursor.at ≡ 1 }
+    ensures value { Decodes (λ words. words) result (queue_of cursor.entry.bytes.now) }
+    ensures memory { result ≡ Err PduError.NoMemory → IsOk (queue_of cursor.entry.bytes.now) }
+{
+    cursor.check_size()?;
+    let byte_count = cursor.word()? as usize;
+    let count = cursor.word()? as usize;
+    if byte_count != FIFO_COUNT_SIZE + 2 * count {
+        return Err(PduError::Refused(Reason::InvalidQuantity));
+    }
+    let words = cursor.rest();
+    if words.len() < 2 * count {
+        return Err(PduError::Refused(Reason::UnexpectedEnd));
+    }
+    if words.len() > 2 * count {
+        return Err(PduError::Refused(Reason::UndecodedData));
+    }
+    Ok(Words::new(decode_words(alloc, words, count)?))
 }
 
 /// Whether a run indicator is on.
@@ -257,6 +280,10 @@ fn answered(alloc: Global, code: u8, pdu: &Bytes, cursor: Cursor<'_>) -> Result<
         function_code::READ_WRITE_MULTIPLE_REGISTERS => {
             let words = words_read(alloc, cursor)?;
             Ok(Response::ReadWriteMultipleRegisters(words))
+        }
+        function_code::READ_FIFO_QUEUE => {
+            let words = queue(alloc, cursor)?;
+            Ok(Response::ReadFifoQueue(words))
         }
         function_code::ENCAPSULATED_INTERFACE_TRANSPORT => {
             let found = device_identification(alloc, pdu)?;

@@ -8,18 +8,19 @@ ghost use Rattle.std.specs.List.{AllByRecursion};
 ghost use Rattle.std.specs.Result.{ForErr};
 ghost use Rattle.bytes.specs.Filled.{UsesSpare};
 ghost use Rattle.modbus_frame.specs.Codes.{function_number};
-ghost use Rattle.modbus_frame.specs.FunctionCodes.{exception_bit};
+ghost use Rattle.modbus_frame.specs.FunctionCodes.{exception_bit, read_fifo_queue};
 ghost use Rattle.modbus_pdu.specs.Coding.{Fits, told_size};
 ghost use Rattle.modbus_pdu.specs.Fields.{packed, packed_size};
-ghost use Rattle.modbus_pdu.specs.Limits.{max_pdu};
-ghost use Rattle.modbus_pdu.specs.Writing.{words};
+ghost use Rattle.modbus_pdu.specs.Limits.{fifo_count_size, max_pdu};
+ghost use Rattle.modbus_pdu.specs.Writing.{word, words};
 ghost use Rattle.modbus_pdu.specs.ResponsePdu.{flag, objects, device_identification_pdu, response_pdu, response_result_pdu};
 
 use crate::coils::{bool_to_coil, packed_coils_size, put_packed_coils};
 use crate::exception::{encode_exception_response_pdu, put_exception};
 use crate::limits::{
-    CODE_PDU, FLAG_OFF, FLAG_ON, IDENTIFICATION_HEAD, MEI_DEVICE_IDENTIFICATION, ONE_BYTE_PDU,
-    READ_HEAD, SERVER_ID_HEAD, THREE_WORDS_PDU, TWO_WORDS_PDU, TooLong, within_limit,
+    CODE_PDU, FIFO_COUNT_SIZE, FIFO_HEAD, FLAG_OFF, FLAG_ON, IDENTIFICATION_HEAD,
+    MEI_DEVICE_IDENTIFICATION, ONE_BYTE_PDU, READ_HEAD, SERVER_ID_HEAD, THREE_WORDS_PDU,
+    TWO_WORDS_PDU, TooLong, within_limit,
 };
 use crate::writing::{put_byte, put_word, put_words};
 use bytes::BytesMut;
@@ -67,6 +68,11 @@ fn response_len(response: &Response) -> usize
             .len()
             .saturating_add(SERVER_ID_HEAD),
         Response::MaskWriteRegister(_, _, _) => THREE_WORDS_PDU,
+        Response::ReadFifoQueue(words) => words
+            .as_slice()
+            .len()
+            .saturating_mul(2)
+            .saturating_add(FIFO_HEAD + FIFO_COUNT_SIZE),
         Response::ReadDeviceIdentification(found) => objects_len(
             found.device_id_objects.as_slice(),
         ).saturating_add(IDENTIFICATION_HEAD),
@@ -125,6 +131,21 @@ fn put_words_read(buf: &mut BytesMut, code: u8, registers: &[Word])
 {
     put_byte(buf, code);
     put_byte(buf, (2 * registers.len()) as u8);
+    put_words(buf, registers);
+}
+
+/// The function code of a queue, the byte count, the count of the words, and these.
+fn put_queue(buf: &mut BytesMut, registers: &[Word])
+    requires fits { 2 * length registers.now < 256 }
+    requires room { 5 + 2 * length registers.now ≤ buf.old.spare }
+    ensures items { buf.new.items ≡ buf.old.items ++ read_fifo_queue
+        ∷ word (fifo_count_size + 2 * length registers.now) ++ word (length registers.now)
+        ++ words registers.now }
+    ensures spare { buf.new.spare + 5 + 2 * length registers.now ≡ buf.old.spare }
+{
+    put_byte(buf, function_code::READ_FIFO_QUEUE);
+    put_word(buf, (FIFO_COUNT_SIZE + 2 * registers.len()) as u16);
+    put_word(buf, registers.len() as u16);
     put_words(buf, registers);
 }
 
@@ -237,6 +258,7 @@ fn put_response(buf: &mut BytesMut, response: &Response)
             function_code::READ_WRITE_MULTIPLE_REGISTERS,
             words.as_slice(),
         ),
+        Response::ReadFifoQueue(words) => put_queue(buf, words.as_slice()),
         Response::ReadDeviceIdentification(found) => put_device_identification(buf, found),
         Response::Custom(code, data) => {
             put_byte(buf, *code);
