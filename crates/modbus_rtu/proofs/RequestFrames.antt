@@ -1,7 +1,7 @@
 -- The first bytes of a request of a modelled kind tell its length.
 use Rattle.std.proofs.Common.{◌≡◌, ℕ, List, [], ◌∷◌, map, length, Some, Ok, refl, sym, ap, ◌∙◌}
 use Rattle.std.specs.List.{AllByRecursion}
-use Rattle.modbus_frame.specs.Meaning.{Asked, ReadCoils, ReadDiscreteInputs, WriteSingleCoil, WriteMultipleCoils, ReadInputRegisters, ReadHoldingRegisters, WriteSingleRegister, WriteMultipleRegisters, ReportServerId, MaskWriteRegister, ReadWriteMultipleRegisters, ReadDeviceIdentification, Custom}
+use Rattle.modbus_frame.specs.Meaning.{Asked, ReadCoils, ReadDiscreteInputs, WriteSingleCoil, WriteMultipleCoils, ReadInputRegisters, ReadHoldingRegisters, WriteSingleRegister, WriteMultipleRegisters, ReportServerId, MaskWriteRegister, ReadWriteMultipleRegisters, ReadFifoQueue, ReadDeviceIdentification, Custom}
 use Rattle.modbus_pdu.specs.Laws.{request_size}
 use Rattle.modbus_pdu.specs.RequestPdu.{request_pdu}
 use Rattle.modbus_rtu.specs.Frame.{head, rule}
@@ -20,6 +20,7 @@ head_size slave (WriteMultipleRegisters address words) is = refl
 head_size slave ReportServerId is = refl
 head_size slave (MaskWriteRegister address and_mask or_mask) is = refl
 head_size slave (ReadWriteMultipleRegisters read_address quantity write_address words) is = refl
+head_size slave (ReadFifoQueue address) is = refl
 head_size slave (ReadDeviceIdentification code id) is = refl
 head_size slave (Custom code bytes) is = absurd is
 

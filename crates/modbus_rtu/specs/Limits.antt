@@ -55,10 +55,6 @@ most_objects_end = first_object + max_byte_count * longest_object
 abbrev pub longest_identification : ℕ
 longest_identification = most_objects_end + checksum
 
--- the bytes of a response to Read FIFO Queue that its byte count doesn't count: the function code and the byte count (V1.1b3, 6.18)
-abbrev pub fifo_head : ℕ
-fifo_head = 3
-
 -- the greatest number of two bytes
 abbrev pub max_word : ℕ
 max_word = 65535

@@ -4,9 +4,9 @@ use Rattle.std.specs.Prelude.{◌≡◌, ℕ, zero, suc, ◌+◌, ◌-◌, ◌*�
 use Rattle.std.specs.Option.{option_map}
 use Rattle.modbus_rtu.specs.declared.verdict.Verdict.{Verdict}
 use Rattle.modbus_frame.specs.FunctionCodes as number
-use Rattle.modbus_pdu.specs.Limits.{mei_device_identification, one_byte_pdu, two_words_pdu, three_words_pdu, read_head}
+use Rattle.modbus_pdu.specs.Limits.{mei_device_identification, one_byte_pdu, two_words_pdu, three_words_pdu, read_head, fifo_head}
 use Rattle.modbus_rtu.specs.Frame.{Head, judged_by}
-use Rattle.modbus_rtu.specs.Limits.{slave_address, overhead, object_count, first_object, object_head, fifo_head}
+use Rattle.modbus_rtu.specs.Limits.{slave_address, overhead, object_count, first_object, object_head}
 
 pub data ResponseRule : Type 0 where
   fixed : ℕ → ResponseRule

@@ -2,15 +2,16 @@
 ghost use Rattle.std.specs.Prelude.{◌≡◌, ◌≢◌, ℕ, ◌+◌, ◌-◌, ◌*◌, ◌<◌, ◌≤◌, IfOk, IfNone, IfSome, IsErr, Ok, None, List, length, slice_get};
 ghost use Rattle.std.specs.Option.{option_map};
 ghost use Rattle.modbus_rtu.specs.ResponseHead.{after_object, after_objects, held_len, identified_len, response_head, word_len};
-ghost use Rattle.modbus_rtu.specs.Limits.{slave_address, overhead, first_object, longest_object, most_objects_end, longest_identification, fifo_head, max_word};
+ghost use Rattle.modbus_rtu.specs.Limits.{slave_address, overhead, first_object, longest_object, most_objects_end, longest_identification, max_word};
+ghost use Rattle.modbus_pdu.specs.Limits.{fifo_head};
 
 use crate::length::{
     CHECKSUM, LengthRule, MAX_BYTE_COUNT, NoLength, OVERHEAD, SLAVE_ADDRESS, counted_len,
 };
 use modbus_frame::function_code::{self, EXCEPTION_BIT};
 use modbus_pdu::{
-    IDENTIFICATION_HEAD, MEI_DEVICE_IDENTIFICATION, ONE_BYTE_PDU, READ_HEAD, THREE_WORDS_PDU,
-    TWO_WORDS_PDU,
+    FIFO_HEAD, IDENTIFICATION_HEAD, MEI_DEVICE_IDENTIFICATION, ONE_BYTE_PDU, READ_HEAD,
+    THREE_WORDS_PDU, TWO_WORDS_PDU,
 };
 
 /// The place of the number of objects of a device identification, the last byte of its head.
@@ -27,10 +28,6 @@ const OBJECT_HEAD: usize = 2;
 pub const LONGEST_IDENTIFICATION: usize = FIRST_OBJECT
     + MAX_BYTE_COUNT * (OBJECT_HEAD + MAX_BYTE_COUNT)
     + CHECKSUM;
-
-/// How many bytes of a response to Read FIFO Queue stand before those that its byte count counts: the function code and the byte
-/// count (V1.1b3, section 6.18).
-const FIFO_HEAD: usize = 3;
 
 /// The exceptions of the first and of the last function code (V1.1b3, section 7).
 const FIRST_EXCEPTION: u8 = EXCEPTION_BIT + function_code::READ_COILS;
