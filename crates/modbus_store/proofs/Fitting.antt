@@ -1,19 +1,19 @@
 -- Each answer of a store fits a PDU.
-use Rattle.std.proofs.Common.{◌≡◌, ℕ, ◌≤◌, Bool, true, false, cond, ◌&&◌, leb, eqb, List, length, drop, refl, arith}
+use Rattle.std.proofs.Common.{◌≡◌, ℕ, ◌+◌, ◌≤◌, Bool, true, false, cond, ◌&&◌, leb, eqb, List, length, drop, refl, arith}
 use Rattle.std.proofs.lemmas.List.{length-take}
 use Rattle.std.proofs.lemmas.Bool.{leb-true}
 use Rattle.modbus_frame.specs.declared.code.ExceptionCode.{ExceptionCode}
 use Rattle.modbus_frame.specs.declared.code.ExceptionCode.TheVariants as code
 use Rattle.modbus_frame.specs.declared.response.Response.{Response}
 use Rattle.modbus_frame.specs.declared.response.Response.TheVariants as response
-use Rattle.modbus_frame.specs.Meaning.{Asked, ReadCoils, ReadDiscreteInputs, WriteSingleCoil, WriteMultipleCoils, ReadInputRegisters, ReadHoldingRegisters, WriteSingleRegister, WriteMultipleRegisters, ReportServerId, MaskWriteRegister, ReadWriteMultipleRegisters, ReadDeviceIdentification, Custom}
+use Rattle.modbus_frame.specs.Meaning.{Asked, ReadCoils, ReadDiscreteInputs, WriteSingleCoil, WriteMultipleCoils, ReadInputRegisters, ReadHoldingRegisters, WriteSingleRegister, WriteMultipleRegisters, ReportServerId, MaskWriteRegister, ReadWriteMultipleRegisters, ReadFifoQueue, ReadDeviceIdentification, Custom}
 use Rattle.modbus_pdu.specs.declared.limits.TheConstants.{MAX_PDU}
-use Rattle.modbus_pdu.specs.Limits.{max_read_coils, max_write_coils, max_read_registers, max_write_registers, max_read_write_registers}
+use Rattle.modbus_pdu.specs.Limits.{max_read_coils, max_write_coils, max_read_registers, max_write_registers, max_read_write_registers, max_fifo_count}
 use Rattle.modbus_pdu.specs.ResponseLaws.{response_size}
 use Rattle.modbus_pdu.specs.ResponsePdu.{response_pdu}
 use Rattle.modbus_service.specs.Outcome.{Outcome, silence, reply, exception, reply_pdu}
 use Rattle.modbus_store.specs.Tables.{Tables, entries, written}
-use Rattle.modbus_store.specs.Step.{counts, inside, checked, both_count, both_inside, step_of, store_step}
+use Rattle.modbus_store.specs.Step.{counts, inside, checked, both_count, both_inside, is_queue_count, queue_count, step_of, store_step}
 
 abbrev IsShort : ℕ → Outcome → Type 0
 IsShort n outcome = length (reply_pdu n outcome) ≤ MAX_PDU
@@ -65,6 +65,9 @@ module _ (sizes : (r : Response) → length (response_pdu r) ≡ response_size r
   both_fit : (n a m : ℕ) (table : List ℕ) → m ≤ max_read_registers → IsShort n (reply (response.ReadWriteMultipleRegisters (entries a m table)))
   both_fit n a m table most = reply_fits n _ (omega (arith, length-take m (drop a table)))
 
+  queue_fits : (n a m : ℕ) (table : List ℕ) → m ≤ max_fifo_count → IsShort n (reply (response.ReadFifoQueue (entries a m table)))
+  queue_fits n a m table most = reply_fits n _ (omega (arith, length-take m (drop a table)))
+
   step_fits : (n : ℕ) (t : Tables) (request : Asked) → IsShort n (step_of t request).0
   unfolding step_of
   step_fits n t (ReadCoils a m) = checked_fits n (counts max_read_coils m) (inside (length t.coils) a m) _ t (λ e. coils_fit n a m t.coils (most_of max_read_coils m e))
@@ -78,6 +81,10 @@ module _ (sizes : (r : Response) → length (response_pdu r) ≡ response_size r
   step_fits n t (MaskWriteRegister a b c) = checked_fits n true (inside (length t.holding_registers) a 1) _ t (λ e. reply_fits n _ (omega arith))
   step_fits n t (ReadWriteMultipleRegisters a m b ws) = checked_fits n (both_count m (length ws)) (both_inside (length t.holding_registers) a m b (length ws)) _ t
       (λ e. both_fit n a m (written b ws t.holding_registers) (most_of max_read_registers m (left (counts max_read_registers m) (counts max_read_write_registers (length ws)) e)))
+  step_fits n t (ReadFifoQueue a) =
+      let m = queue_count a t.holding_registers in
+      checked_fits n true (inside (length t.holding_registers) a 1) _ t
+      (λ e. checked_fits n (is_queue_count m) (inside (length t.holding_registers) (a + 1) m) _ t (λ e. queue_fits n (a + 1) m t.holding_registers (leb-true m max_fifo_count e)))
   step_fits n t ReportServerId = exception_fits n code.IllegalFunction
   step_fits n t (ReadDeviceIdentification read id) = exception_fits n code.IllegalFunction
   step_fits n t (Custom function bytes) = exception_fits n code.IllegalFunction

@@ -1,5 +1,5 @@
 -- A request in two parts: its plan, which tells its response and what it changes, and the change.
-use Rattle.std.specs.Prelude.{◌≡◌, ℕ, ◌⊎◌, false, IsTrue, if◌then◌else◌, List, [], ◌∷◌, length, Option, Some, None, Result, Ok, Err}
+use Rattle.std.specs.Prelude.{◌≡◌, ℕ, ◌+◌, ◌⊎◌, false, IsTrue, if◌then◌else◌, List, [], ◌∷◌, length, Option, Some, None, Result, Ok, Err}
 use Rattle.modbus_frame.specs.declared.code.ExceptionCode.{ExceptionCode}
 use Rattle.modbus_frame.specs.declared.code.ExceptionCode.TheVariants as code
 use Rattle.modbus_frame.specs.declared.response.Response.{Response}
@@ -11,7 +11,7 @@ use Rattle.modbus_store.specs.declared.change.Change.{Change}
 use Rattle.modbus_store.specs.declared.change.Change.TheVariants as change
 use Rattle.modbus_store.specs.declared.plan.Planned.{Planned}
 use Rattle.modbus_store.specs.Tables.{Tables, entries, written, with_coils, with_registers}
-use Rattle.modbus_store.specs.Step.{counts, inside, both_count, both_inside, store_step, step_of, NeedsMemory}
+use Rattle.modbus_store.specs.Step.{counts, inside, both_count, both_inside, is_queue_count, queue_count, queue, store_step, step_of, NeedsMemory}
 
 -- the table with these entries from an address on, or as it was where they reach past its end
 abbrev pub overlaid : {A : Type 0} → ℕ → List A → List A → List A
@@ -64,3 +64,15 @@ ReadsAfter items t a n b words (Ok found) = IsTrue (both_count n (length words))
 ReadsAfter items t a n b words (Err (Exception c)) = ((both_count n (length words) ≡ false) × (c ≡ code.IllegalDataValue))
     ⊎ (IsTrue (both_count n (length words)) × (both_inside (length t) a n b (length words) ≡ false) × (c ≡ code.IllegalDataAddress))
 ReadsAfter items t a n b words (Err NoMemory) = IsTrue (both_count n (length words)) × IsTrue (both_inside (length t) a n b (length words))
+
+-- the queue at an address may be read: its count is inside the table and not above the greatest, and so are its registers
+abbrev pub MayRead : List ℕ → ℕ → Type 0
+MayRead t a = IsTrue (inside (length t) a 1) × IsTrue (is_queue_count (queue_count a t)) × IsTrue (inside (length t) (a + 1) (queue_count a t))
+
+-- what a read of a queue answers
+abbrev pub ReadsQueue : {V : Type 0} → (V → List ℕ) → List ℕ → ℕ → Result V ServiceError → Type 0
+ReadsQueue items t a (Ok found) = MayRead t a × (items found ≡ queue a t)
+ReadsQueue items t a (Err (Exception c)) = ((inside (length t) a 1 ≡ false) × (c ≡ code.IllegalDataAddress))
+    ⊎ (IsTrue (inside (length t) a 1) × (is_queue_count (queue_count a t) ≡ false) × (c ≡ code.IllegalDataValue))
+    ⊎ (IsTrue (inside (length t) a 1) × IsTrue (is_queue_count (queue_count a t)) × (inside (length t) (a + 1) (queue_count a t) ≡ false) × (c ≡ code.IllegalDataAddress))
+ReadsQueue items t a (Err NoMemory) = MayRead t a

@@ -1,12 +1,12 @@
 -- One step of a register store: the outcome of a request, and the tables after it (Modbus Application Protocol V1.1b3, sections 6
 -- and 7).
-use Rattle.std.specs.Prelude.{◌≡◌, ◌≢◌, ℕ, ◌+◌, ◌-◌, ◌==◌, ◌&&◌, nat_le, Bool, true, if◌then◌else◌, [], ◌∷◌, length, bit_and, bit_or, slice_index}
+use Rattle.std.specs.Prelude.{◌≡◌, ◌≢◌, ℕ, ◌+◌, ◌-◌, ◌==◌, ◌&&◌, nat_le, Bool, true, if◌then◌else◌, List, [], ◌∷◌, length, bit_and, bit_or, slice_index}
 use Rattle.modbus_frame.specs.declared.code.ExceptionCode.{ExceptionCode}
 use Rattle.modbus_frame.specs.declared.code.ExceptionCode.TheVariants as code
 use Rattle.modbus_frame.specs.declared.response.Response.TheVariants as response
 use Rattle.modbus_frame.specs.Meaning.{Asked}
 use Rattle.modbus_frame.specs.Meaning as asked
-use Rattle.modbus_pdu.specs.Limits.{max_read_coils, max_write_coils, max_read_registers, max_write_registers, max_read_write_registers}
+use Rattle.modbus_pdu.specs.Limits.{max_read_coils, max_write_coils, max_read_registers, max_write_registers, max_read_write_registers, max_fifo_count}
 use Rattle.modbus_service.specs.Outcome.{Outcome, silence, reply, exception}
 use Rattle.modbus_service.specs.Answering.{Answering, steady}
 use Rattle.modbus_store.specs.Tables.{Tables, entries, written, with_coils, with_registers}
@@ -36,6 +36,21 @@ both_count n m = counts max_read_registers n && counts max_read_write_registers 
 abbrev pub both_inside : ℕ → ℕ → ℕ → ℕ → ℕ → Bool
 both_inside size a n b m = inside size a n && inside size b m
 
+-- the queue whose count stands at an address: as many registers behind it as the count says (section 6.18)
+abbrev pub queue_count : ℕ → List ℕ → ℕ
+queue_count a registers = slice_index registers a
+
+abbrev pub is_queue_count : ℕ → Bool
+is_queue_count n = nat_le n max_fifo_count
+
+abbrev pub queue : ℕ → List ℕ → List ℕ
+queue a registers = entries (a + 1) (queue_count a registers) registers
+
+-- An address outside the table is told first, then a count above the greatest, and then registers outside the table.
+abbrev pub queue_checked : ℕ → List ℕ → Outcome × Tables → Tables → Outcome × Tables
+queue_checked a registers done tables = checked true (inside (length registers) a 1)
+    (checked (is_queue_count (queue_count a registers)) (inside (length registers) (a + 1) (queue_count a registers)) done tables) tables
+
 -- what a request does, whatever its slave
 unfoldable pub step_of : Tables → Asked → Outcome × Tables
 step_of t (asked.ReadCoils a n) = checked (counts max_read_coils n) (inside (length t.coils) a n)
@@ -61,6 +76,7 @@ step_of t (asked.MaskWriteRegister a and_mask or_mask) = checked true (inside (l
 step_of t (asked.ReadWriteMultipleRegisters a n b words) = checked (both_count n (length words))
     (both_inside (length t.holding_registers) a n b (length words))
     (reply (response.ReadWriteMultipleRegisters (entries a n (written b words t.holding_registers))), with_registers t (written b words t.holding_registers)) t
+step_of t (asked.ReadFifoQueue a) = queue_checked a t.holding_registers (reply (response.ReadFifoQueue (queue a t.holding_registers)), t) t
 step_of t _ = (exception code.IllegalFunction, t)
 
 -- A broadcast, where the store takes part in it, has its effect and no answer (MODBUS over Serial Line V1.02, section 2.2).

@@ -6,7 +6,7 @@ ghost use Rattle.modbus_store.specs.Planning.{Plans, Steps, changed};
 
 use crate::bounds::{check_count, check_range};
 use crate::change::{Change, write_entries};
-use crate::read::{read_after_write, read_entries};
+use crate::read::{read_after_write, read_entries, read_queue};
 use crate::store::RegisterStore;
 use modbus_frame::{Coils, ExceptionCode, Quantity, Request, Response, SlaveRequest, Word, Words};
 use modbus_pdu::{MAX_READ_COILS, MAX_READ_REGISTERS, MAX_WRITE_COILS, MAX_WRITE_REGISTERS};
@@ -221,6 +221,12 @@ pub(crate) fn step<'a, T: Target>(
             let found = read_after_write(alloc, table, *address, *quantity, *write_address, words)?;
             let response = Response::ReadWriteMultipleRegisters(Words::new(found));
             Ok(done(target, response, Change::Registers(*write_address, words)))
+        }
+        Request::ReadFifoQueue(address) => {
+            let table = target.store().holding_registers.as_slice();
+            let found = read_queue(alloc, table, *address)?;
+            let response = Response::ReadFifoQueue(Words::new(found));
+            Ok(done(target, response, Change::Nothing))
         }
         Request::ReportServerId | Request::ReadDeviceIdentification(_, _) | Request::Custom(_, _) =>
             Err(ServiceError::Exception(ExceptionCode::IllegalFunction)),

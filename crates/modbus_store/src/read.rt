@@ -1,10 +1,11 @@
 //! What a request reads of the tables (Modbus Application Protocol V1.1b3, section 6).
 ghost use Rattle.std.specs.Prelude.{◌≡◌, ◌≤◌, ◌+◌, ◌<◌, ℕ, Bool, List, Ok, Err, length, slice_index};
 ghost use Rattle.modbus_store.specs.Tables.{entries, written};
-ghost use Rattle.modbus_store.specs.Planning.{ReadsAs, ReadsAfter};
+ghost use Rattle.modbus_store.specs.Planning.{ReadsAs, ReadsAfter, ReadsQueue};
 
 use crate::bounds::{check_both, check_count, check_range};
-use modbus_frame::{Address, Quantity, Word};
+use modbus_frame::{Address, ExceptionCode, Quantity, Word};
+use modbus_pdu::MAX_FIFO_COUNT;
 use modbus_service::ServiceError;
 use std::alloc::Global;
 
@@ -57,5 +58,25 @@ pub(crate) fn read_after_write(
     for i in 0..count {
         found.push_reserved(register_after(table, usize::from(write_address), words, start + i));
     }
+    Ok(found)
+}
+
+/// The registers of the queue whose count stands at an address, which is before them (section 6.18).
+pub(crate) fn read_queue(
+    alloc: Global,
+    table: &[Word],
+    address: Address,
+) -> Result<Vec<Word>, ServiceError>
+    ensures { ReadsQueue (λ found. found.items) table.now address result }
+{
+    check_range(table.len(), address, 1)?;
+    let first = usize::from(address) + 1;
+    let count = usize::from(table[first - 1]);
+    if count > MAX_FIFO_COUNT {
+        return Err(ServiceError::Exception(ExceptionCode::IllegalDataValue));
+    }
+    // The count is inside the table, so the registers behind it are inside where both together are.
+    check_range(table.len(), address, 1 + count)?;
+    let found = Vec::from_slice(alloc, &table[first..first + count])?;
     Ok(found)
 }
