@@ -2,7 +2,7 @@
 use Rattle.std.specs.Prelude.{◌≡◌, ◌≢◌, ℕ, List, [], ◌∷◌, ◌++◌, map, All}
 use Rattle.modbus_server.specs.declared.error.ProcessError.{ProcessError}
 use Rattle.modbus_server.specs.declared.error.ProcessError.TheVariants.{InvalidLength}
-use Rattle.modbus_pdu.specs.declared.limits.TheConstants.{MAX_PDU}
+use Rattle.modbus_pdu.specs.Limits.{max_pdu}
 use Rattle.modbus_server.specs.Framing.{Framing}
 
 abbrev pub bytes_of : List (ℕ × List ℕ) → List ℕ
@@ -40,8 +40,12 @@ pub record AreOnlyBytes (bytes : List ℕ) (messages : List (ℕ × List ℕ)) :
 abbrev pub IsEmpty : List ℕ → Type 0
 IsEmpty held = held ≡ []
 
-abbrev pub IsSixteen : List ℕ → ℕ → Type 0
-IsSixteen bytes room = room ≡ 16
+-- the room of a read in bytes
+abbrev pub read_room : ℕ
+read_room = 16
+
+abbrev pub HasWholeRoom : List ℕ → ℕ → Type 0
+HasWholeRoom bytes room = room ≡ read_room
 
 abbrev pub singles : Framing
 singles = record {
@@ -54,9 +58,9 @@ singles = record {
   IsBroken = IsZeroAfter;
   IsClean = AreOnlyBytes;
   Waits = IsEmpty;
-  room = λ held. 16;
-  most = 16;
-  HasRoom = IsSixteen;
+  room = λ held. read_room;
+  most = read_room;
+  HasRoom = HasWholeRoom;
   ReadsTakeMemory = Unit {0};
-  reply_room = MAX_PDU;
+  reply_room = max_pdu;
 }

@@ -3,7 +3,7 @@ use Rattle.std.proofs.Common.{◌≡◌, ◌⊎◌, inl, inr, ℕ, ◌<◌, ◌�
 use Rattle.std.specs.Prelude.{All, Contains}
 use Rattle.std.proofs.lemmas.List.Elements.{All-contains, Contains-append_right}
 use Rattle.modbus_frame.specs.declared.fault.Reason.{Reason}
-use Rattle.modbus_pdu.specs.declared.limits.TheConstants.{MAX_PDU}
+use Rattle.modbus_pdu.specs.Limits.{max_pdu}
 use Rattle.modbus_pdu.specs.RequestOf.{request_of}
 use Rattle.modbus_server.specs.Framing.{Framing, Message}
 use Rattle.modbus_server.specs.Serving.{Halt, remaining, broken, refused, too_long}
@@ -11,7 +11,7 @@ use Rattle.modbus_server.specs.First.{IsFirst}
 use Rattle.modbus_server.specs.Exchanges.{Exchange, Question, ReplyFits, told_reply_size, asked_of, asks}
 
 -- none of the exchanges that fit is too long
-pub all_fit : (F : Framing) (xs earlier later : List (Exchange F)) (x : Exchange F) (size : ℕ) → All (ReplyFits F) xs → xs ≡ earlier ++ x ∷ later → size ≡ told_reply_size F x → MAX_PDU < size → ⊥
+pub all_fit : (F : Framing) (xs earlier later : List (Exchange F)) (x : Exchange F) (size : ℕ) → All (ReplyFits F) xs → xs ≡ earlier ++ x ∷ later → size ≡ told_reply_size F x → max_pdu < size → ⊥
 all_fit F xs earlier later x size fit e is long =
     let within : Contains (earlier ++ x ∷ later) x = Contains-append_right earlier (x ∷ later) x (0, omega arith, refl) in
     let fits : ReplyFits F x = All-contains (ReplyFits F) xs x fit (subst (λ ys. Contains ys x) (sym e) within) in

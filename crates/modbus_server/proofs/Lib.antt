@@ -16,5 +16,6 @@ pub mod RtuLine
 pub mod RtuFaults
 pub mod RtuOneFault
 pub mod Unspawned
+pub mod Counting
 pub mod Rooms
 pub mod AtOpening

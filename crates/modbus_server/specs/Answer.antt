@@ -3,7 +3,7 @@ use Rattle.std.specs.Prelude.{◌≡◌, ◌≢◌, ◌⊎◌, ℕ, ◌<◌, Lis
 use Rattle.modbus_frame.specs.Meaning.{Asked}
 use Rattle.modbus_frame.specs.declared.response.Response.{Response}
 use Rattle.modbus_frame.specs.declared.response.ExceptionResponse.{ExceptionResponse}
-use Rattle.modbus_pdu.specs.declared.limits.TheConstants.{MAX_PDU}
+use Rattle.modbus_pdu.specs.Limits.{max_pdu}
 use Rattle.modbus_pdu.specs.Coding.{Fits, told_size}
 use Rattle.modbus_pdu.specs.RequestOf.{request_of, CarriesList}
 use Rattle.modbus_pdu.specs.ResponsePdu.{response_result_pdu}
@@ -30,7 +30,7 @@ WantsFor F A message old new =
 abbrev pub FramesAs : (F : Framing) → F.Header → Result Response ExceptionResponse → Result Answer AnswerError → List ℕ → Type 0
 FramesAs F header given (Ok Framed) made = Fits (response_result_pdu given) × (made ≡ F.adu header (response_result_pdu given))
 FramesAs F header given (Ok Quiet) made = ⊥
-FramesAs F header given (Err (TooLong size)) made = (MAX_PDU < length (response_result_pdu given)) × (size ≡ told_size (response_result_pdu given))
+FramesAs F header given (Err (TooLong size)) made = (max_pdu < length (response_result_pdu given)) × (size ≡ told_size (response_result_pdu given))
 FramesAs F header given (Err (Refused reason)) made = ⊥
 FramesAs F header given (Err NoMemory) made = ⊥
 
@@ -41,5 +41,5 @@ AnswersAs F A message old (Ok Framed) new made =
 AnswersAs F A message old (Ok Quiet) new made = (x : Exchange F) × Answered F A message old new x × ReplyFits F x × (x.outcome ≡ silence) × (made ≡ [])
 AnswersAs F A message old (Err (Refused reason)) new made = (request_of message.1 ≡ Err reason) × (new ≡ old)
 AnswersAs F A message old (Err (TooLong size)) new made =
-    (x : Exchange F) × Answered F A message old new x × (size ≡ told_reply_size F x) × (MAX_PDU < size)
+    (x : Exchange F) × Answered F A message old new x × (size ≡ told_reply_size F x) × (max_pdu < size)
 AnswersAs F A message old (Err NoMemory) new made = WantsFor F A message old new

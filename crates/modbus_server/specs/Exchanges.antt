@@ -3,7 +3,7 @@ use Rattle.std.specs.Prelude.{ℕ, ◌≤◌, ◌-◌, ◌^◌, min, List, [], �
 use Rattle.std.specs.List.{flat_map}
 use Rattle.modbus_frame.specs.Meaning.{Asked}
 use Rattle.modbus_frame.specs.declared.fault.Reason.{Reason}
-use Rattle.modbus_pdu.specs.declared.limits.TheConstants.{MAX_PDU}
+use Rattle.modbus_pdu.specs.Limits.{max_pdu}
 use Rattle.modbus_pdu.specs.RequestOf.{request_of}
 use Rattle.modbus_service.specs.Outcome.{Outcome, silence, reply, exception, code_of, reply_pdu}
 use Rattle.modbus_service.specs.Answering.{Answering}
@@ -50,7 +50,7 @@ told_reply_size F x = min (reply_size F x) (2 ^ 64 - 1)
 
 -- a PDU has at most 253 bytes (Modbus Application Protocol V1.1b3, section 4.1)
 abbrev pub ReplyFits : (F : Framing) → Exchange F → Type 0
-ReplyFits F x = reply_size F x ≤ MAX_PDU
+ReplyFits F x = reply_size F x ≤ max_pdu
 
 -- a message asks, under its header, what its PDU means
 abbrev pub Question : Framing → Type 0

@@ -1,7 +1,7 @@
 -- The failing place in a stream of ADUs: its first failing ADU, else its rest.
 use Rattle.std.specs.Prelude.{◌≡◌, ℕ, ◌<◌, List, ◌∷◌, ◌++◌, length, Err}
 use Rattle.modbus_frame.specs.declared.tcp.Header.{Header}
-use Rattle.modbus_pdu.specs.declared.limits.TheConstants.{MAX_PDU}
+use Rattle.modbus_pdu.specs.Limits.{max_pdu}
 use Rattle.modbus_pdu.specs.RequestOf.{request_of}
 use Rattle.modbus_tcp.specs.Stream.{Rest, no_length, foreign}
 use Rattle.modbus_server.specs.declared.error.ProcessError.TheVariants.{InvalidLength, InvalidProtocol}
@@ -23,7 +23,7 @@ HasAduFault adus kind all place (refused reason) =
 HasAduFault adus kind all place (too_long size) =
     (earlier : List (Header × List ℕ)) × (message : Header × List ℕ) × (later : List (Header × List ℕ)) × (adus ≡ earlier ++ message ∷ later)
     × (length earlier ≡ place) × (before : List (Exchange tcp)) × (x : Exchange tcp) × (after : List (Exchange tcp)) × (all ≡ before ++ x ∷ after)
-    × (length before ≡ place) × (asked_of tcp message ≡ asks tcp x) × (size ≡ told_reply_size tcp x) × (MAX_PDU < size)
+    × (length before ≡ place) × (asked_of tcp message ≡ asks tcp x) × (size ≡ told_reply_size tcp x) × (max_pdu < size)
 
 -- the first place, ADU by ADU and then the rest, where something fails, or that nothing does
 abbrev pub IsFirstAduFault : List (Header × List ℕ) → Rest → List (Exchange tcp) → Halt → Type 0

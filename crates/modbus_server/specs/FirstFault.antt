@@ -2,7 +2,7 @@
 use Rattle.std.specs.Prelude.{◌≡◌, ℕ, ◌+◌, ◌<◌, List, ◌∷◌, ◌++◌, length, Contains, Err}
 use Rattle.modbus_rtu.specs.Place.{frames_below}
 use Rattle.modbus_rtu.specs.Stands.{HasCrowd, frame_at}
-use Rattle.modbus_pdu.specs.declared.limits.TheConstants.{MAX_PDU}
+use Rattle.modbus_pdu.specs.Limits.{max_pdu}
 use Rattle.modbus_pdu.specs.RequestOf.{request_of}
 use Rattle.modbus_server.specs.declared.error.ProcessError.TheVariants.{TooManyRetries}
 use Rattle.modbus_server.specs.Exchanges.{Exchange, told_reply_size, asked_of, asks}
@@ -18,7 +18,7 @@ HasFault bytes cuts frames all place (broken _) = ⊥
 HasFault bytes cuts frames all place (refused reason) = Contains frames place × (request_of (frame_at bytes place).1 ≡ Err reason)
 HasFault bytes cuts frames all place (too_long size) =
     Contains frames place × (earlier : List (Exchange rtu)) × (x : Exchange rtu) × (later : List (Exchange rtu)) × (all ≡ earlier ++ x ∷ later)
-    × (length earlier ≡ length (frames_below place frames)) × (asked_of rtu (frame_at bytes place) ≡ asks rtu x) × (size ≡ told_reply_size rtu x) × (MAX_PDU < size)
+    × (length earlier ≡ length (frames_below place frames)) × (asked_of rtu (frame_at bytes place) ≡ asks rtu x) × (size ≡ told_reply_size rtu x) × (max_pdu < size)
 
 -- the first place, by offset, where something fails, or that nothing does
 abbrev pub IsFirstFault : List ℕ → List ℕ → List ℕ → List (Exchange rtu) → Halt → Type 0

@@ -1,4 +1,5 @@
 pub mod State
+pub mod Stage
 pub mod Framing
 pub mod Exchanges
 pub mod Answer

@@ -1,11 +1,13 @@
 -- What a listener does with the links that it is given.
-use Rattle.std.specs.Prelude.{◌≡◌, ◌⊎◌, ℕ, zero, suc, ◌+◌, ◌-◌, ◌^◌, ◌<◌, Bool, true, false, Option, Some, None, Result, Ok, Err}
+use Rattle.std.specs.Prelude.{◌≡◌, ◌≢◌, ◌⊎◌, ℕ, zero, suc, ◌+◌, ◌-◌, ◌^◌, ◌<◌, ◌≤◌, Bool, true, false, Option, Some, None, Result, Ok, Err}
 use Rattle.std.specs.declared.net.SocketAddr.{SocketAddr}
 use Rattle.modbus_frame.specs.declared.server.Terminated.{Terminated}
 use Rattle.modbus_frame.specs.declared.server.Terminated.TheVariants.{Finished, Aborted}
 use Rattle.modbus_link.specs.declared.outside.Failed.{Failed}
+use Rattle.modbus_link.specs.Outside.{Rose}
 use Rattle.modbus_server.specs.declared.error.ServeError.{ServeError}
 use Rattle.modbus_server.specs.declared.error.ServeError.TheVariants.{AcceptFault, Connect, SpawnFault, NoMemory}
+use Rattle.modbus_server.specs.Stopping.{never_set}
 
 -- what a worker of one connection has
 pub record WorkerState (L V H X : Type 0) : Type 0 where
@@ -93,6 +95,42 @@ Balances (Err NoMemory) given started = (given ≡ started) ⊎ (given ≡ start
 -- a hook, by its calls, that never rejects a connection
 abbrev pub NeverRejects : {C K L V E : Type 0} → (C → K → SocketAddr → Result (Option (V × L)) E → C → Type 0) → Type 0
 NeverRejects {C} {K} connects = (state after : C) (link : K) (address : SocketAddr) → connects state link address (Ok None) after → ⊥
+
+-- what an acceptor and a spawner count: the links that it gave, the workers that it started, and how often each failed
+pub record Counts (A P : Type 0) : Type 0 where
+  pub given : A → ℕ
+  pub accept_faults : A → ℕ
+  pub started : P → ℕ
+  pub spawn_faults : P → ℕ
+
+-- What was counted in one accept, or in accepts one after another, by the answer: a fault comes only where its count rose, and where the
+-- hook rejects no connection, each link that was given has a worker, or else the last one.
+pub record Counted {A C P K L V E H T : Type 0} (parts : Parts A C P K L V E H) (counts : Counts A P) (old new : Listener A C P) (result : Result T (ServeError E)) : Type 0 where
+  pub given : counts.given old.acceptor ≤ counts.given new.acceptor
+  pub started : counts.started old.spawner ≤ counts.started new.spawner
+  pub accept_faults : counts.accept_faults old.acceptor ≤ counts.accept_faults new.acceptor
+  pub spawn_faults : counts.spawn_faults old.spawner ≤ counts.spawn_faults new.spawner
+  pub accept_fault : result ≡ Err AcceptFault → Rose (counts.accept_faults old.acceptor) (counts.accept_faults new.acceptor)
+  pub spawn_fault : result ≡ Err SpawnFault → Rose (counts.spawn_faults old.spawner) (counts.spawn_faults new.spawner)
+  pub balance : NeverRejects parts.connects → Exact (counts.given new.acceptor) → Exact (counts.started new.spawner)
+      → Balances result (counts.given new.acceptor - counts.given old.acceptor) (counts.started new.spawner - counts.started old.spawner)
+
+-- a signal to stop: how often it said that it is set, and what a look at it says
+pub record Signal (X : Type 0) : Type 1 where
+  pub stops : X → ℕ
+  pub looks : X → Bool → X → Type 0
+
+-- a signal that is never set
+abbrev pub unsignalled : Signal (Unit {0})
+unsignalled = record { stops = λ it. 0; looks = never_set }
+
+-- What a listener promises that serves until a signal is set. What it was and the signal are told before and after.
+pub record Serves {A C P X K L V E H : Type 0} (parts : Parts A C P K L V E H) (counts : Counts A P) (signal : Signal X) (on_error : H)
+    (before after : Listener A C P × X) (result : Result Terminated (ServeError E)) : Type 0 where
+  pub finished : result ≢ Ok Finished
+  pub aborted : result ≡ Ok Aborted → Rose (signal.stops before.1) (signal.stops after.1)
+  pub counted : Counted parts counts before.0 after.0 result
+  pub accepts : Accepts parts signal.looks on_error before.0 before.1 after.0 after.1 result
 
 -- an answer of a call that is not stopped, as one of a call that may be
 abbrev pub as_stopped : {E : Type 0} → Result (Unit {0}) (ServeError E) → Result Terminated (ServeError E)

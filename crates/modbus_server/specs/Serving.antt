@@ -2,7 +2,7 @@
 use Rattle.std.specs.Prelude.{◌≡◌, ◌≢◌, ◌⊎◌, ℕ, ◌<◌, List, [], ◌∷◌, ◌++◌, map, All, Result, Ok, Err}
 use Rattle.modbus_frame.specs.Meaning.{Asked}
 use Rattle.modbus_frame.specs.declared.fault.Reason.{Reason}
-use Rattle.modbus_pdu.specs.declared.limits.TheConstants.{MAX_PDU}
+use Rattle.modbus_pdu.specs.Limits.{max_pdu}
 use Rattle.modbus_pdu.specs.RequestOf.{request_of}
 use Rattle.modbus_server.specs.declared.error.ProcessError.{ProcessError}
 use Rattle.modbus_server.specs.declared.error.ProcessError.TheVariants.{ReadFault, WriteFault, BytesRemaining, InvalidRequest, ResponseTooLong, TurnLimit, NoMemory}
@@ -58,7 +58,7 @@ Halts F A bytes cuts before ends now (refused reason) =
     (message : Message F) × F.IsNext bytes cuts before message × (request_of message.1 ≡ Err reason) × (now ≡ ends)
 Halts F A bytes cuts before ends now (too_long size) =
     (message : Message F) × F.IsNext bytes cuts before message × (x : Exchange F) × (asked_of F message ≡ asks F x)
-    × GivesOutcome F A ends x now × (size ≡ told_reply_size F x) × (MAX_PDU < size)
+    × GivesOutcome F A ends x now × (size ≡ told_reply_size F x) × (max_pdu < size)
 
 -- One run of the service answered exactly the messages before the place where the call stops with replies that fit, and these were
 -- written whole.

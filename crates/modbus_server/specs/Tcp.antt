@@ -1,15 +1,26 @@
 -- The ADUs of a TCP stream (MODBUS Messaging on TCP/IP V1.0b, section 3.1.3).
-use Rattle.std.specs.Prelude.{◌≡◌, ◌⊎◌, ℕ, List, [], ◌∷◌, ◌++◌, ◌<◌, length, All}
+use Rattle.std.specs.Prelude.{◌≡◌, ◌⊎◌, ℕ, ◌+◌, ◌-◌, List, [], ◌∷◌, ◌++◌, ◌<◌, length, All}
 use Rattle.modbus_frame.specs.declared.tcp.Header.{Header}
 use Rattle.modbus_tcp.specs.Adu.{adu_of, IsAdu, stream_of}
 use Rattle.modbus_tcp.specs.Stream.{empty, unfinished, no_length, foreign, IsSplit}
 use Rattle.modbus_tcp.specs.declared.stream.HeaderFault.{HeaderFault}
 use Rattle.modbus_tcp.specs.declared.stream.HeaderFault.TheVariants as fault
-use Rattle.modbus_tcp.specs.declared.stream.TheConstants.{LONGEST_ADU}
+use Rattle.modbus_pdu.specs.Limits.{max_pdu}
 use Rattle.modbus_server.specs.declared.error.ProcessError.{ProcessError}
 use Rattle.modbus_server.specs.declared.error.ProcessError.TheVariants.{InvalidLength, InvalidProtocol}
-use Rattle.modbus_server.specs.declared.framing.TheConstants.{MAX_ROOM}
 use Rattle.modbus_server.specs.Framing.{Framing}
+
+-- the bytes of an MBAP header
+abbrev pub header_size : ℕ
+header_size = 7
+
+-- the bytes of the longest ADU: its length, of two bytes, counts all but the first 6
+abbrev pub longest_adu : ℕ
+longest_adu = 6 + 65535
+
+-- the room of a read in bytes
+abbrev pub read_room : ℕ
+read_room = 268
 
 abbrev Adus : Type 0
 Adus = List (Header × List ℕ)
@@ -39,7 +50,7 @@ told_fault (fault.InvalidProtocol protocol) = InvalidProtocol protocol
 
 -- what is held is shorter than the longest ADU
 abbrev pub IsShort : List ℕ → Type 0
-IsShort held = length held < LONGEST_ADU
+IsShort held = length held < longest_adu
 
 -- the bytes are these ADUs, with nothing left
 abbrev pub AreOnlyAdus : List ℕ → Adus → Type 0
@@ -47,7 +58,7 @@ AreOnlyAdus bytes messages = IsSplit bytes messages [] empty
 
 -- each read has the same room
 abbrev pub HasWholeRoom : List ℕ → ℕ → Type 0
-HasWholeRoom bytes room = room ≡ MAX_ROOM
+HasWholeRoom bytes room = room ≡ read_room
 
 -- an ADU is for the unit identifier that its header tells
 abbrev pub tcp : Framing
@@ -61,9 +72,9 @@ tcp = record {
   IsBroken = IsFaultAfter;
   IsClean = AreOnlyAdus;
   Waits = IsShort;
-  room = λ held. MAX_ROOM;
-  most = 65808;
+  room = λ held. read_room;
+  most = longest_adu - 1 + read_room;
   HasRoom = HasWholeRoom;
   ReadsTakeMemory = Unit {0};
-  reply_room = 260;
+  reply_room = max_pdu + header_size;
 }

@@ -13,10 +13,11 @@ ghost use Rattle.modbus_server.specs.Taking.{FindsNext, IsFrontWithin};
 use crate::error::ProcessError;
 use bytes::BytesMut;
 use modbus_frame::{EncodeError, ExceptionResponse, Response, SlaveId};
+use modbus_rtu::CAPACITY;
 use std::alloc::{AllocError, Global};
 
-/// The most bytes that one read has room for.
-pub const MAX_ROOM: usize = 268;
+/// The most bytes that one read has room for, over every framing: the longest RTU frame.
+pub const MAX_ROOM: usize = CAPACITY;
 
 /// What stands at the front of the bytes that are held.
 #[derive(Debug, PartialEq, Eq)]

@@ -1,7 +1,7 @@
 //! The accept loop of a listener, whatever frames the messages of its connections.
-ghost use Rattle.std.specs.Prelude.{◌≡◌, ◌≢◌, ◌-◌, ◌≤◌, Ok, Err, Option, Result};
+ghost use Rattle.std.specs.Prelude.{◌≡◌, ◌≢◌, Err, Option, Result};
 ghost use Rattle.modbus_link.specs.Outside.{Rose};
-ghost use Rattle.modbus_server.specs.Listening.{AcceptsOne, AcceptsMany, AcceptsLast, Accepts, Exact, Balances, NeverRejects, unspawned, without_spawner, as_stopped, made_for};
+ghost use Rattle.modbus_server.specs.Listening.{AcceptsOne, Accepts, Counted, Serves, unsignalled, unspawned, without_spawner, as_stopped, made_for};
 ghost use Rattle.modbus_server.specs.Stopping.{never_set};
 
 use crate::error::{ProcessError, ServeError};
@@ -39,14 +39,9 @@ where
     requires can { P.can_start spawner.old }
     ensures hook { C.IsAlwaysCallable on_connected.new }
     ensures can { P.can_start spawner.new }
-    ensures accepts { A.faults acceptor.old ≤ A.faults acceptor.new }
-    ensures starts { P.faults spawner.old ≤ P.faults spawner.new }
-    ensures given { A.given acceptor.old ≤ A.given acceptor.new }
-    ensures started { P.started spawner.old ≤ P.started spawner.new }
-    ensures accept_fault { result ≡ Err ServeError.AcceptFault → Rose (A.faults acceptor.old) (A.faults acceptor.new) }
-    ensures spawn_fault { result ≡ Err ServeError.SpawnFault → Rose (P.faults spawner.old) (P.faults spawner.new) }
-    ensures balance { NeverRejects C.step → Exact (A.given acceptor.new) → Exact (P.started spawner.new)
-        → Balances result (A.given acceptor.new - A.given acceptor.old) (P.started spawner.new - P.started spawner.old) }
+    ensures counted { Counted (record { accepts = A.accepts; connects = C.step; starts = P.starts }) (record { given = A.given; accept_faults = A.faults; started = P.started; spawn_faults = P.faults })
+        (record { acceptor = acceptor.old; hook = on_connected.old; spawner = spawner.old })
+        (record { acceptor = acceptor.new; hook = on_connected.new; spawner = spawner.new }) result }
     ensures accepts_one { AcceptsOne (record { accepts = A.accepts; connects = C.step; starts = P.starts }) on_process_error
         (record { acceptor = acceptor.old; hook = on_connected.old; spawner = spawner.old })
         (record { acceptor = acceptor.new; hook = on_connected.new; spawner = spawner.new }) result }
@@ -96,15 +91,10 @@ where
     requires can { P.can_start spawner.old }
     ensures hook { C.IsAlwaysCallable on_connected.new }
     ensures can { P.can_start spawner.new }
-    ensures finished { result ≢ Ok Terminated.Finished }
-    ensures aborted { result ≡ Ok Terminated.Aborted → Rose (X.stops abort_signal.old) (X.stops abort_signal.new) }
-    ensures accept_fault { result ≡ Err ServeError.AcceptFault → Rose (A.faults acceptor.old) (A.faults acceptor.new) }
-    ensures spawn_fault { result ≡ Err ServeError.SpawnFault → Rose (P.faults spawner.old) (P.faults spawner.new) }
-    ensures balance { NeverRejects C.step → Exact (A.given acceptor.new) → Exact (P.started spawner.new)
-        → Balances result (A.given acceptor.new - A.given acceptor.old) (P.started spawner.new - P.started spawner.old) }
-    ensures accepts { Accepts (record { accepts = A.accepts; connects = C.step; starts = P.starts }) X.looks on_process_error
-        (record { acceptor = acceptor.old; hook = on_connected.old; spawner = spawner.old }) abort_signal.old
-        (record { acceptor = acceptor.new; hook = on_connected.new; spawner = spawner.new }) abort_signal.new result }
+    ensures serves { Serves (record { accepts = A.accepts; connects = C.step; starts = P.starts })
+        (record { given = A.given; accept_faults = A.faults; started = P.started; spawn_faults = P.faults }) (record { stops = X.stops; looks = X.looks }) on_process_error
+        (record { acceptor = acceptor.old; hook = on_connected.old; spawner = spawner.old }, abort_signal.old)
+        (record { acceptor = acceptor.new; hook = on_connected.new; spawner = spawner.new }, abort_signal.new) result }
 {
     'accepts: for _ in rt.forever() {
         if abort_signal.is_set() {
@@ -124,6 +114,53 @@ where
         }
     }
     unreachable!()
+}
+
+/// Accepts links until a signal is set or something fails, and then raises the flag that its workers look at.
+fn accept_until<I, R, A, V, L, E, C, H, P, X>(
+    rt: &R,
+    alloc: Global,
+    acceptor: &mut A,
+    on_connected: &mut C,
+    on_process_error: H,
+    spawner: &mut P,
+    abort_signal: &mut X,
+) -> Result<Terminated, ServeError<E>>
+where
+    I: Framing,
+    R: Wait,
+    A: Acceptor,
+    V: Answerer + Send + Drop,
+    L: Link + Send + Drop,
+    C: FnMut(A::Link, SocketAddr) -> Result<Option<(V, L)>, E>,
+    H: Fn(ProcessError) + Copy + Send,
+    P: Spawner<ConnectionWorker<I, L, V, H, FlagStop>>,
+    X: Stop,
+    requires hook { C.IsAlwaysCallable on_connected.old }
+    requires error_hook { H.IsAlwaysCallable on_process_error }
+    requires can { P.can_start spawner.old }
+    ensures hook { C.IsAlwaysCallable on_connected.new }
+    ensures can { P.can_start spawner.new }
+    ensures serves { Serves (record { accepts = A.accepts; connects = C.step; starts = P.starts })
+        (record { given = A.given; accept_faults = A.faults; started = P.started; spawn_faults = P.faults }) (record { stops = X.stops; looks = X.looks }) on_process_error
+        (record { acceptor = acceptor.old; hook = on_connected.old; spawner = spawner.old }, abort_signal.old)
+        (record { acceptor = acceptor.new; hook = on_connected.new; spawner = spawner.new }, abort_signal.new) result }
+{
+    let Ok(flag) = FlagStop::new(alloc) else {
+        return Err(ServeError::NoMemory);
+    };
+    let outcome = accept_all(
+        rt,
+        alloc,
+        acceptor,
+        on_connected,
+        on_process_error,
+        spawner,
+        &flag,
+        abort_signal,
+    );
+    flag.raise();
+    outcome
 }
 
 /// A listener: it accepts links, and has each served by a worker of its own.
@@ -183,26 +220,19 @@ impl<I: Framing, A: Acceptor> Server<I, A> {
         ensures hook { C.IsAlwaysCallable on_connected.new }
         ensures can { P.can_start spawner.new }
         ensures ok { result ≢ Ok tt }
-        ensures accept_fault { result ≡ Err ServeError.AcceptFault → Rose (A.faults self.old) (A.faults self.new) }
-        ensures spawn_fault { result ≡ Err ServeError.SpawnFault → Rose (P.faults spawner.old) (P.faults spawner.new) }
-        ensures balance { NeverRejects C.step → Exact (A.given self.new) → Exact (P.started spawner.new)
-            → Balances result (A.given self.new - A.given self.old) (P.started spawner.new - P.started spawner.old) }
-        ensures accepts { Accepts (record { accepts = A.accepts; connects = C.step; starts = P.starts }) never_set on_process_error
-            (record { acceptor = self.old; hook = on_connected.old; spawner = spawner.old }) tt
-            (record { acceptor = self.new; hook = on_connected.new; spawner = spawner.new }) tt (as_stopped result) }
+        ensures serves { Serves (record { accepts = A.accepts; connects = C.step; starts = P.starts })
+            (record { given = A.given; accept_faults = A.faults; started = P.started; spawn_faults = P.faults }) unsignalled on_process_error
+            (record { acceptor = self.old; hook = on_connected.old; spawner = spawner.old }, tt)
+            (record { acceptor = self.new; hook = on_connected.new; spawner = spawner.new }, tt) (as_stopped result) }
     {
-        let outcome = self.serve_until(
+        serve_acceptor(
             rt,
             alloc,
+            &mut self.acceptor,
             on_connected,
             on_process_error,
             spawner,
-            &mut Never,
-        );
-        match outcome {
-            Err(error) => Err(error),
-            Ok(_) => unreachable!(),
-        }
+        )
     }
 
     /// Accepts links until a signal is set, which is `Aborted`, or something fails; it never answers `Finished`.
@@ -241,31 +271,20 @@ impl<I: Framing, A: Acceptor> Server<I, A> {
         requires can { P.can_start spawner.old }
         ensures hook { C.IsAlwaysCallable on_connected.new }
         ensures can { P.can_start spawner.new }
-        ensures finished { result ≢ Ok Terminated.Finished }
-        ensures aborted { result ≡ Ok Terminated.Aborted → Rose (X.stops abort_signal.old) (X.stops abort_signal.new) }
-        ensures accept_fault { result ≡ Err ServeError.AcceptFault → Rose (A.faults self.old) (A.faults self.new) }
-        ensures spawn_fault { result ≡ Err ServeError.SpawnFault → Rose (P.faults spawner.old) (P.faults spawner.new) }
-        ensures balance { NeverRejects C.step → Exact (A.given self.new) → Exact (P.started spawner.new)
-            → Balances result (A.given self.new - A.given self.old) (P.started spawner.new - P.started spawner.old) }
-        ensures accepts { Accepts (record { accepts = A.accepts; connects = C.step; starts = P.starts }) X.looks on_process_error
-            (record { acceptor = self.old; hook = on_connected.old; spawner = spawner.old }) abort_signal.old
-            (record { acceptor = self.new; hook = on_connected.new; spawner = spawner.new }) abort_signal.new result }
+        ensures serves { Serves (record { accepts = A.accepts; connects = C.step; starts = P.starts })
+            (record { given = A.given; accept_faults = A.faults; started = P.started; spawn_faults = P.faults }) (record { stops = X.stops; looks = X.looks }) on_process_error
+            (record { acceptor = self.old; hook = on_connected.old; spawner = spawner.old }, abort_signal.old)
+            (record { acceptor = self.new; hook = on_connected.new; spawner = spawner.new }, abort_signal.new) result }
     {
-        let Ok(flag) = FlagStop::new(alloc) else {
-            return Err(ServeError::NoMemory);
-        };
-        let outcome = accept_all(
+        accept_until(
             rt,
             alloc,
             &mut self.acceptor,
             on_connected,
             on_process_error,
             spawner,
-            &flag,
             abort_signal,
-        );
-        flag.raise();
-        outcome
+        )
     }
 }
 
@@ -296,28 +315,20 @@ where
     ensures hook { C.IsAlwaysCallable on_connected.new }
     ensures can { P.can_start spawner.new }
     ensures ok { result ≢ Ok tt }
-    ensures accept_fault { result ≡ Err ServeError.AcceptFault → Rose (A.faults acceptor.old) (A.faults acceptor.new) }
-    ensures spawn_fault { result ≡ Err ServeError.SpawnFault → Rose (P.faults spawner.old) (P.faults spawner.new) }
-    ensures balance { NeverRejects C.step → Exact (A.given acceptor.new) → Exact (P.started spawner.new)
-        → Balances result (A.given acceptor.new - A.given acceptor.old) (P.started spawner.new - P.started spawner.old) }
-    ensures accepts { Accepts (record { accepts = A.accepts; connects = C.step; starts = P.starts }) never_set on_process_error
-        (record { acceptor = acceptor.old; hook = on_connected.old; spawner = spawner.old }) tt
-        (record { acceptor = acceptor.new; hook = on_connected.new; spawner = spawner.new }) tt (as_stopped result) }
+    ensures serves { Serves (record { accepts = A.accepts; connects = C.step; starts = P.starts })
+        (record { given = A.given; accept_faults = A.faults; started = P.started; spawn_faults = P.faults }) unsignalled on_process_error
+        (record { acceptor = acceptor.old; hook = on_connected.old; spawner = spawner.old }, tt)
+        (record { acceptor = acceptor.new; hook = on_connected.new; spawner = spawner.new }, tt) (as_stopped result) }
 {
-    let Ok(flag) = FlagStop::new(alloc) else {
-        return Err(ServeError::NoMemory);
-    };
-    let outcome = accept_all(
+    let outcome = accept_until(
         rt,
         alloc,
         acceptor,
         on_connected,
         on_process_error,
         spawner,
-        &flag,
         &mut Never,
     );
-    flag.raise();
     match outcome {
         Err(error) => Err(error),
         Ok(_) => unreachable!(),

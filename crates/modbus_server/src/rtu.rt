@@ -1,12 +1,11 @@
 //! The RTU side of a server (MODBUS over Serial Line V1.02, section 2.5.1): a connection takes RTU frames, step by step, and a server
 //! serves the link of a serial line.
 ghost use Rattle.std.specs.Prelude.{◌≡◌, ◌-◌, ◌^◌, length};
-ghost use Rattle.modbus_rtu.specs.declared.length.TheConstants.{CAPACITY};
 ghost use Rattle.modbus_server.specs.declared.error.ProcessError.TheVariants.{TooManyRetries};
 ghost use Rattle.modbus_server.specs.Complete.{Completes};
 ghost use Rattle.modbus_server.specs.Stepping.{Ran};
 ghost use Rattle.modbus_server.specs.Stopping.{RanUntil, to_the_end};
-ghost use Rattle.modbus_server.specs.Rtu.{rtu};
+ghost use Rattle.modbus_server.specs.Rtu.{capacity, rtu};
 
 use crate::error::ProcessError;
 use crate::framing::{Framing, Front, MAX_ROOM};
@@ -39,7 +38,7 @@ impl Framing for Inbox {
 
     ghost held = { λ inbox. inbox };
 
-    ghost free = { λ inbox. CAPACITY - length inbox };
+    ghost free = { λ inbox. capacity - length inbox };
 
     fn tell(_fault: Crowd) -> ProcessError {
         ProcessError::TooManyRetries

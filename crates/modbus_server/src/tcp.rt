@@ -11,6 +11,7 @@ use crate::serving::{serve, serve_link};
 use bytes::BytesMut;
 use modbus_frame::tcp::Header;
 use modbus_frame::{EncodeError, ExceptionResponse, Response, SlaveId};
+use modbus_pdu::MAX_PDU;
 use modbus_link::{Sink, Source};
 use modbus_service::Answerer;
 use modbus_tcp::{HeaderFault, encode_response_adu};
@@ -28,8 +29,14 @@ pub type ConnectionWorker<L, V, H, X> = crate::worker::ConnectionWorker<AduBuffe
 /// A listener of Modbus TCP.
 pub type Server<A> = crate::listener::Server<AduBuffer, A>;
 
-/// The bytes of the longest ADU of a response, whose PDU has at most 253 (MODBUS Messaging on TCP/IP V1.0b, section 3.1.3).
-const LONGEST_RESPONSE: usize = 260;
+/// The bytes of an MBAP header (MODBUS Messaging on TCP/IP V1.0b, section 3.1.3).
+const HEADER: usize = 7;
+
+/// The bytes of the longest ADU of a response.
+const LONGEST_RESPONSE: usize = HEADER + MAX_PDU;
+
+/// How many bytes a read has room for.
+const ROOM: usize = 268;
 
 /// The bytes that were fed and not used yet: less than an ADU, once all whole ones are taken off.
 #[derive(Drop)]
@@ -106,11 +113,11 @@ impl Framing for AduBuffer {
     }
 
     fn room(&self) -> usize {
-        MAX_ROOM
+        ROOM
     }
 
     fn make_room(&mut self, _alloc: Global) -> Result<(), AllocError> {
-        self.bytes.reserve(MAX_ROOM)
+        self.bytes.reserve(ROOM)
     }
 
     fn append(&mut self, piece: &[u8]) {

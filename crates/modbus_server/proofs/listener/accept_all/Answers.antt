@@ -1,15 +1,35 @@
-use Rattle.std.proofs.Common.{inl, refl, rules, suc, arith}
+use Rattle.std.proofs.Common.{zero, suc, inl, refl, rules}
+use Rattle.modbus_server.proofs.Counting.{none_counted, counted_well, counted_more, counted_last}
 use Rattle.modbus_server.proofs.listener.accept_all.Goals as goal
 
-pub returns-then-is_set-clause-accepts : goal.returns-then-is_set-clause-accepts
-returns-then-is_set-clause-accepts g c =
-    let many = c.accepts.invariant.many in
-    inl (many.0, _, c.accepts.abort_signal, many.1, (rw c.if-is_set.true at c.is_set.ensures.looks, refl))
+pub accepts-init : goal.accepts-init
+accepts-init g c = record {
+  hook = search rules;
+  can = search rules;
+  stops = search rules;
+  counted = none_counted _ _ _;
+  many = (zero, (refl, refl));
+}
 
-pub returns-in-Err-clause-accepts : goal.returns-in-Err-clause-accepts
-returns-in-Err-clause-accepts g c =
+pub returns-then-is_set-clause-serves : goal.returns-then-is_set-clause-serves
+returns-then-is_set-clause-serves g c =
     let many = c.accepts.invariant.many in
-    inl (many.0, _, c.accepts.abort_signal, many.1, (rw c.if-is_set.false at c.is_set.ensures.looks, c.in-Err.ensures.accepts_one))
+    record {
+      finished = λ e. cc;
+      aborted = λ e. search rules;
+      counted = counted_well _ _ _ _ _ c.accepts.invariant.counted;
+      accepts = inl (many.0, _, c.accepts.abort_signal, many.1, (rw c.if-is_set.true at c.is_set.ensures.looks, refl));
+    }
+
+pub returns-in-Err-clause-serves : goal.returns-in-Err-clause-serves
+returns-in-Err-clause-serves g c =
+    let many = c.accepts.invariant.many in
+    record {
+      finished = λ e. cc;
+      aborted = λ e. cc;
+      counted = counted_last _ _ _ _ _ _ c.accepts.invariant.counted c.in-Err.ensures.counted;
+      accepts = inl (many.0, _, c.accepts.abort_signal, many.1, (rw c.if-is_set.false at c.is_set.ensures.looks, c.in-Err.ensures.accepts_one));
+    }
 
 pub accepts-preserved : goal.accepts-preserved
 accepts-preserved g c =
@@ -18,13 +38,6 @@ accepts-preserved g c =
       hook = search rules;
       can = search rules;
       stops = search rules;
-      accepts = search rules;
-      starts = search rules;
-      given = search rules;
-      started = search rules;
-      balance = λ never given started.
-          let one = c.in-Ok.ensures.balance never given started in
-          let before = c.accepts.invariant.balance never (omega (arith, given, c.in-Ok.ensures.given)) (omega (arith, started, c.in-Ok.ensures.started)) in
-          omega (arith, one, before, c.in-Ok.ensures.given, c.in-Ok.ensures.started, c.accepts.invariant.given, c.accepts.invariant.started);
+      counted = counted_more _ _ _ _ _ c.accepts.invariant.counted c.in-Ok.ensures.counted;
       many = (suc many.0, (_, c.accepts.abort_signal, many.1, rw c.if-is_set.false at c.is_set.ensures.looks, c.in-Ok.ensures.accepts_one));
     }

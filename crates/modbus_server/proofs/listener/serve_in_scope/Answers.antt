@@ -8,4 +8,4 @@ returns-clause-accepts g c =
     heard (record { accepts = g.A.Acceptor.accepts; connects = goal.C-step g; starts = _ }) never_set c.args.on_process_error
     (record { acceptor = c.args.server.now; hook = c.args.on_connected.now; spawner = c.new-spawner.result }) tt
     (record { acceptor = c.serve.new.self; hook = c.serve.new.on_connected; spawner = c.serve.new.spawner }) tt (as_stopped c.serve.result)
-    c.serve.ensures.accepts
+    c.serve.ensures.serves.accepts
