@@ -1,16 +1,15 @@
 -- What an accept loop did, seen by the pass that its hook splits.
-use Rattle.std.proofs.Common.{◌≡◌, ◌-◌, ◌^◌, ℕ, zero, suc, Option, Some, None, Result, Ok, Err, refl, ap, subst, sym, ◌∙◌, inl, inr}
+use Rattle.std.proofs.Common.{◌≡◌, ◌^◌, ℕ, zero, suc, Option, Some, None, Result, Ok, Err, refl, ap, subst, sym, ◌∙◌, inl, inr}
 use Rattle.std.specs.declared.net.SocketAddr.{SocketAddr}
 use Rattle.modbus_frame.specs.declared.server.Terminated.{Terminated}
 use Rattle.modbus_link.specs.declared.outside.Failed.{Failed}
-use Rattle.modbus_link.specs.Outside.{Rose}
 use Rattle.modbus_server.specs.declared.error.ServeError.{ServeError}
 use Rattle.modbus_server.specs.declared.error.ServeError.TheVariants.{AcceptFault, Connect, SpawnFault, NoMemory}
-use Rattle.modbus_server.specs.Listening.{Parts, WorkerState, Listener, Connected, StartedFor, AcceptsOne, AcceptsMany, Accepts, Exact, Balances, NeverRejects}
+use Rattle.modbus_server.specs.Listening.{Parts, WorkerState, Listener, Connected, StartedFor, AcceptsOne, AcceptsMany, Accepts, Counts, Serves, NeverRejects, unsignalled}
 use Rattle.modbus_server.specs.Stopping.{never_set}
 use Rattle.modbus_store.specs.declared.table.PassesOut.{PassesOut}
 use Rattle.modbus_store.specs.Passes.{Pass}
-use Rattle.modbus_app.specs.Listen.{SplitsFor, parts_with, Counted, ServesLinks}
+use Rattle.modbus_app.specs.Listen.{SplitsFor, parts_with, ServesLinks}
 
 -- a pass of which others were split off
 abbrev pub IsSplit : Pass → Pass → Type 0
@@ -131,38 +130,50 @@ module _ {A C P K V H : Type 0} (parts : Parts A C P K K V PassesOut H) (name : 
   same_name old new error (inl (count, last, before, m, (looked, o))) = stays_one last new (Err error) o ∙ stays_many count old last tt before m
   same_name old new error (inr (e, same, signal)) = ap (λ (it : Listener A C P). name it.hook) same
 
--- so the listener is served, as all clauses of its accept loop say
+-- so the listener is served, as its record says of its own hook
 module _ {A C P K V H : Type 0} (parts : Parts A C P K K V PassesOut H) (pass_of : V → Pass) (pass : C → Pass)
     (splits : (old new : C) (link : K) (address : SocketAddr) (answer : Result (Option (V × K)) PassesOut) → parts.connects old link address answer new → SplitsFor pass_of (pass old) link answer (pass new))
-    (on_error : H) (given faults : A → ℕ) (started spawn_faults : P → ℕ) where
-  abbrev counted : A → P → Counted
-  counted acceptor spawner = record { given = given acceptor; accept_faults = faults acceptor; started = started spawner; spawn_faults = spawn_faults spawner }
+    (on_error : H) (counts : Counts A P) where
+  abbrev shown : (a : A) (p : Pass) (s : P) → Listener A Pass P
+  shown a p s = record { acceptor = a; hook = p; spawner = s }
 
-  abbrev Serves : (a a' : A) (p p' : Pass) (s s' : P) → ServeError PassesOut → Type 0
-  Serves a a' p p' s s' error = ServesLinks (parts_with pass_of parts.accepts parts.starts) on_error (record { acceptor = a; hook = p; spawner = s }) (record { acceptor = a'; hook = p'; spawner = s' })
-      (counted a s) (counted a' s') error
+  abbrev Links : (a a' : A) (p p' : Pass) (s s' : P) → ServeError PassesOut → Type 0
+  Links a a' p p' s s' error = ServesLinks (parts_with pass_of parts.accepts parts.starts) counts on_error (shown a p s) (shown a' p' s') error
 
-  pub serves : (old new : Listener A C P) (error : ServeError PassesOut) (p p' : Pass) → Accepts parts never_set on_error old tt new tt (Err error)
-      → pass old.hook ≡ p → pass new.hook ≡ p'
-      → (error ≡ AcceptFault → Rose (faults old.acceptor) (faults new.acceptor))
-      → (error ≡ SpawnFault → Rose (spawn_faults old.spawner) (spawn_faults new.spawner))
-      → (NeverRejects parts.connects → Exact (given new.acceptor) → Exact (started new.spawner)
-      → Balances {T = Unit {0}} (Err error) (given new.acceptor - given old.acceptor) (started new.spawner - started old.spawner))
-      → Serves old.acceptor new.acceptor p p' old.spawner new.spawner error
-  serves old new error p p' all ep ep' accept spawn balance =
-      subst (λ (x : Pass). Serves old.acceptor new.acceptor x p' old.spawner new.spawner error) ep
-      (subst (λ (x : Pass). Serves old.acceptor new.acceptor (pass old.hook) x old.spawner new.spawner error) ep' here)
+  pub serves : (old new : Listener A C P) (error : ServeError PassesOut) (p p' : Pass) → Serves parts counts unsignalled on_error (old, tt) (new, tt) (Err error)
+      → pass old.hook ≡ p → pass new.hook ≡ p' → Links old.acceptor new.acceptor p p' old.spawner new.spawner error
+  serves old new error p p' all ep ep' =
+      subst (λ (x : Pass). Links old.acceptor new.acceptor x p' old.spawner new.spawner error) ep
+      (subst (λ (x : Pass). Links old.acceptor new.acceptor (pass old.hook) x old.spawner new.spawner error) ep' here)
     where
-      seen_all : Accepts (parts_with pass_of parts.accepts parts.starts) never_set on_error (record { acceptor = old.acceptor; hook = pass old.hook; spawner = old.spawner }) tt
-          (record { acceptor = new.acceptor; hook = pass new.hook; spawner = new.spawner }) tt (Err error)
-      seen_all = accepts parts pass_of pass splits on_error old new error all
+      rejects_none : NeverRejects parts.connects
+      rejects_none state after link address by = splits state after link address (Ok None) by
 
-      here : Serves old.acceptor new.acceptor (pass old.hook) (pass new.hook) old.spawner new.spawner error
-      here = record {
+      seen_all : Accepts (parts_with pass_of parts.accepts parts.starts) never_set on_error (shown old.acceptor (pass old.hook) old.spawner) tt
+          (shown new.acceptor (pass new.hook) new.spawner) tt (Err error)
+      seen_all = accepts parts pass_of pass splits on_error old new error all.accepts
+
+      listener : Serves (parts_with pass_of parts.accepts parts.starts) counts unsignalled on_error (shown old.acceptor (pass old.hook) old.spawner, tt)
+          (shown new.acceptor (pass new.hook) new.spawner, tt) (Err error)
+      listener = record {
+        finished = all.finished;
+        aborted = all.aborted;
+        counted = record {
+          given = all.counted.given;
+          started = all.counted.started;
+          accept_faults = all.counted.accept_faults;
+          spawn_faults = all.counted.spawn_faults;
+          accept_fault = all.counted.accept_fault;
+          spawn_fault = all.counted.spawn_fault;
+          balance = λ never given started. all.counted.balance rejects_none given started;
+        };
         accepts = seen_all;
+      }
+
+      here : Links old.acceptor new.acceptor (pass old.hook) (pass new.hook) old.spawner new.spawner error
+      here = record {
+        listener = listener;
         pass = is_split pass_of parts.accepts parts.starts on_error _ _ error seen_all;
-        accept_fault = accept;
-        spawn_fault = spawn;
         passes_out = λ out is. none_left pass_of parts.accepts parts.starts on_error _ _ error out seen_all is;
-        balance = balance (λ state after link address by. splits state after link address (Ok None) by);
+        balance = λ given started. all.counted.balance rejects_none given started;
       }

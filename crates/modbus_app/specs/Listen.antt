@@ -2,11 +2,10 @@
 use Rattle.std.specs.Prelude.{◌≡◌, ℕ, ◌-◌, ◌^◌, Option, Some, None, Result, Ok, Err}
 use Rattle.std.specs.declared.net.SocketAddr.{SocketAddr}
 use Rattle.modbus_link.specs.declared.outside.Failed.{Failed}
-use Rattle.modbus_link.specs.Outside.{Output, Rose}
+use Rattle.modbus_link.specs.Outside.{Output}
 use Rattle.modbus_server.specs.declared.error.ServeError.{ServeError}
-use Rattle.modbus_server.specs.declared.error.ServeError.TheVariants.{AcceptFault, Connect, SpawnFault}
-use Rattle.modbus_server.specs.Listening.{WorkerState, Parts, Listener, Accepts, Exact, Balances}
-use Rattle.modbus_server.specs.Stopping.{never_set}
+use Rattle.modbus_server.specs.declared.error.ServeError.TheVariants.{Connect}
+use Rattle.modbus_server.specs.Listening.{WorkerState, Parts, Listener, Counts, Serves, Exact, Balances, unsignalled}
 use Rattle.modbus_store.specs.declared.table.PassesOut.{PassesOut}
 use Rattle.modbus_store.specs.Passes.{Pass, SplitsOff}
 use Rattle.modbus_app.specs.Status.{listener_status_of, listener_line_of, Reports}
@@ -23,25 +22,19 @@ abbrev pub parts_with : {A P K V H : Type 0} → (V → Pass) → (A → Result 
     → (P → WorkerState K V H ℕ → Result (Unit {0}) Failed → P → Type 0) → Parts A Pass P K K V PassesOut H
 parts_with pass_of accepts starts = record { accepts = accepts; connects = λ old link address answer new. SplitsFor pass_of old link answer new; starts = starts }
 
--- what an acceptor and a spawner count: the links that it gave, the workers that it started, and how often each failed
-pub record Counted : Type 0 where
-  pub given : ℕ
-  pub accept_faults : ℕ
-  pub started : ℕ
-  pub spawn_faults : ℕ
-
--- Links were served until this error. Each link that was given went to the hook, and with its pass to a worker.
-pub record ServesLinks {A P K V H : Type 0} (parts : Parts A Pass P K K V PassesOut H) (on_error : H) (old new : Listener A Pass P) (before after : Counted) (error : ServeError PassesOut) : Type 0 where
-  pub accepts : Accepts parts never_set on_error old tt new tt (Err error)
+-- Links were served until this error, as a listener promises that is never stopped (`listener`). Of the pass of the services others were
+-- split, and nothing else (`pass`); where the hook refused a connection no number was left (`passes_out`); and as it rejects none, each
+-- link that was given has a worker, or else the last one (`balance`).
+pub record ServesLinks {A P K V H : Type 0} (parts : Parts A Pass P K K V PassesOut H) (counts : Counts A P) (on_error : H) (old new : Listener A Pass P) (error : ServeError PassesOut) : Type 0 where
+  pub listener : Serves parts counts unsignalled on_error (old, tt) (new, tt) (Err error)
   pub pass : new.hook ≡ record old.hook { drawn = new.hook.drawn }
-  pub accept_fault : error ≡ AcceptFault → Rose before.accept_faults after.accept_faults
-  pub spawn_fault : error ≡ SpawnFault → Rose before.spawn_faults after.spawn_faults
   pub passes_out : (none_left : PassesOut) → error ≡ Connect none_left → new.hook.drawn ≡ 2 ^ 32
-  pub balance : Exact after.given → Exact after.started → Balances {T = Unit {0}} (Err error) (after.given - before.given) (after.started - before.started)
+  pub balance : Exact (counts.given new.acceptor) → Exact (counts.started new.spawner)
+      → Balances {T = Unit {0}} (Err error) (counts.given new.acceptor - counts.given old.acceptor) (counts.started new.spawner - counts.started old.spawner)
 
 -- A listener ended with this status, and told its line. All that is said speaks of one and the same error.
-pub record Listened {A P K V H : Type 0} (parts : Parts A Pass P K K V PassesOut H) (on_error : H) (old new : Listener A Pass P) (before after : Counted) (said told : Output) (status : ℕ) : Type 0 where
+pub record Listened {A P K V H : Type 0} (parts : Parts A Pass P K K V PassesOut H) (counts : Counts A P) (on_error : H) (old new : Listener A Pass P) (said told : Output) (status : ℕ) : Type 0 where
   pub error : ServeError PassesOut
   pub is : status ≡ listener_status_of error
-  pub serves : ServesLinks parts on_error old new before after error
+  pub serves : ServesLinks parts counts on_error old new error
   pub tells : Reports said told (listener_line_of error)

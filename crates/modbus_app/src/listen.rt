@@ -38,12 +38,10 @@ where
     requires error_hook { H.IsAlwaysCallable on_process_error }
     requires can { P.can_start spawner.old }
     ensures can { P.can_start spawner.new }
-    ensures serves { ServesLinks (parts_with S.pass_of A.accepts P.starts) on_process_error
+    ensures serves { ServesLinks (parts_with S.pass_of A.accepts P.starts)
+        (record { given = A.given; accept_faults = A.faults; started = P.started; spawn_faults = P.faults }) on_process_error
         (record { acceptor = acceptor.old; hook = S.pass services.old; spawner = spawner.old })
-        (record { acceptor = acceptor.new; hook = S.pass services.new; spawner = spawner.new })
-        (record { given = A.given acceptor.old; accept_faults = A.faults acceptor.old; started = P.started spawner.old; spawn_faults = P.faults spawner.old })
-        (record { given = A.given acceptor.new; accept_faults = A.faults acceptor.new; started = P.started spawner.new; spawn_faults = P.faults spawner.new })
-        result }
+        (record { acceptor = acceptor.new; hook = S.pass services.new; spawner = spawner.new }) result }
 {
     let mut hook = |link: A::Link, _address: SocketAddr| -> Result<
         Option<(S::Service, A::Link)>,
@@ -104,17 +102,15 @@ where
     requires error_hook { H.IsAlwaysCallable on_process_error }
     requires can_rtu { P.Spawner-1.can_start spawner.old }
     requires can_tcp { P.Spawner-2.can_start spawner.old }
-    ensures rtu { framing ≡ Rtu → Listened (parts_with S.pass_of A.accepts P.Spawner-1.starts) on_process_error
+    ensures rtu { framing ≡ Rtu → Listened (parts_with S.pass_of A.accepts P.Spawner-1.starts)
+        (record { given = A.given; accept_faults = A.faults; started = P.Spawner-1.started; spawn_faults = P.Spawner-1.faults }) on_process_error
         (record { acceptor = acceptor.old; hook = S.pass services.old; spawner = spawner.old })
         (record { acceptor = acceptor.new; hook = S.pass services.new; spawner = spawner.new })
-        (record { given = A.given acceptor.old; accept_faults = A.faults acceptor.old; started = P.Spawner-1.started spawner.old; spawn_faults = P.Spawner-1.faults spawner.old })
-        (record { given = A.given acceptor.new; accept_faults = A.faults acceptor.new; started = P.Spawner-1.started spawner.new; spawn_faults = P.Spawner-1.faults spawner.new })
         (E.output errors.old) (E.output errors.new) result }
-    ensures tcp { framing ≡ Tcp → Listened (parts_with S.pass_of A.accepts P.Spawner-2.starts) on_process_error
+    ensures tcp { framing ≡ Tcp → Listened (parts_with S.pass_of A.accepts P.Spawner-2.starts)
+        (record { given = A.given; accept_faults = A.faults; started = P.Spawner-2.started; spawn_faults = P.Spawner-2.faults }) on_process_error
         (record { acceptor = acceptor.old; hook = S.pass services.old; spawner = spawner.old })
         (record { acceptor = acceptor.new; hook = S.pass services.new; spawner = spawner.new })
-        (record { given = A.given acceptor.old; accept_faults = A.faults acceptor.old; started = P.Spawner-2.started spawner.old; spawn_faults = P.Spawner-2.faults spawner.old })
-        (record { given = A.given acceptor.new; accept_faults = A.faults acceptor.new; started = P.Spawner-2.started spawner.new; spawn_faults = P.Spawner-2.faults spawner.new })
         (E.output errors.old) (E.output errors.new) result }
 {
     let error = match framing {
