@@ -2,7 +2,7 @@
 use Rattle.std.proofs.Common.{◌≡◌, ◌≢◌, ◌⊎◌, inl, inr, ℕ, ◌<◌, List, [], Ok, Err, Result, refl, sym, ap, ◌∙◌, subst, arith}
 use Rattle.modbus_frame.specs.Answered.{function_answered}
 use Rattle.modbus_frame.specs.Codes.{function_number, function_of, exception_number, exception_of}
-use Rattle.modbus_frame.specs.Meaning.{Asked, ReadCoils, ReadDiscreteInputs, WriteSingleCoil, WriteMultipleCoils, ReadInputRegisters, ReadHoldingRegisters, WriteSingleRegister, WriteMultipleRegisters, ReportServerId, MaskWriteRegister, ReadWriteMultipleRegisters, ReadDeviceIdentification, Custom, function_asked}
+use Rattle.modbus_frame.specs.Meaning.{Asked, ReadCoils, ReadDiscreteInputs, WriteSingleCoil, WriteMultipleCoils, ReadInputRegisters, ReadHoldingRegisters, WriteSingleRegister, WriteMultipleRegisters, ReportServerId, MaskWriteRegister, ReadWriteMultipleRegisters, ReadFifoQueue, ReadDeviceIdentification, Custom, function_asked}
 use Rattle.modbus_frame.specs.declared.code.FunctionCode.{FunctionCode}
 use Rattle.modbus_frame.specs.declared.code.ExceptionCode.{ExceptionCode}
 use Rattle.modbus_frame.specs.declared.response.Response.{Response}
@@ -66,6 +66,7 @@ code_modelled (WriteMultipleRegisters address words) of = record { modelled = re
 code_modelled ReportServerId of = record { modelled = refl; below = omega arith; again = refl }
 code_modelled (MaskWriteRegister address and_mask or_mask) of = record { modelled = refl; below = omega arith; again = refl }
 code_modelled (ReadWriteMultipleRegisters read_address quantity write_address words) of = record { modelled = refl; below = omega arith; again = refl }
+code_modelled (ReadFifoQueue address) of = record { modelled = refl; below = omega arith; again = refl }
 code_modelled (ReadDeviceIdentification code id) of = record { modelled = refl; below = omega arith; again = refl }
 code_modelled (Custom code bytes) of = absurd of
 
@@ -86,6 +87,7 @@ given_modelled (response.WriteMultipleRegisters address quantity) is of = record
 given_modelled (response.ReportServerId id run extra) is of = record { below = omega arith; filled = refl }
 given_modelled (response.MaskWriteRegister address and_mask or_mask) is of = record { below = omega arith; filled = refl }
 given_modelled (response.ReadWriteMultipleRegisters words) is of = record { below = omega arith; filled = refl }
+given_modelled (response.ReadFifoQueue words) is of = record { below = omega arith; filled = refl }
 given_modelled (response.ReadDeviceIdentification found) is of = record { below = omega arith; filled = refl }
 given_modelled (response.Custom code bytes) is of = absurd (is of)
 
@@ -95,7 +97,7 @@ the_first (inl a) none = a
 the_first (inr b) none = absurd (none b)
 
 module _ (nothing_open : response_verdict [] ≡ Open) (good : FramesAreGood) (front : FrontsAreOpen) (result_again : (r : Response) → ResultReadsBack r) (exception_again : (e : ExceptionResponse) → ExceptionReadsBack e)
-    (response_head : (slave : ℕ) (given : Response) → IsResponse given → IsModelled (function_number (function_answered given)) → HasResponseHead (slave, response_pdu given))
+    (response_head : (slave : ℕ) (given : Response) → IsResponse given → IsModelled (function_number (function_answered given)) → Fits (response_pdu given) → HasResponseHead (slave, response_pdu given))
     (exception_head : (slave : ℕ) (asked : Asked) (code : ExceptionCode) → IsModelledAsk asked → HasResponseHead (slave, reply_pdu (code_of asked) (exception code)))
     (slave : ℕ) (asked : Asked) (of : IsModelledAsk asked) (held : List ℕ) (answer : Answer) (some : answer ≢ Err NoMemory) where
   abbrev Reads : List ℕ → Type 0
@@ -124,7 +126,7 @@ module _ (nothing_open : response_verdict [] ≡ Open) (good : FramesAreGood) (f
   reply_judged : (given : Response) (sent : List ℕ) → Reads sent → sent ≡ frame slave (response_pdu given) → IsResponse given → IsModelled (function_number (function_answered given))
       → Fits (response_pdu given) → Judges (slave_seen slave) (function_asked asked) (slave_seen slave) (Ok (with_filled_coils given)) answer
   reply_judged given sent r is ranges modelled fits =
-      judged sent (response_pdu given) (Ok (with_filled_coils given)) r is (response_head slave given ranges modelled)
+      judged sent (response_pdu given) (Ok (with_filled_coils given)) r is (response_head slave given ranges modelled fits)
       (result_again given ranges (given_modelled given ranges modelled).below fits)
 
   own_back : (given : Response) (sent : List ℕ) → Reads sent → sent ≡ frame slave (response_pdu given) → IsResponse given → Fits (response_pdu given)

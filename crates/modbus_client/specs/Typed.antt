@@ -55,6 +55,11 @@ abbrev pub registers_read_after_write : ℕ → Response → Pick (List ℕ)
 registers_read_after_write quantity (response.ReadWriteMultipleRegisters found) = picked_if (length found == quantity) found
 registers_read_after_write quantity _ = another_kind
 
+-- the registers of any queue (6.18)
+abbrev pub queue_read : Response → Pick (List ℕ)
+queue_read (response.ReadFifoQueue found) = picked found
+queue_read _ = another_kind
+
 -- any device identification (6.21)
 abbrev pub identification_read : Response → Pick ReadDeviceIdentificationResponse
 identification_read (response.ReadDeviceIdentification found) = picked found

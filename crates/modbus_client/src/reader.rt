@@ -1,6 +1,6 @@
 //! Calls that read, for every client (Modbus Application Protocol V1.1b3, section 6).
 ghost use Rattle.modbus_frame.specs.Meaning as asked;
-ghost use Rattle.modbus_client.specs.Typed.{Asks, answer_map, coils_read, discrete_inputs_read, holding_registers_read, input_registers_read, registers_read_after_write, identification_read};
+ghost use Rattle.modbus_client.specs.Typed.{Asks, answer_map, coils_read, discrete_inputs_read, holding_registers_read, input_registers_read, registers_read_after_write, queue_read, identification_read};
 
 use crate::client::Client;
 use crate::typed::{all_words, another_kind, first_coils};
@@ -108,6 +108,20 @@ pub trait Reader: Client {
                 all_words(words, read_count, Response::ReadWriteMultipleRegisters)
             }
             Ok(other) => Err(another_kind(FunctionCode::ReadWriteMultipleRegisters, other)),
+            Err(exception) => Ok(Err(exception)),
+        }
+    }
+
+    /// Reads the queue of registers whose count stands at `addr` (section 6.18), the oldest first. They stay in the queue.
+    ///
+    /// # Errors
+    /// Those of `call`. `FunctionCodeMismatch` exactly where the response is of another kind.
+    fn read_fifo_queue(&mut self, addr: Address) -> Result<Vec<Word>>
+        ensures { Asks Self.answers self.old (asked.ReadFifoQueue addr) queue_read (answer_map (λ v. v.items) result) self.new }
+    {
+        match self.call(Request::ReadFifoQueue(addr))? {
+            Ok(Response::ReadFifoQueue(words)) => Ok(Ok(words.into_vec())),
+            Ok(other) => Err(another_kind(FunctionCode::ReadFifoQueue, other)),
             Err(exception) => Ok(Err(exception)),
         }
     }
