@@ -72,6 +72,9 @@ fn read<C: Client>(client: &mut C, request: &Request<'_>) -> Answer<Response> {
         Request::ReadWriteMultipleRegisters(at, count, to, words) => client
             .read_write_multiple_registers(*at, *count, *to, words.as_slice())?
             .map(|words| Response::ReadWriteMultipleRegisters(Words::new(words))),
+        Request::ReadFifoQueue(at) => client
+            .read_fifo_queue(*at)?
+            .map(|words| Response::ReadFifoQueue(Words::new(words))),
         Request::ReadDeviceIdentification(code, id) => client
             .read_device_identification(*code, *id)?
             .map(|found| Response::ReadDeviceIdentification(found)),
