@@ -1,12 +1,11 @@
 -- A verdict that is good or bad stays when bytes follow.
 use Rattle.std.proofs.Common.{◌≡◌, ◌≢◌, ℕ, zero, suc, ◌+◌, ◌<◌, ◌≤◌, Bool, true, false, cond, ltb, List, [], ◌∷◌, ◌++◌, length, drop, Option, Some, None, Ok, Err, refl, sym, ap, ◌∙◌, arith, length-append, length-drop}
 use Rattle.std.specs.Prelude.{slice_get}
-use Rattle.std.specs.Option.{option_map}
 use Rattle.std.proofs.lemmas.List.{take-append-le, drop-append-le, drop-drop, drop_all, get_or_append_left}
 use Rattle.std.proofs.lemmas.Bool.{ltb-false, le-ltb}
 use Rattle.modbus_rtu.specs.declared.verdict.Verdict.{Verdict}
 use Rattle.modbus_rtu.specs.declared.verdict.Verdict.TheVariants.{Open, Bad, Good}
-use Rattle.modbus_rtu.specs.Frame.{Rule, Head, head, head_at, head_by, identified, rule, verdict, verdict_of, verdict_by}
+use Rattle.modbus_rtu.specs.Frame.{Rule, Head, head, head_at, head_by, counted_head, identified, rule, verdict, verdict_of, verdict_by}
 use Rattle.modbus_rtu.specs.Frame.Rule.{fixed, counted, identification, unknown}
 use Rattle.modbus_rtu.specs.Limits.{overhead}
 
@@ -23,9 +22,9 @@ IsKept o o' = (x : ℕ) → o ≡ Some x → o' ≡ Some x
 abbrev pub Stays : Head → Head → Type 0
 Stays h h' = h ≢ Ok None → h' ≡ h
 
-counted_stays : (n : ℕ) (o o' : Option ℕ) → IsKept o o' → Stays (Ok (option_map (λ byte. n + byte) o)) (Ok (option_map (λ byte. n + byte) o'))
-counted_stays n None o' kept ne = absurd (ne refl)
-counted_stays n (Some x) o' kept ne = rw (kept x refl) refl
+counted_stays : (code n : ℕ) (o o' : Option ℕ) → IsKept o o' → Stays (counted_head code n o) (counted_head code n o')
+counted_stays code n None o' kept ne = absurd (ne refl)
+counted_stays code n (Some x) o' kept ne = rw (kept x refl) refl
 
 identified_stays : (code : ℕ) (o o' : Option ℕ) → IsKept o o' → Stays (identified code o) (identified code o')
 identified_stays code None o' kept ne = absurd (ne refl)
@@ -33,7 +32,7 @@ identified_stays code (Some x) o' kept ne = rw (kept x refl) refl
 
 head_by-append : (code : ℕ) (adu more : List ℕ) (r : Rule) → Stays (head_by code adu r) (head_by code (adu ++ more) r)
 head_by-append code adu more (fixed n) ne = refl
-head_by-append code adu more (counted n) ne = counted_stays n (slice_get adu n) _ (got_again adu more n) ne
+head_by-append code adu more (counted n) ne = counted_stays code n (slice_get adu n) _ (got_again adu more n) ne
 head_by-append code adu more identification ne = identified_stays code (slice_get adu 2) _ (got_again adu more 2) ne
 head_by-append code adu more unknown ne = refl
 

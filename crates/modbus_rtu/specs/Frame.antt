@@ -1,11 +1,10 @@
 -- An RTU frame, and what stands at an offset of a list of bytes.
 use Rattle.std.specs.Prelude.{ℕ, ◌+◌, ◌*◌, ◌/◌, ◌%◌, ◌||◌, if◌then◌else◌, ◌==◌, nat_lt, List, [], ◌∷◌, ◌++◌, length, take, drop, slice_get, slice_index, Option, Some, None, Result, Ok, Err}
-use Rattle.std.specs.Option.{option_map}
 use Rattle.modbus_rtu.specs.declared.length.NoLength.{NoLength}
 use Rattle.modbus_rtu.specs.declared.verdict.Verdict.{Verdict}
 use Rattle.modbus_rtu.specs.declared.verdict.Verdict.TheVariants.{Open, Bad, Good}
 use Rattle.modbus_frame.specs.FunctionCodes as number
-use Rattle.modbus_pdu.specs.Limits.{mei_device_identification, code_pdu, one_word_pdu, two_words_pdu, three_words_pdu, write_head, read_write_head, identification_request}
+use Rattle.modbus_pdu.specs.Limits.{max_pdu, mei_device_identification, code_pdu, one_word_pdu, two_words_pdu, three_words_pdu, write_head, read_write_head, identification_request}
 use Rattle.modbus_rtu.specs.Checksum.{crc}
 use Rattle.modbus_rtu.specs.Limits.{overhead}
 
@@ -17,7 +16,8 @@ frame slave pdu = let sum = crc (slave ∷ pdu) in slave ∷ pdu ++ sum % 256 �
 -- code stands at place 1.
 pub data Rule : Type 0 where
   fixed : ℕ → Rule
-  -- so many, the last of which is a byte count, and as many as it says. The slave address moves it on to that place
+  -- so many, the last of which is a byte count, and as many as it says. The slave address moves it on to that place. A length that no
+  -- PDU has is none
   counted : ℕ → Rule
   -- by the MEI type at place 2: a length where it is that of device identification, and none for another type
   identification : Rule
@@ -47,9 +47,15 @@ abbrev pub identified : ℕ → Option ℕ → Head
 identified code None = Ok None
 identified code (Some mei) = if mei == mei_device_identification then Ok (Some identification_request) else Err (record { 0 = code })
 
+-- So many bytes, and as many as a byte count says; no length above the most bytes of a PDU (section 4.1). So noise in the place of a
+-- byte count is known as such, and no byte is waited for.
+abbrev pub counted_head : ℕ → ℕ → Option ℕ → Head
+counted_head code n None = Ok None
+counted_head code n (Some byte) = if nat_lt max_pdu (n + byte) then Err (record { 0 = code }) else Ok (Some (n + byte))
+
 abbrev pub head_by : ℕ → List ℕ → Rule → Head
 head_by code adu (fixed n) = Ok (Some n)
-head_by code adu (counted n) = Ok (option_map (λ byte. n + byte) (slice_get adu n))
+head_by code adu (counted n) = counted_head code n (slice_get adu n)
 head_by code adu identification = identified code (slice_get adu 2)
 head_by code adu unknown = Err (record { 0 = code })
 

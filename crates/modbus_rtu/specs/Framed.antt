@@ -1,6 +1,7 @@
 -- A list of bytes that is nothing but frames.
 use Rattle.std.specs.Prelude.{◌≡◌, ℕ, List, ◌∷◌, map, flat_map, length, Some, Ok}
 use Rattle.modbus_frame.specs.Meaning.{Asked, Custom}
+use Rattle.modbus_pdu.specs.Coding.{Fits}
 use Rattle.modbus_pdu.specs.RequestPdu.{request_pdu}
 use Rattle.modbus_rtu.specs.Frame.{head, frame}
 use Rattle.modbus_rtu.specs.Leftmost.{IsLeftmost}
@@ -22,6 +23,10 @@ IsWholeReading bytes messages = (frames : List ℕ) × IsLeftmost bytes frames (
 abbrev pub IsModelledAsk : Asked → Type 0
 IsModelledAsk (Custom code bytes) = ⊥
 IsModelledAsk _ = Unit {0}
+
+-- such a request, with a PDU that is not too long for a frame
+abbrev pub IsFramedAsk : Asked → Type 0
+IsFramedAsk asked = IsModelledAsk asked × Fits (request_pdu asked)
 
 -- a request for a slave, as the slave address and the PDU of its frame
 abbrev pub message_of : ℕ × Asked → ℕ × List ℕ

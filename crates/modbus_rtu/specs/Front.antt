@@ -8,14 +8,14 @@ use Rattle.modbus_rtu.specs.declared.front.Crowd.{Crowd}
 use Rattle.modbus_rtu.specs.Frame.{verdict}
 use Rattle.modbus_rtu.specs.Next.{IsNext}
 use Rattle.modbus_rtu.specs.Stands.{StandsFor, IsTakenNext, IsFirstCrowd, IsUsedUp}
-use Rattle.modbus_rtu.specs.Limits.{overhead, capacity, max_retries}
+use Rattle.modbus_rtu.specs.Limits.{overhead, max_frame, max_retries}
 
 -- The next frame, which lies within the held bytes; or so many bad offsets before an open one, with fewer bytes from there on than
 -- the longest frame has; or `max_retries` bad offsets.
 abbrev pub Finds : List ℕ → Result Front Crowd → Type 0
 Finds held (Ok (front.Frame slave pdu end)) =
     (start : ℕ) × (n : ℕ) × IsNext held (next.Frame start n) × (slave ≡ slice_index held start) × (pdu.now ≡ take n (drop (start + 1) held)) × (end ≡ start + (n + overhead)) × (end ≤ length held)
-Finds held (Ok (front.Waiting dropped)) = IsNext held (next.Waiting dropped) × (dropped ≤ length held) × (length held < dropped + capacity)
+Finds held (Ok (front.Waiting dropped)) = IsNext held (next.Waiting dropped) × (dropped ≤ length held) × (length held < dropped + max_frame)
 Finds held (Err crowd) = IsNext held next.TooManyRetries × (max_retries ≤ length held)
 
 -- what this says of the bytes that were given so far, and what the bytes behind it then stand for

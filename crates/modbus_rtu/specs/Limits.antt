@@ -1,7 +1,7 @@
 -- The numbers of a frame, of a search and of what a decoder records, each of which stands here alone (MODBUS over Serial Line
 -- V1.02, section 2.5.1; Modbus Application Protocol V1.1b3, section 6).
 use Rattle.std.specs.Prelude.{ℕ, ◌+◌, ◌*◌}
-use Rattle.modbus_pdu.specs.Limits.{max_pdu, read_write_head, identification_head}
+use Rattle.modbus_pdu.specs.Limits.{max_pdu, identification_head}
 
 -- the bytes of a slave address, which stands before the PDU
 abbrev pub slave_address : ℕ
@@ -19,17 +19,9 @@ overhead = slave_address + checksum
 abbrev pub max_byte_count : ℕ
 max_byte_count = 255
 
--- the most bytes that the head of a request tells of its PDU: those of a read and write (V1.1b3, 6.17)
-abbrev pub most_pdu : ℕ
-most_pdu = read_write_head + max_byte_count
-
--- the bytes of the longest request frame that is waited for
-abbrev pub capacity : ℕ
-capacity = most_pdu + overhead
-
--- the bytes of the longest response frame
-abbrev pub longest_response : ℕ
-longest_response = max_pdu + overhead
+-- the most bytes of a frame
+abbrev pub max_frame : ℕ
+max_frame = max_pdu + overhead
 
 -- where the number of objects stands in bytes that begin with the slave address: it is the last byte of its head (V1.1b3, 6.21)
 abbrev pub object_count : ℕ

@@ -13,7 +13,7 @@ ghost use Rattle.modbus_rtu.specs.Frame.{frame, verdict_of};
 ghost use Rattle.modbus_rtu.specs.ResponseHead.{response_verdict};
 ghost use Rattle.modbus_rtu.specs.Decoding.{ReadsBy};
 ghost use Rattle.modbus_frame.specs.FunctionCodes.{exception_bit};
-ghost use Rattle.modbus_rtu.specs.Limits.{capacity, longest_identification};
+ghost use Rattle.modbus_rtu.specs.Limits.{max_frame, longest_identification};
 
 use crate::decoder::{RequestDecoder, ResponseDecoder};
 use crate::encoder::{encode_request_frame, encode_response_frame};
@@ -97,7 +97,7 @@ impl ServerCodec {
     }
 
     /// Takes off the next frame of a request, with all bytes before it, and reads its PDU. `None` where there is no whole frame; the
-    /// bytes that begin none are dropped, and fewer than `CAPACITY` bytes are left.
+    /// bytes that begin none are dropped, and fewer than `MAX_FRAME` bytes are left.
     ///
     /// # Errors
     /// `TooManyRetries` exactly where no frame stands at the first `MAX_RETRIES` offsets; they are dropped. `Invalid` with the
@@ -110,7 +110,7 @@ impl ServerCodec {
         buf: &mut BytesMut,
     ) -> Result<Option<rtu::RequestAdu<'static>>, RtuError>
         ensures reads { ReadsBy verdict_of request_of CarriesList (λ adu. adu.hdr.slave_id) (λ adu. meaning adu.pdu.0) buf.old.items result buf.new.items }
-        ensures short { result ≡ Ok None → length buf.new.items < capacity }
+        ensures short { result ≡ Ok None → length buf.new.items < max_frame }
     {
         let Some((slave_id, pdu)) = self.decoder.decode(alloc, buf)? else {
             return Ok(None);

@@ -200,7 +200,7 @@ pub struct Decoder<R> {
     frames: FrameDecoder,
 }
 
-/// Takes the frames of requests out of a buffer. Fewer than `CAPACITY` bytes wait.
+/// Takes the frames of requests out of a buffer. Fewer than `MAX_FRAME` bytes wait.
 pub type RequestDecoder = Decoder<RequestRule>;
 
 /// Takes the frames of responses out of a buffer. Fewer than `LONGEST_IDENTIFICATION` bytes wait.

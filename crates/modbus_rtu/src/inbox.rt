@@ -9,15 +9,17 @@ ghost use Rattle.modbus_rtu.specs.Frame.{verdict};
 ghost use Rattle.modbus_rtu.specs.Stands.{StandsFor, IsTakenNext};
 ghost use Rattle.modbus_rtu.specs.Front.{Finds, FindsIn};
 ghost use Rattle.modbus_rtu.specs.Inbox.{parts, TakesFrame, StandsAfter};
-ghost use Rattle.modbus_rtu.specs.Limits.{most_pdu, capacity};
+ghost use Rattle.modbus_pdu.specs.Limits.{max_pdu};
+ghost use Rattle.modbus_rtu.specs.Limits.{max_frame};
 
 use crate::front::{Crowd, Front, find_in_two};
-use crate::length::{CAPACITY, MOST_PDU};
+use crate::length::MAX_FRAME;
 use crate::search::MAX_RETRIES;
 use arrayvec::ArrayVec;
 use circular_buffer::HeapCircularBuffer;
 use modbus_frame::{PduError, Reason, SlaveId};
 use modbus_link::{Failed, Source};
+use modbus_pdu::MAX_PDU;
 use std::alloc::{AllocError, Global};
 use std::marker::Model;
 
@@ -25,7 +27,7 @@ use std::marker::Model;
 #[derive(Debug, PartialEq, Eq, Drop)]
 pub struct RtuFrame {
     pub slave: SlaveId,
-    pub pdu: ArrayVec<u8, MOST_PDU>,
+    pub pdu: ArrayVec<u8, MAX_PDU>,
 }
 
 /// Why no frame is given.
@@ -58,7 +60,7 @@ impl From<PduError> for RtuError {
     }
 }
 
-/// The bytes that were read and not used yet, at most `CAPACITY`.
+/// The bytes that were read and not used yet, at most `MAX_FRAME`.
 ///
 /// They lie in a ring, whose room is taken when the inbox is opened, so no byte is moved when others are taken off.
 #[derive(Drop)]
@@ -68,7 +70,7 @@ pub struct Inbox {
 
 /// A contract sees the bytes that are held.
 impl Model for Inbox {
-    ghost use Rattle.modbus_rtu.specs.Limits.{capacity};
+    ghost use Rattle.modbus_rtu.specs.Limits.{max_frame};
     ghost use Rattle.std.specs.Prelude.{◌≡◌, ℕ, ◌≤◌, List, length};
 
     ghost Value = { List ℕ };
@@ -76,14 +78,14 @@ impl Model for Inbox {
     ghost view = { λ inbox. inbox.ring.items };
 
     ghost invariant = { λ inbox. record {
-      room : inbox.ring.capacity ≡ capacity;
-      within : length inbox.ring.items ≤ capacity;
+      room : inbox.ring.capacity ≡ max_frame;
+      within : length inbox.ring.items ≤ max_frame;
     } };
 }
 
 /// Copies the PDU of a frame.
-fn copy_pdu(pdu: &[u8]) -> ArrayVec<u8, MOST_PDU>
-    requires { length pdu.now ≤ most_pdu }
+fn copy_pdu(pdu: &[u8]) -> ArrayVec<u8, MAX_PDU>
+    requires { length pdu.now ≤ max_pdu }
     ensures { result.items ≡ pdu.now }
 {
     match ArrayVec::try_from(pdu) {
@@ -115,7 +117,7 @@ impl Inbox {
         ensures { IfOk result (λ inbox. inbox ≡ []) }
     {
         Ok(Inbox {
-            ring: HeapCircularBuffer::with_capacity(alloc, CAPACITY)?,
+            ring: HeapCircularBuffer::with_capacity(alloc, MAX_FRAME)?,
         })
     }
 
@@ -123,7 +125,7 @@ impl Inbox {
     #[inline]
     pub fn held(&self) -> usize
         ensures exact { result ≡ length self.now }
-        ensures most { result ≤ capacity }
+        ensures most { result ≤ max_frame }
     {
         self.ring.len()
     }
@@ -131,10 +133,10 @@ impl Inbox {
     /// How many bytes fit behind those that are held: the room of the next read.
     #[inline]
     pub fn room(&self) -> usize
-        ensures exact { result ≡ capacity - length self.now }
-        ensures most { length self.now ≤ capacity }
+        ensures exact { result ≡ max_frame - length self.now }
+        ensures most { length self.now ≤ max_frame }
     {
-        CAPACITY - self.held()
+        MAX_FRAME - self.held()
     }
 
     /// Whether no byte is held.
@@ -147,7 +149,7 @@ impl Inbox {
 
     /// Appends bytes for which there is room.
     pub fn append(&mut self, piece: &[u8])
-        requires { length self.old + length piece.now ≤ capacity }
+        requires { length self.old + length piece.now ≤ max_frame }
         ensures { self.new ≡ self.old ++ piece.now }
     {
         self.ring.extend_from_slice(piece);
@@ -163,25 +165,25 @@ impl Inbox {
         self.ring.truncate_front(left);
     }
 
-    /// Reads from the source into a room of `CAPACITY` bytes less those that are held, appends what it gave, and answers how many
+    /// Reads from the source into a room of `MAX_FRAME` bytes less those that are held, appends what it gave, and answers how many
     /// bytes that were: 0 exactly where the input has ended. It takes no memory.
     ///
     /// # Errors
     /// `Failed`, only where the source's count of faults rose; then nothing was read, and the same bytes are held.
     pub fn fill<S: Source>(&mut self, source: &mut S) -> Result<usize, Failed>
-        requires { length self.old < capacity }
-        ensures reads { (piece : List ℕ) × ReadsPiece (S.input source.old) (S.input source.new) (capacity - length self.old) piece result × (self.new ≡ self.old ++ piece) }
+        requires { length self.old < max_frame }
+        ensures reads { (piece : List ℕ) × ReadsPiece (S.input source.old) (S.input source.new) (max_frame - length self.old) piece result × (self.new ≡ self.old ++ piece) }
         ensures sink { S.output source.new ≡ S.output source.old }
         ensures cause { OnErr result (Rose (S.input source.old).faults (S.input source.new).faults) }
         ensures err { OnErr result (self.new ≡ self.old) }
 
         // Whatever the source tells, no more is held than fits.
-        ensures most { length self.new ≤ capacity }
+        ensures most { length self.new ≤ max_frame }
 
         // Where nothing can be taken off, what the inbox stands for goes on by the piece that was read.
         ensures stands { (piece : List ℕ) → self.new ≡ self.old ++ piece → 0 < length piece → (bytes cuts : List ℕ) (taken : List (ℕ × List ℕ)) → StandsFor bytes cuts self.old taken → verdict self.old 0 ≡ Open → StandsFor (bytes ++ piece) (cuts ++ length (bytes ++ piece) ∷ []) self.new taken }
     {
-        let mut buffer = [0; CAPACITY];
+        let mut buffer = [0; MAX_FRAME];
         let room = self.room();
         let count = read_piece(source, &mut buffer[..room])?;
         self.append(&buffer[..count]);
@@ -196,9 +198,9 @@ impl Inbox {
     /// # Errors
     /// `Crowd` exactly where no frame stands at the first `MAX_RETRIES` offsets.
     #[inline(always)]
-    pub fn front<'a>(&'a self, seam: &'a mut [u8; CAPACITY]) -> Result<Front<'a>, Crowd>
+    pub fn front<'a>(&'a self, seam: &'a mut [u8; MAX_FRAME]) -> Result<Front<'a>, Crowd>
         ensures finds { Finds self.now result }
-        ensures most { length self.now ≤ capacity }
+        ensures most { length self.now ≤ max_frame }
 
         // In terms of all bytes that were given so far: which frame it is, and what the bytes behind it then stand for.
         ensures stands { (bytes cuts : List ℕ) (taken : List (ℕ × List ℕ)) → StandsFor bytes cuts self.now taken → FindsIn bytes cuts taken self.now result }
@@ -210,9 +212,9 @@ impl Inbox {
     /// The search, and what it takes off.
     fn take_next(&mut self) -> Result<Option<RtuFrame>, RtuError>
         ensures gives { TakesFrame self.old result self.new }
-        ensures room { IfOk result (λ found. IfNone found (length self.new < capacity)) }
+        ensures room { IfOk result (λ found. IfNone found (length self.new < max_frame)) }
     {
-        let mut seam = [0; CAPACITY];
+        let mut seam = [0; MAX_FRAME];
         match self.front(&mut seam) {
             Err(Crowd) => {
                 self.advance(MAX_RETRIES);
@@ -242,7 +244,7 @@ impl Inbox {
         ensures shrinks { IfOk result (λ found. IfSome found (λ frame. length self.new < length self.old)) }
 
         // Where there is no frame, a read has room, and what is held begins with the open offset.
-        ensures room { IfOk result (λ found. IfNone found (length self.new < capacity)) }
+        ensures room { IfOk result (λ found. IfNone found (length self.new < max_frame)) }
         ensures open { result ≡ Ok None → verdict self.new 0 ≡ Open }
 
         // In terms of all bytes that were given so far: which frame it is, and what the inbox then stands for.

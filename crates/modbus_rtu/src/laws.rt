@@ -15,7 +15,7 @@ ghost use Rattle.modbus_rtu.specs.Place.{frames_below};
 ghost use Rattle.modbus_rtu.specs.Stands.{StandsFor, IsTakenNext, IsUsedUp, IsFirstCrowd, HasCrowd, frame_at};
 ghost use Rattle.modbus_rtu.specs.Quiet.{IsQuietLine};
 ghost use Rattle.modbus_frame.specs.Meaning.{Asked};
-ghost use Rattle.modbus_rtu.specs.Framed.{HasHead, IsModelledAsk, message_of, stream_of, IsWholeReading};
+ghost use Rattle.modbus_rtu.specs.Framed.{HasHead, IsFramedAsk, message_of, stream_of, IsWholeReading};
 ghost use Rattle.modbus_rtu.specs.Limits.{overhead, max_retries};
 
 /// The checksum goes by whole bytes: a byte's eight bit steps move the high half of the register down, and add what eight bit steps make
@@ -103,11 +103,12 @@ pub fn frames_alone()
 {}
 
 /// Frames of requests of modelled kinds, one after another, each for some slave, have exactly these as leftmost frames, with the stop at
-/// the end, and they are a quiet line: each offset is that of a frame or lies in one.
+/// the end, and they are a quiet line: each offset is that of a frame or lies in one. No PDU is longer than `MAX_PDU`, since a longer one
+/// has no head.
 pub fn request_frames()
-    ensures heads { (asked : ℕ × Asked) → IsModelledAsk asked.1 → HasHead (message_of asked) }
-    ensures alone { (asked : List (ℕ × Asked)) → AllByRecursion (λ one. IsModelledAsk one.1) asked → IsWholeReading (stream_of (map message_of asked)) (map message_of asked) }
-    ensures quiet { (asked : List (ℕ × Asked)) → AllByRecursion (λ one. IsModelledAsk one.1) asked → IsQuietLine (stream_of (map message_of asked)) (map message_of asked) }
+    ensures heads { (asked : ℕ × Asked) → IsFramedAsk asked.1 → HasHead (message_of asked) }
+    ensures alone { (asked : List (ℕ × Asked)) → AllByRecursion (λ one. IsFramedAsk one.1) asked → IsWholeReading (stream_of (map message_of asked)) (map message_of asked) }
+    ensures quiet { (asked : List (ℕ × Asked)) → AllByRecursion (λ one. IsFramedAsk one.1) asked → IsQuietLine (stream_of (map message_of asked)) (map message_of asked) }
 {
     modbus_pdu::requests_have_sizes();
 }

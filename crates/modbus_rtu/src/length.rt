@@ -1,9 +1,9 @@
 //! How long a PDU is, by its first bytes (Modbus Application Protocol V1.1b3, section 6).
 ghost use Rattle.std.specs.Prelude.{◌≡◌, ℕ, ◌+◌, ◌<◌, ◌≤◌, List, IfOk, IfSome, IsErr, Ok, None, length, slice_get};
 ghost use Rattle.std.specs.Option.{option_map};
-ghost use Rattle.modbus_rtu.specs.Frame.{Head, head};
-ghost use Rattle.modbus_pdu.specs.Limits.{read_write_head};
-ghost use Rattle.modbus_rtu.specs.Limits.{slave_address, overhead, max_byte_count, most_pdu, capacity};
+ghost use Rattle.modbus_rtu.specs.Frame.{Head, counted_head, head};
+ghost use Rattle.modbus_pdu.specs.Limits.{max_pdu, read_write_head};
+ghost use Rattle.modbus_rtu.specs.Limits.{slave_address, overhead, max_byte_count, max_frame};
 
 use modbus_frame::function_code;
 use modbus_pdu::{
@@ -13,7 +13,7 @@ use modbus_pdu::{
 use std::error::Error;
 use std::fmt;
 
-/// A function code for which no length is known.
+/// A function code for which no length is known, or whose byte count tells more than a PDU has.
 #[derive(Clone, Copy, Debug, PartialEq, Eq)]
 pub struct NoLength(pub u8);
 
@@ -37,14 +37,8 @@ pub(crate) const OVERHEAD: usize = SLAVE_ADDRESS + CHECKSUM;
 /// The greatest byte count.
 pub(crate) const MAX_BYTE_COUNT: usize = 255;
 
-/// The most bytes that the head of a request tells of its PDU: those of a read and write (V1.1b3, section 6.17).
-pub const MOST_PDU: usize = READ_WRITE_HEAD + MAX_BYTE_COUNT;
-
-/// The bytes of the longest request frame that is waited for, which are the most that an inbox holds: 268.
-pub const CAPACITY: usize = MOST_PDU + OVERHEAD;
-
-/// The bytes of the longest response frame: 256 (V1.1b3, section 4.1).
-pub const LONGEST_RESPONSE: usize = MAX_PDU + OVERHEAD;
+/// The most bytes of a frame: 256 (V1.1b3, section 4.1).
+pub const MAX_FRAME: usize = MAX_PDU + OVERHEAD;
 
 /// A length that a byte count tells, the last byte of a head: the bytes of the head, and as many as it says.
 pub(crate) fn counted_len(adu: &[u8], head: usize) -> Option<usize>
@@ -56,18 +50,33 @@ pub(crate) fn counted_len(adu: &[u8], head: usize) -> Option<usize>
     Some(head + usize::from(byte_count))
 }
 
+/// The length that the byte count of a request tells, where a PDU can be so long.
+#[inline(always)]
+fn counted_request_len(code: u8, adu: &[u8], head: usize) -> Result<Option<usize>, NoLength>
+    requires { head ≤ max_byte_count }
+    ensures exact { result ≡ counted_head code head (slice_get adu.now head) }
+    ensures most { IfOk result (λ found. IfSome found (λ n. n ≤ max_pdu)) }
+    ensures missing { result ≡ Ok None → length adu.now ≤ head }
+{
+    match counted_len(adu, head) {
+        Some(pdu_len) if pdu_len > MAX_PDU => Err(NoLength(code)),
+        found => Ok(found),
+    }
+}
+
 /// The length in bytes of the PDU of a request, in bytes that begin with the slave address. `None` where a byte that tells it
 /// is missing.
 ///
 /// # Errors
-/// `NoLength` with the function code, exactly where no length is known for it.
+/// `NoLength` with the function code, exactly where no length is known for it, or its byte count tells more than `MAX_PDU`: no request
+/// has such a head (V1.1b3, section 4.1).
 #[inline(always)]
 #[tactic(auto, unfolding(crate::specs::Frame::head, crate::specs::Frame::rule))]
 pub fn request_pdu_len(adu: &[u8]) -> Result<Option<usize>, NoLength>
     ensures exact { result ≡ head adu.now }
 
-    // The longest PDU is that of a read and write, and no rule needs a byte past its head.
-    ensures most { IfOk result (λ found. IfSome found (λ n. n ≤ most_pdu)) }
+    // No rule needs a byte past the head of a read and write.
+    ensures most { IfOk result (λ found. IfSome found (λ n. n ≤ max_pdu)) }
     ensures missing { result ≡ Ok None → length adu.now < slave_address + read_write_head }
     ensures coded { IsErr result → 1 < length adu.now }
 {
@@ -85,11 +94,13 @@ pub fn request_pdu_len(adu: &[u8]) -> Result<Option<usize>, NoLength>
         | function_code::GET_COMM_EVENT_COUNTER
         | function_code::GET_COMM_EVENT_LOG
         | function_code::REPORT_SERVER_ID => Ok(Some(CODE_PDU)),
-        function_code::WRITE_MULTIPLE_COILS | function_code::WRITE_MULTIPLE_REGISTERS => Ok(
-            counted_len(adu, WRITE_HEAD),
-        ),
+        function_code::WRITE_MULTIPLE_COILS | function_code::WRITE_MULTIPLE_REGISTERS => {
+            counted_request_len(code, adu, WRITE_HEAD)
+        }
         function_code::MASK_WRITE_REGISTER => Ok(Some(THREE_WORDS_PDU)),
-        function_code::READ_WRITE_MULTIPLE_REGISTERS => Ok(counted_len(adu, READ_WRITE_HEAD)),
+        function_code::READ_WRITE_MULTIPLE_REGISTERS => {
+            counted_request_len(code, adu, READ_WRITE_HEAD)
+        }
         function_code::READ_FIFO_QUEUE => Ok(Some(ONE_WORD_PDU)),
         function_code::ENCAPSULATED_INTERFACE_TRANSPORT => match adu.get(2) {
             None => Ok(None),
@@ -111,7 +122,7 @@ pub trait LengthRule {
     /// The length in bytes of the PDU, in bytes that begin with the slave address. `None` where a byte that tells it is missing.
     ///
     /// # Errors
-    /// `NoLength` with the function code, exactly where no length is known for it.
+    /// `NoLength` with the function code, exactly where there is no length.
     fn pdu_len(&self, adu: &[u8]) -> Result<Option<usize>, NoLength>
         ensures exact { result ≡ head adu.now }
 
@@ -130,11 +141,11 @@ pub trait LengthRule {
 pub struct RequestRule;
 
 impl LengthRule for RequestRule {
-    ghost use Rattle.modbus_rtu.specs.Limits.{capacity};
+    ghost use Rattle.modbus_rtu.specs.Limits.{max_frame};
 
     ghost head = { head };
 
-    ghost longest = { capacity };
+    ghost longest = { max_frame };
 
     #[inline(always)]
     fn pdu_len(&self, adu: &[u8]) -> Result<Option<usize>, NoLength> {

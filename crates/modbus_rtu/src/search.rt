@@ -1,7 +1,7 @@
 //! The search for the next frame in the bytes that a reader holds.
 ghost use Rattle.modbus_rtu.specs.Frame.{judged_by};
 ghost use Rattle.modbus_rtu.specs.Next.{IsNext, IsNextBy, IsWithin};
-ghost use Rattle.modbus_rtu.specs.Limits.{capacity};
+ghost use Rattle.modbus_rtu.specs.Limits.{max_frame};
 
 use crate::length::{LengthRule, RequestRule};
 use crate::verdict::{Verdict, judge_by};
@@ -42,7 +42,7 @@ pub fn next_frame_by<R: LengthRule>(rule: &R, held: &[u8]) -> Next
 #[tactic(auto, unfolding(crate::specs::Frame::verdict_of))]
 pub fn next_frame(held: &[u8]) -> Next
     ensures exact { IsNext held.now result }
-    ensures within { IsWithin capacity held.now result }
+    ensures within { IsWithin max_frame held.now result }
 {
     next_frame_by(&RequestRule, held)
 }

@@ -1,7 +1,7 @@
 //! What stands at the front of a list of bytes.
 ghost use Rattle.std.specs.Prelude.{◌≡◌, ◌≢◌, ℕ, ◌+◌, ◌<◌, ◌≤◌, length};
 ghost use Rattle.modbus_rtu.specs.Frame.{judged_by, verdict_of};
-ghost use Rattle.modbus_rtu.specs.Limits.{overhead, capacity};
+ghost use Rattle.modbus_rtu.specs.Limits.{overhead, max_frame};
 
 use crate::crc::check_crc;
 use crate::length::{LengthRule, OVERHEAD, RequestRule};
@@ -51,7 +51,7 @@ pub fn judge(adu: &[u8]) -> Verdict
     ensures exact { result ≡ verdict_of adu.now }
 
     // Bytes wait for more only while they are fewer than the longest request frame.
-    ensures short { result ≡ Verdict.Open → length adu.now < capacity }
+    ensures short { result ≡ Verdict.Open → length adu.now < max_frame }
     ensures whole { (n : ℕ) → result ≡ Verdict.Good n → n + overhead ≤ length adu.now }
 {
     judge_by(&RequestRule, adu)
