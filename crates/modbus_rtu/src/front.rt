@@ -1,9 +1,8 @@
 //! What stands at the front of the bytes that a reader holds: the next frame, lent from where it lies.
 ghost use Rattle.std.specs.Prelude.{◌≡◌, ◌+◌, ◌≤◌, ◌++◌, length};
 ghost use Rattle.modbus_rtu.specs.Front.{Finds};
-ghost use Rattle.modbus_rtu.specs.Limits.{max_frame};
 
-use crate::length::{MAX_FRAME, OVERHEAD};
+use crate::length::OVERHEAD;
 use crate::search::{Next, next_frame};
 use modbus_frame::SlaveId;
 
@@ -44,8 +43,8 @@ pub(crate) fn find(held: &[u8]) -> Result<Front<'_>, Crowd>
 }
 
 /// Copies two pieces of bytes one behind the other.
-fn join<'a>(first: &[u8], second: &[u8], seam: &'a mut [u8; MAX_FRAME]) -> &'a [u8]
-    requires { length first.now + length second.now ≤ max_frame }
+fn join<'a>(first: &[u8], second: &[u8], seam: &'a mut [u8]) -> &'a [u8]
+    requires { length first.now + length second.now ≤ length seam.old }
     ensures { result.now ≡ first.now ++ second.now }
 {
     let end = first.len() + second.len();
@@ -60,9 +59,9 @@ fn join<'a>(first: &[u8], second: &[u8], seam: &'a mut [u8; MAX_FRAME]) -> &'a [
 fn find_across<'a>(
     first: &[u8],
     second: &[u8],
-    seam: &'a mut [u8; MAX_FRAME],
+    seam: &'a mut [u8],
 ) -> Result<Front<'a>, Crowd>
-    requires { length first.now + length second.now ≤ max_frame }
+    requires { length first.now + length second.now ≤ length seam.old }
     ensures { Finds (first.now ++ second.now) result }
 {
     find(join(first, second, seam))
@@ -75,9 +74,9 @@ fn find_across<'a>(
 pub(crate) fn find_in_two<'a>(
     first: &'a [u8],
     second: &'a [u8],
-    seam: &'a mut [u8; MAX_FRAME],
+    seam: &'a mut [u8],
 ) -> Result<Front<'a>, Crowd>
-    requires { length first.now + length second.now ≤ max_frame }
+    requires { length first.now + length second.now ≤ length seam.old }
     ensures { Finds (first.now ++ second.now) result }
 {
     match find(first) {

@@ -193,12 +193,14 @@ impl Inbox {
     /// What the search of the held bytes finds: the next frame, with its PDU lent from where it lies, or that bytes are waited for.
     /// Nothing is taken off: `advance` by `end`, by `dropped`, or by `MAX_RETRIES` in a crowd does that.
     ///
-    /// A frame that lies at the end of the ring and goes on at its front is copied to `seam`, and its PDU is lent from there.
+    /// A frame that lies at the end of the ring and goes on at its front is copied to `seam`, which has room for `MAX_FRAME` bytes, and
+    /// its PDU is lent from there.
     ///
     /// # Errors
     /// `Crowd` exactly where no frame stands at the first `MAX_RETRIES` offsets.
     #[inline(always)]
-    pub fn front<'a>(&'a self, seam: &'a mut [u8; MAX_FRAME]) -> Result<Front<'a>, Crowd>
+    pub fn front<'a>(&'a self, seam: &'a mut [u8]) -> Result<Front<'a>, Crowd>
+        requires { max_frame ≤ length seam.old }
         ensures finds { Finds self.now result }
         ensures most { length self.now ≤ max_frame }
 
