@@ -18,7 +18,7 @@ header_size = 7
 abbrev pub longest_adu : ℕ
 longest_adu = 6 + 65535
 
--- the room of a read in bytes
+-- the room of a read in bytes, which the standard doesn't tell: more than the longest ADU of a request that is answered
 abbrev pub read_room : ℕ
 read_room = 268
 

@@ -11,13 +11,13 @@ ghost use Rattle.modbus_server.specs.Framing.{Framing as Frames, Message, IsOfFr
 ghost use Rattle.modbus_server.specs.Taking.{FindsNext, IsFrontWithin};
 
 use crate::error::ProcessError;
+use crate::tcp::ROOM;
 use bytes::BytesMut;
 use modbus_frame::{EncodeError, ExceptionResponse, Response, SlaveId};
-use modbus_rtu::CAPACITY;
 use std::alloc::{AllocError, Global};
 
-/// The most bytes that one read has room for, over every framing: the longest RTU frame.
-pub const MAX_ROOM: usize = CAPACITY;
+/// The most bytes that one read has room for, over every framing: those of a read of Modbus TCP.
+pub const MAX_ROOM: usize = ROOM;
 
 /// What stands at the front of the bytes that are held.
 #[derive(Debug, PartialEq, Eq)]

@@ -5,7 +5,8 @@ ghost use Rattle.modbus_server.specs.declared.error.ProcessError.TheVariants.{To
 ghost use Rattle.modbus_server.specs.Complete.{Completes};
 ghost use Rattle.modbus_server.specs.Stepping.{Ran};
 ghost use Rattle.modbus_server.specs.Stopping.{RanUntil, to_the_end};
-ghost use Rattle.modbus_server.specs.Rtu.{capacity, rtu};
+ghost use Rattle.modbus_rtu.specs.Limits.{max_frame};
+ghost use Rattle.modbus_server.specs.Rtu.{rtu};
 
 use crate::error::ProcessError;
 use crate::framing::{Framing, Front, MAX_ROOM};
@@ -14,7 +15,7 @@ use crate::serving::serve_until;
 use bytes::BytesMut;
 use modbus_frame::{EncodeError, ExceptionResponse, Response, SlaveId, Terminated};
 use modbus_link::{Link, Stop};
-use modbus_rtu::{Crowd, Inbox, LONGEST_RESPONSE, encode_response_frame};
+use modbus_rtu::{Crowd, Inbox, MAX_FRAME, encode_response_frame};
 use modbus_service::Answerer;
 use std::alloc::{AllocError, Global};
 use std::marker::Model;
@@ -38,7 +39,7 @@ impl Framing for Inbox {
 
     ghost held = { λ inbox. inbox };
 
-    ghost free = { λ inbox. capacity - length inbox };
+    ghost free = { λ inbox. max_frame - length inbox };
 
     fn tell(_fault: Crowd) -> ProcessError {
         ProcessError::TooManyRetries
@@ -49,7 +50,7 @@ impl Framing for Inbox {
     }
 
     fn reply_room() -> usize {
-        LONGEST_RESPONSE
+        MAX_FRAME
     }
 
     #[inline(always)]

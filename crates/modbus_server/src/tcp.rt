@@ -35,8 +35,9 @@ const HEADER: usize = 7;
 /// The bytes of the longest ADU of a response.
 const LONGEST_RESPONSE: usize = HEADER + MAX_PDU;
 
-/// How many bytes a read has room for.
-const ROOM: usize = 268;
+/// How many bytes a read has room for. The standard has no such number: reads of a stream always had this room, which is more than
+/// the longest ADU of a request that is answered.
+pub(crate) const ROOM: usize = 268;
 
 /// The bytes that were fed and not used yet: less than an ADU, once all whole ones are taken off.
 #[derive(Drop)]
