@@ -19,7 +19,7 @@ use Rattle.modbus_pdu.specs.RequestOf.{request_of}
 use Rattle.modbus_pdu.specs.RequestPdu.{request_pdu}
 use Rattle.modbus_rtu.specs.Checksum.{crc}
 use Rattle.modbus_rtu.specs.Frame.{frame}
-use Rattle.modbus_rtu.specs.Framed.{IsModelledAsk, message_of, stream_of}
+use Rattle.modbus_rtu.specs.Framed.{IsModelledAsk, IsFramedAsk, message_of, stream_of}
 use Rattle.modbus_rtu.specs.Leftmost.{IsLeftmost}
 use Rattle.modbus_rtu.specs.Place.{frames_below}
 use Rattle.modbus_rtu.specs.Quiet.{IsQuietLine}
@@ -132,9 +132,9 @@ messages_are : (requests : List Asked) → map message_of (map for_slave request
 messages_are [] = refl
 messages_are (request ∷ requests) = ap (λ rest. message_for request ∷ rest) (messages_are requests)
 
-all_modelled : (requests : List Asked) → AllByRecursion IsPlain requests → AllByRecursion (λ (one : ℕ × Asked). IsModelledAsk one.1) (map for_slave requests)
-all_modelled [] all = tt
-all_modelled (request ∷ requests) all = (all.0.modelled, all_modelled requests all.1)
+all_framed : (requests : List Asked) → AllByRecursion IsPlain requests → AllByRecursion (λ (one : ℕ × Asked). IsFramedAsk one.1) (map for_slave requests)
+all_framed [] all = tt
+all_framed (request ∷ requests) all = ((all.0.modelled, omega (arith, all.0.size)), all_framed requests all.1)
 
 all_back : (requests : List Asked) → AllByRecursion IsPlain requests → map (asked_of rtu) (map message_for requests) ≡ map question_for requests
 all_back [] all = refl
@@ -229,7 +229,7 @@ abbrev pub FramesStay : Type 0
 FramesStay = (bytes more frames all : List ℕ) (stop last : ℕ) → IsLeftmost bytes frames stop → IsLeftmost (bytes ++ more) all last → (later : List ℕ) × (all ≡ frames ++ later) × All (λ f. stop ≤ f) later
 
 abbrev pub RequestsAreQuiet : Type 0
-RequestsAreQuiet = (asked : List (ℕ × Asked)) → AllByRecursion (λ (one : ℕ × Asked). IsModelledAsk one.1) asked → IsQuietLine (stream_of (map message_of asked)) (map message_of asked)
+RequestsAreQuiet = (asked : List (ℕ × Asked)) → AllByRecursion (λ (one : ℕ × Asked). IsFramedAsk one.1) asked → IsQuietLine (stream_of (map message_of asked)) (map message_of asked)
 
 abbrev pub AnswersFit : Type 0
 AnswersFit = (code : ℕ) (tables : Tables) (slave : ℕ) (request : Asked) → length (reply_pdu code (store_step tables slave request).0) ≤ MAX_PDU
@@ -288,7 +288,7 @@ module _ (laws : Laws) (count : ℕ) (most : count ≤ 1000000) (opening now : T
   quiet : IsQuietLine from.left messages
   quiet = subst (λ b. IsQuietLine b messages) (sym left)
       (subst (λ b. IsQuietLine b messages) (stream_is requests)
-      (subst (λ m. IsQuietLine (stream_of (map message_of (map for_slave requests))) m) (messages_are requests) (laws.quiet (map for_slave requests) (all_modelled requests plain))))
+      (subst (λ m. IsQuietLine (stream_of (map message_of (map for_slave requests))) m) (messages_are requests) (laws.quiet (map for_slave requests) (all_framed requests plain))))
 
   long : length from.left ≡ 8 * length requests
   long = ap length left ∙ length-line requests plain

@@ -15,7 +15,7 @@ use bytes::BytesMut;
 use itoa::Buffer;
 use modbus_frame::{EncodeError, Request, RequestPdu, SlaveId, rtu};
 use modbus_link::{MemorySink, MemorySource, Sink, write_all};
-use modbus_rtu::{ClientCodec, LONGEST_RESPONSE};
+use modbus_rtu::{ClientCodec, MAX_FRAME};
 use modbus_server::{ProcessError, rtu_over_tcp};
 use std::alloc::{AllocError, Global};
 
@@ -126,7 +126,7 @@ fn serve_made(alloc: Global, count: u32) -> Result<MemorySink, AllocError>
     modbus_rtu::laws::quiet_lines();
     modbus_store::laws::answers_fit();
     let mut source = open_source(alloc, count)?;
-    let room = LONGEST_RESPONSE * count as usize + 1;
+    let room = MAX_FRAME * count as usize + 1;
     let mut sink = MemorySink::new(alloc, room, room, &[])?;
     let Ok(mut store) = open(alloc, DEVICE) else {
         return Err(AllocError);

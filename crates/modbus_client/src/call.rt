@@ -14,7 +14,8 @@ use modbus_frame::{
 use std::alloc::{AllocError, Global};
 use std::marker::Model;
 
-/// The length in bytes of the room of each read.
+/// The length in bytes of the room of each read. The standard has no such number: reads of a client always had this room, which is more
+/// than the longest frame and the longest ADU have.
 pub const ROOM: usize = 268;
 
 /// A request that was asked, and the bytes of it that were not written yet.
