@@ -56,11 +56,7 @@ fn join<'a>(first: &[u8], second: &[u8], seam: &'a mut [u8]) -> &'a [u8]
 
 /// Searches two pieces as one, for a frame that may lie in both.
 #[cold]
-fn find_across<'a>(
-    first: &[u8],
-    second: &[u8],
-    seam: &'a mut [u8],
-) -> Result<Front<'a>, Crowd>
+fn find_across<'a>(first: &[u8], second: &[u8], seam: &'a mut [u8]) -> Result<Front<'a>, Crowd>
     requires { length first.now + length second.now ≤ length seam.old }
     ensures { Finds (first.now ++ second.now) result }
 {
