@@ -1,11 +1,11 @@
 -- The next byte is taken off, and bytes that are not 0 go on as they were read.
-use Rattle.std.proofs.Common.{◌≡◌, ◌≢◌, ℕ, ◌<◌, List, [], ◌∷◌, ◌++◌, length, take, drop, slice_index_or, refl, sym, ap, ◌∙◌, arith, append_assoc}
+use Rattle.std.proofs.Common.{◌≡◌, ℕ, ◌<◌, List, [], ◌∷◌, ◌++◌, length, take, drop, slice_index_or, refl, sym, ap, ◌∙◌, arith, append_assoc}
 use Rattle.std.specs.Prelude.{All}
 use Rattle.std.proofs.lemmas.List.{map-append}
 use Rattle.std.proofs.lemmas.List.Elements.{All-append, All-cons, All-nil, All-head, All-tail}
 use Rattle.modbus_server.specs.declared.error.ProcessError.{ProcessError}
 use Rattle.modbus_server.specs.declared.error.ProcessError.TheVariants.{InvalidLength}
-use Rattle.modbus_example.specs.Single.{bytes_of, IsAlone, IsSome, Follows, IsNextByte, AreAllBytes, IsZeroAfter, AreOnlyBytes}
+use Rattle.modbus_example.specs.Single.{bytes_of, IsAlone, IsSome, Follows, IsNextByte, IsZeroAfter, AreOnlyBytes}
 
 abbrev pub first_of : List ℕ → ℕ × List ℕ
 first_of held = (slice_index_or held 0 0, take 1 held)
