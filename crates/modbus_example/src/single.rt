@@ -6,7 +6,7 @@ ghost use Rattle.modbus_example.specs.Single.{singles};
 use bytes::BytesMut;
 use modbus_frame::{EncodeError, ExceptionResponse, Response, SlaveId};
 use modbus_pdu::{MAX_PDU, encode_response_result_pdu, response_result_pdu_size};
-use modbus_server::{Framing, Front, MAX_ROOM, ProcessError};
+use modbus_server::{Framing, Front, ProcessError};
 use std::alloc::{AllocError, Global};
 
 /// How many bytes a read has room for.
@@ -49,6 +49,14 @@ impl Framing for Singles {
         MAX_PDU
     }
 
+    fn longest_read() -> usize {
+        ROOM
+    }
+
+    fn seam() -> usize {
+        0
+    }
+
     fn encode_answer(
         alloc: Global,
         _header: SlaveId,
@@ -74,7 +82,7 @@ impl Framing for Singles {
         self.bytes.is_empty()
     }
 
-    fn front<'a>(&'a self, _seam: &'a mut [u8; MAX_ROOM]) -> Result<Front<'a, SlaveId>, Zero> {
+    fn front<'a>(&'a self, _seam: &'a mut [u8]) -> Result<Front<'a, SlaveId>, Zero> {
         let held = self.bytes.as_slice();
         if held.is_empty() {
             return Ok(Front::Waiting { dropped: 0 });

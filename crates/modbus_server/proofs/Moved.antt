@@ -1,14 +1,15 @@
 -- One write and one read.
-use Rattle.std.proofs.Common.{◌≡◌, ℕ, ◌<◌, ◌≤◌, List, [], ◌∷◌, length, take, refl, sym, ap, ◌∙◌, subst, arith, IsTrue, Ok, Err, false}
-use Rattle.std.proofs.lemmas.List.{length-take-le}
-use Rattle.modbus_link.specs.Outside.{Input, Rose, Advances, ReadIsTold}
+use Rattle.std.proofs.Common.{◌≡◌, ◌≢◌, ℕ, ◌<◌, List, [], ◌∷◌, ◌++◌, length, refl, sym, ap, ◌∙◌, subst, arith, IsTrue, Ok, Err, false, append-nil}
+use Rattle.std.proofs.lemmas.List.{nil_from_length}
+use Rattle.std.specs.Prelude.{Result}
+use Rattle.modbus_link.specs.Outside.{Input, Rose, Advances, one_cut}
 use Rattle.modbus_link.specs.Runs.{Advances-same, bytes_read-none, cuts_made-none, one_cut-one}
-use Rattle.modbus_server.specs.declared.error.ProcessError.TheVariants.{ReadFault, NoMemory}
-use Rattle.modbus_server.specs.declared.error.Step.TheVariants.{MoreRead}
-use Rattle.modbus_server.specs.Framing.{Framing, Message}
+use Rattle.modbus_server.specs.declared.error.ProcessError.TheVariants.{ReadFault, BytesRemaining, NoMemory}
+use Rattle.modbus_server.specs.declared.error.Step.TheVariants.{MoreRead, Ended}
+use Rattle.modbus_server.specs.Framing.{Framing}
 use Rattle.modbus_server.specs.State.{State}
-use Rattle.modbus_server.specs.Taking.{Fed}
-use Rattle.modbus_server.specs.Moving.{Reads}
+use Rattle.modbus_server.specs.Moving.{Reads, Fills}
+use Rattle.modbus_server.specs.Polled.{ReadsNothing}
 
 pub keeps_more : (old now new : State) (w : List ℕ) → now ≡ record old { waiting = now.waiting } → new ≡ record now { waiting = w } → new ≡ record old { waiting = new.waiting }
 keeps_more old now new w e f =
@@ -27,43 +28,94 @@ module _ (F : Framing) (a b : Input) (old new : State) where
     cause = λ e. cc;
   }
 
-  pub reads_fault : {E : Type 0} (e : E) (before after : List ℕ) → Advances a b → (IsTrue a.told → ReadIsTold {E = E} a b before after (Err e)) → Rose a.faults b.faults → new.is_open ≡ false → Reads F a b old new (Err ReadFault)
-  reads_fault e before after adv told rose closed = record {
+-- the read of a connection that had made its room
+module _ (F : Framing) (a b : Input) (old mid new : State) (same : mid ≡ record old { free = mid.free }) (keeps : new ≡ record mid { held = new.held; free = new.free }) where
+  held_before : mid.held ≡ old.held
+  held_before = ap (λ (s : State). s.held) same
+
+  waiting_after : new.waiting ≡ old.waiting
+  waiting_after = ap (λ (s : State). s.waiting) keeps ∙ ap (λ (s : State). s.waiting) same
+
+  open_after : new.is_open ≡ old.is_open
+  open_after = ap (λ (s : State). s.is_open) keeps ∙ ap (λ (s : State). s.is_open) same
+
+  no_piece : {E : Type 0} (result : Result ℕ E) (f : Fills F a b mid.held new.held result) → length f.piece ≡ 0 → new.held ≡ old.held
+  no_piece result f none = f.held ∙ ap (λ (piece : List ℕ). mid.held ++ piece) (nil_from_length f.piece none) ∙ append-nil mid.held ∙ held_before
+
+  pub fills_nothing : {E : Type 0} (e : E) → Fills F a b mid.held new.held (Err e) → ReadsNothing a b old new
+  fills_nothing e f =
+      let none = nil_from_length f.piece f.reads.count in
+      record {
+        source = f.reads.source;
+        read = λ t. f.reads.read t ∙ none;
+        cuts = f.reads.cuts;
+        keeps = cc (no_piece (Err e) f f.reads.count, keeps, same);
+      }
+
+  pub fills_fault : {E : Type 0} (e : E) (closed : State) → Fills F a b mid.held new.held (Err e) → Rose a.faults b.faults → closed.is_open ≡ false → Reads F a b old closed (Err ReadFault)
+  fills_fault e closed f rose shut = record {
     fed = [];
     made = [];
-    source = adv;
-    read = λ t. (told t).bytes;
-    cuts = λ t. (told t).cuts;
-    gives = (refl, refl, closed);
+    source = f.reads.source;
+    read = λ t. f.reads.read t ∙ nil_from_length f.piece f.reads.count;
+    cuts = f.reads.cuts;
+    gives = (refl, refl, shut);
     ended = λ t. tt;
     cause = λ same. rose;
   }
 
-  pub reads_some : {E : Type 0} (mid : State) (before after piece : List ℕ) (n room : ℕ) → mid ≡ record old { free = mid.free } → Fed F mid new piece → length new.held ≤ F.most
-      → Advances a b → (IsTrue a.told → ReadIsTold {E = E} a b before after (Ok n)) → piece ≡ take n after → (n ≡ 0 → ⊥) → n ≤ length after
-      → ((bytes cuts : List ℕ) (taken : List (Message F)) → F.StandsFor bytes cuts mid.held taken → F.HasRoom bytes room) → length before ≡ room
-      → Reads F a b old new (Ok MoreRead)
-  reads_some mid before after piece n room same fed most adv told e some within rooms fits =
-      let long : length piece ≡ n = ap length e ∙ length-take-le n after within in
-      let some' : 0 < length piece = omega arith in
-      let held : mid.held ≡ old.held = ap (λ (s : State). s.held) same in
+  pub fills_more : {E : Type 0} (n : ℕ) → 0 < n → Fills F {E = E} a b mid.held new.held (Ok n) → Reads F a b old new (Ok MoreRead)
+  fills_more n some f =
+      let long : length f.piece ≡ n = f.reads.count in
+      let some' : 0 < length f.piece = omega (arith, long) in
+      let room = F.room mid.held in
       record {
-        fed = piece;
-        made = (length piece, length before) ∷ [];
-        source = adv;
-        read = λ t. (told t).bytes ∙ sym e;
-        cuts = λ t. (told t).cuts ∙ one_cut-one n (length before) some ∙ ap (λ (m : ℕ). (m, length before) ∷ []) (sym long);
+        fed = f.piece;
+        made = (length f.piece, room) ∷ [];
+        source = f.reads.source;
+        read = f.reads.read;
+        cuts = λ t. f.reads.cuts t ∙ one_cut-one n room (λ none. omega (arith, none)) ∙ ap (λ (m : ℕ). (m, room) ∷ []) (sym long);
         gives = (
-          length before,
+          room,
           refl,
           some',
-          fed.waiting ∙ ap (λ (s : State). s.waiting) same,
-          fed.is_open ∙ ap (λ (s : State). s.is_open) same,
-          most,
-          λ bytes cuts taken s.
-              let s' : F.StandsFor bytes cuts mid.held taken = subst (λ h. F.StandsFor bytes cuts h taken) (sym held) s in
-              (subst (F.HasRoom bytes) (sym fits) (rooms bytes cuts taken s'), fed.grows bytes cuts taken s' some'),
+          waiting_after,
+          open_after,
+          f.most some',
+          λ bytes cuts taken s. f.stands bytes cuts taken (subst (λ h. F.StandsFor bytes cuts h taken) (sym held_before) s) some',
         );
         ended = λ t. tt;
         cause = λ bad. cc;
       }
+
+  -- what was left, where the read gave nothing
+  input_ended : {E : Type 0} (n : ℕ) → n ≡ 0 → (f : Fills F {E = E} a b mid.held new.held (Ok n)) → IsTrue a.told → b.left ≡ []
+  input_ended n zero f t =
+      let none : b.left ≡ a.left = sym ((f.reads.source.content t).left ∙ ap (λ bytes. bytes ++ b.left) (f.reads.read t ∙ nil_from_length f.piece (f.reads.count ∙ zero))) in
+      none ∙ (f.reads.ended t).0 zero
+
+  pub fills_ended : {E : Type 0} (closed : State) (n : ℕ) → n ≡ 0 → Fills F {E = E} a b mid.held new.held (Ok n) → new.held ≡ [] → closed ≡ record new { is_open = false } → Reads F a b old closed (Ok Ended)
+  fills_ended closed n zero f empty shut =
+      let held = no_piece (Ok n) f (f.reads.count ∙ zero) in
+      record {
+        fed = [];
+        made = [];
+        source = f.reads.source;
+        read = λ t. f.reads.read t ∙ nil_from_length f.piece (f.reads.count ∙ zero);
+        cuts = λ t. f.reads.cuts t ∙ ap (λ (m : ℕ). one_cut m (F.room mid.held)) zero;
+        gives = (refl, refl, sym held ∙ empty, ap (λ (s : State). s.held) shut ∙ held, ap (λ (s : State). s.waiting) shut ∙ waiting_after, ap (λ (s : State). s.is_open) shut);
+        ended = input_ended n zero f;
+        cause = λ bad. cc;
+      }
+
+  pub fills_cut_short : {E : Type 0} (closed : State) (n : ℕ) → n ≡ 0 → Fills F {E = E} a b mid.held new.held (Ok n) → new.held ≢ [] → closed ≡ record new { is_open = false } → Reads F a b old closed (Err BytesRemaining)
+  fills_cut_short closed n zero f some shut = record {
+    fed = [];
+    made = [];
+    source = f.reads.source;
+    read = λ t. f.reads.read t ∙ nil_from_length f.piece (f.reads.count ∙ zero);
+    cuts = λ t. f.reads.cuts t ∙ ap (λ (m : ℕ). one_cut m (F.room mid.held)) zero;
+    gives = (refl, refl, λ none. some (no_piece (Ok n) f (f.reads.count ∙ zero) ∙ none), ap (λ (s : State). s.is_open) shut);
+    ended = input_ended n zero f;
+    cause = λ bad. cc;
+  }

@@ -26,6 +26,10 @@ pub record Framing : Type 1 where
   pub Waits : List ℕ → Type 0
   -- of the held bytes: the length of the room of the next read
   pub room : List ℕ → ℕ
+  -- the bytes of the longest read
+  pub longest_read : ℕ
+  -- the bytes that a message wants which is copied together; 0 where each message lies in one piece
+  pub seam : ℕ
   -- how many bytes are ever held
   pub most : ℕ
   -- of bytes and the length of a room: a read that comes after these bytes has that room

@@ -1,6 +1,7 @@
 -- What a driver moves between a connection and the outside.
 use Rattle.std.specs.Prelude.{◌≡◌, ◌≢◌, ℕ, ◌<◌, ◌≤◌, List, [], ◌∷◌, ◌++◌, length, IsTrue, false, Result, Ok, Err}
 use Rattle.modbus_link.specs.Outside.{Input, Rose, Advances, bytes_read, cuts_made}
+use Rattle.modbus_link.specs.Reads.{ReadsPiece}
 use Rattle.modbus_server.specs.declared.error.ProcessError.{ProcessError}
 use Rattle.modbus_server.specs.declared.error.ProcessError.TheVariants.{ReadFault, WriteFault, BytesRemaining, NoMemory}
 use Rattle.modbus_server.specs.declared.error.Step.{Step}
@@ -26,6 +27,16 @@ GivesAs F old new fed made (Err BytesRemaining) = (fed ≡ []) × (made ≡ []) 
 GivesAs F old new fed made (Err ReadFault) = (fed ≡ []) × (made ≡ []) × (new.is_open ≡ false)
 GivesAs F old new fed made (Err NoMemory) = (fed ≡ []) × (made ≡ []) × (new.is_open ≡ false) × F.ReadsTakeMemory
 GivesAs F old new fed made (Err _) = ⊥
+
+-- One read was made into the room of the held bytes, and what it gave was appended to them. One that failed or found the link not
+-- ready gave none.
+pub record Fills (F : Framing) {E : Type 0} (from to : Input) (old new : List ℕ) (result : Result ℕ E) : Type 0 where
+  pub piece : List ℕ
+  pub reads : ReadsPiece from to (F.room old) piece result
+  pub held : new ≡ old ++ piece
+  pub most : 0 < length piece → length new ≤ F.most
+  pub stands : (bytes cuts : List ℕ) (taken : List (Message F)) → F.StandsFor bytes cuts old taken → 0 < length piece
+      → F.HasRoom bytes (F.room old) × F.StandsFor (bytes ++ piece) (cuts ++ length (bytes ++ piece) ∷ []) new taken
 
 -- whether the input ended
 abbrev pub EndsInput : Result Step ProcessError → List ℕ → Type 0

@@ -1,26 +1,34 @@
 //! One connection of a server, whatever frames its messages. It does no IO: it is given bytes, and gives bytes.
 ghost use Rattle.std.specs.Prelude.{◌≡◌, ◌↔◌, ℕ, ◌+◌, ◌<◌, ◌≤◌, List, [], false, length, drop, IsTrue, Err, IfOk, OnOk, OnErr};
+ghost use Rattle.modbus_link.specs.Outside.{Rose, front_of};
+ghost use Rattle.modbus_link.specs.Polled.{Waited, at_once};
+ghost use Rattle.modbus_link.specs.Reads.{ReadsPiece};
 ghost use Rattle.modbus_server.specs.Framing.{Message};
 ghost use Rattle.modbus_server.specs.Exchanges.{Exchange};
 ghost use Rattle.modbus_server.specs.Serving.{Stands, NextTakesMemory};
+ghost use Rattle.modbus_server.specs.Moving.{Fills};
 ghost use Rattle.modbus_server.specs.Taking.{TakesAs, KeepsAs, next_of, Took, Fed};
 
 use crate::answer::answer;
 use crate::error::{Answer, AnswerError, Next, NextError};
-use crate::framing::{Framing, Front, MAX_ROOM};
+use crate::framing::{Framing, Front};
 use bytes::BytesMut;
+use modbus_link::{Failed, Polled, PolledLink};
 use modbus_service::Answerer;
 use std::alloc::{AllocError, Global};
 use std::marker::Model;
 
 /// The bytes of one connection that were fed and not used yet, and those of its last reply that were not written yet.
 ///
-/// It is open until it tells an error or the input ends. The space of the reply is taken as it is opened, and is used again for each reply.
+/// It is open until it tells an error or the input ends. The space of a read, of a message that is copied together and of the reply is taken
+/// as it is opened, and is used again for each.
 #[derive(Drop)]
 pub struct Connection<I: Framing> {
     intake: I,
     // where a message is copied together that does not lie in one piece
-    seam: [u8; MAX_ROOM],
+    seam: Vec<u8>,
+    // where a read puts its bytes
+    buffer: Vec<u8>,
     // it has room for each reply
     reply: BytesMut,
     written: usize,
@@ -38,6 +46,8 @@ impl<I: Framing> Model for Connection<I> {
     ghost invariant = { λ c. record {
       written : c.written ≤ length c.reply.items;
       space : I.framing.reply_room ≤ length c.reply.items + c.reply.spare;
+      seam : I.framing.seam ≤ length c.seam.items;
+      buffer : I.framing.longest_read ≤ length c.buffer.items;
     } };
 }
 
@@ -58,11 +68,12 @@ fn next_after<F>(answer: Result<Answer, AnswerError>) -> Result<Next, NextError<
 #[inline(always)]
 fn take_next<I: Framing, V: Answerer>(
     intake: &mut I,
-    seam: &mut [u8; MAX_ROOM],
+    seam: &mut [u8],
     reply: &mut BytesMut,
     alloc: Global,
     service: &mut V,
 ) -> Result<Next, NextError<I::Fault>>
+    requires seam { I.framing.seam ≤ length seam.old }
     requires empty { reply.old.items ≡ [] }
     requires space { I.framing.reply_room ≤ reply.old.spare }
     ensures stands { (bytes cuts written : List ℕ) (opening : V) (exchanges : List (Exchange I.framing)) → Stands I.framing V.answering bytes cuts (I.held intake.old) opening service.old written [] exchanges
@@ -86,6 +97,53 @@ fn take_next<I: Framing, V: Answerer>(
     }
 }
 
+/// Makes one read of the link: how many bytes it gave, which stand at the front of the buffer; or it is not ready.
+///
+/// # Errors
+/// `Failed`, only where the link's count of read faults rose.
+#[inline(always)]
+fn poll_piece<L: PolledLink>(link: &mut L, buffer: &mut [u8]) -> Result<Polled<usize>, Failed>
+    requires { 0 < length buffer.old }
+    ensures within { IfOk (at_once result) (λ count. count ≤ length buffer.new) }
+    ensures reads { ReadsPiece (L.input link.old) (L.input link.new) (length buffer.old) (front_of (at_once result) buffer.new) (at_once result) }
+    ensures sink { L.output link.new ≡ L.output link.old }
+    ensures cause { OnErr result (Rose (L.input link.old).faults (L.input link.new).faults) }
+    ensures waited { Waited result (L.not_ready link.old) (L.not_ready link.new) }
+    ensures later { L.not_ready link.old ≤ L.not_ready link.new }
+{
+    link.poll_read(buffer)
+}
+
+/// Makes one read of the link into a buffer and appends what it gave: how many bytes that was, or the link is not ready.
+///
+/// # Errors
+/// `Failed`, only where the link's count of read faults rose.
+#[inline(always)]
+fn fill_from<I: Framing, L: PolledLink>(
+    intake: &mut I,
+    buffer: &mut [u8],
+    link: &mut L,
+) -> Result<Polled<usize>, Failed>
+    requires waits { I.framing.Waits (I.held intake.old) }
+    requires free { I.framing.room (I.held intake.old) ≤ I.free intake.old }
+    requires buffer { I.framing.longest_read ≤ length buffer.old }
+    ensures fills { Fills I.framing (L.input link.old) (L.input link.new) (I.held intake.old) (I.held intake.new) (at_once result) }
+    ensures sink { L.output link.new ≡ L.output link.old }
+    ensures cause { OnErr result (Rose (L.input link.old).faults (L.input link.new).faults) }
+    ensures waited { Waited result (L.not_ready link.old) (L.not_ready link.new) }
+    ensures later { L.not_ready link.old ≤ L.not_ready link.new }
+{
+    let room = intake.room();
+    let buffer = &mut buffer[..room];
+    match poll_piece(link, buffer)? {
+        Polled::Pending => Ok(Polled::Pending),
+        Polled::Ready(count) => {
+            intake.append(&buffer[..count]);
+            Ok(Polled::Ready(count))
+        }
+    }
+}
+
 impl<I: Framing> Connection<I> {
     /// A connection that holds no byte.
     ///
@@ -99,7 +157,8 @@ impl<I: Framing> Connection<I> {
     {
         Ok(Connection {
             intake: I::open(alloc)?,
-            seam: [0; MAX_ROOM],
+            seam: Vec::from_elem(alloc, 0, I::seam())?,
+            buffer: Vec::from_elem(alloc, 0, I::longest_read())?,
             reply: BytesMut::with_capacity(alloc, I::reply_room())?,
             written: 0,
             is_open: true,
@@ -132,7 +191,7 @@ impl<I: Framing> Connection<I> {
         self.written = 0;
         let result = take_next(
             &mut self.intake,
-            &mut self.seam,
+            self.seam.as_mut_slice(),
             &mut self.reply,
             alloc,
             service,
@@ -162,7 +221,7 @@ impl<I: Framing> Connection<I> {
         requires { I.framing.Waits self.now.held }
         ensures exact { result ≡ I.framing.room self.now.held }
         ensures some { 0 < result }
-        ensures within { result ≤ MAX_ROOM }
+        ensures within { result ≤ I.framing.longest_read }
         ensures rooms { (bytes cuts : List ℕ) (taken : List (Message I.framing)) → I.framing.StandsFor bytes cuts self.now.held taken
             → I.framing.HasRoom bytes result }
     {
@@ -191,6 +250,25 @@ impl<I: Framing> Connection<I> {
         ensures most { length self.new.held ≤ I.framing.most }
     {
         self.intake.append(piece);
+    }
+
+    /// Makes one read of the link, for which there is room, and takes what it gave: how many bytes that was, or the link is not ready.
+    /// It takes no memory.
+    ///
+    /// # Errors
+    /// `Failed`, only where the link's count of read faults rose.
+    #[inline(always)]
+    pub(crate) fn fill<L: PolledLink>(&mut self, link: &mut L) -> Result<Polled<usize>, Failed>
+        requires waits { I.framing.Waits self.old.held }
+        requires free { I.framing.room self.old.held ≤ self.old.free }
+        ensures fills { Fills I.framing (L.input link.old) (L.input link.new) self.old.held self.new.held (at_once result) }
+        ensures keeps { self.new ≡ record self.old { held = self.new.held; free = self.new.free } }
+        ensures sink { L.output link.new ≡ L.output link.old }
+        ensures cause { OnErr result (Rose (L.input link.old).faults (L.input link.new).faults) }
+        ensures waited { Waited result (L.not_ready link.old) (L.not_ready link.new) }
+        ensures later { L.not_ready link.old ≤ L.not_ready link.new }
+    {
+        fill_from(&mut self.intake, self.buffer.as_mut_slice(), link)
     }
 
     /// The input has ended: whether nothing is held.

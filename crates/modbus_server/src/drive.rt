@@ -9,7 +9,7 @@ ghost use Rattle.modbus_server.specs.Polled.{IsFlushed, PollWrites, PollReads, P
 
 use crate::connection::Connection;
 use crate::error::{Next, NextError, ProcessError, Step};
-use crate::framing::{Framing, MAX_ROOM};
+use crate::framing::Framing;
 use modbus_link::{Both, Failed, Polled, PolledLink, Sink, Source};
 use modbus_service::Answerer;
 use std::alloc::Global;
@@ -87,25 +87,19 @@ fn read_more<I: Framing, L: PolledLink>(
         connection.close();
         return Err(ProcessError::NoMemory);
     }
-    let mut buffer = [0; MAX_ROOM];
-    let room = connection.room();
-    let buffer = &mut buffer[..room];
-    match link.poll_read(buffer) {
+    match connection.fill(link) {
         Ok(Polled::Pending) => Ok(Polled::Pending),
         Err(Failed) => {
             connection.close();
             Err(ProcessError::ReadFault)
         }
         Ok(Polled::Ready(count)) => {
-            if count == 0 {
-                if connection.end() {
-                    Ok(Polled::Ready(Step::Ended))
-                } else {
-                    Err(ProcessError::BytesRemaining)
-                }
-            } else {
-                connection.feed(&buffer[..count]);
+            if count > 0 {
                 Ok(Polled::Ready(Step::MoreRead))
+            } else if connection.end() {
+                Ok(Polled::Ready(Step::Ended))
+            } else {
+                Err(ProcessError::BytesRemaining)
             }
         }
     }

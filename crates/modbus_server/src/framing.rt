@@ -11,13 +11,9 @@ ghost use Rattle.modbus_server.specs.Framing.{Framing as Frames, Message, IsOfFr
 ghost use Rattle.modbus_server.specs.Taking.{FindsNext, IsFrontWithin};
 
 use crate::error::ProcessError;
-use crate::tcp::ROOM;
 use bytes::BytesMut;
 use modbus_frame::{EncodeError, ExceptionResponse, Response, SlaveId};
 use std::alloc::{AllocError, Global};
-
-/// The most bytes that one read has room for, over every framing: those of a read of Modbus TCP.
-pub const MAX_ROOM: usize = ROOM;
 
 /// What stands at the front of the bytes that are held.
 #[derive(Debug, PartialEq, Eq)]
@@ -65,6 +61,14 @@ pub trait Framing: Drop {
     fn reply_room() -> usize
         ensures { result ≡ framing.reply_room };
 
+    /// The length in bytes of the longest room of a read.
+    fn longest_read() -> usize
+        ensures { result ≡ framing.longest_read };
+
+    /// How many bytes `front` wants to copy a message together; 0 for a framing whose messages always lie in one piece.
+    fn seam() -> usize
+        ensures { result ≡ framing.seam };
+
     /// Appends the bytes of an answer to a message, under the message's own header. The function of an exception is below 0x80.
     ///
     /// # Errors
@@ -95,14 +99,13 @@ pub trait Framing: Drop {
     fn is_empty(&self) -> bool
         ensures { IsTrue result ↔ (held self.now ≡ []) };
 
-    /// What stands at the front of the held bytes. It takes no memory. A message that does not lie in one piece may be copied to `seam`.
+    /// What stands at the front of the held bytes. It takes no memory. A message that does not lie in one piece may be copied to `seam`,
+    /// which has at least as many bytes as the framing tells (`Self::seam`).
     ///
     /// # Errors
     /// The fault that stands there.
-    fn front<'a>(
-        &'a self,
-        seam: &'a mut [u8; MAX_ROOM],
-    ) -> Result<Front<'a, Self::Header>, Self::Fault>
+    fn front<'a>(&'a self, seam: &'a mut [u8]) -> Result<Front<'a, Self::Header>, Self::Fault>
+        requires { framing.seam ≤ length seam.old }
         ensures finds { (bytes cuts : List ℕ) (taken : List (Message framing)) → framing.StandsFor bytes cuts (held self.now) taken
             → FindsNext framing header_of told bytes cuts taken (held self.now) result }
         ensures within { IsFrontWithin framing.Waits (held self.now) result };
@@ -117,7 +120,7 @@ pub trait Framing: Drop {
         requires { framing.Waits (held self.now) }
         ensures exact { result ≡ framing.room (held self.now) }
         ensures some { 0 < result }
-        ensures within { result ≤ MAX_ROOM }
+        ensures within { result ≤ framing.longest_read }
         ensures rooms { (bytes cuts : List ℕ) (taken : List (Message framing)) → framing.StandsFor bytes cuts (held self.now) taken
             → framing.HasRoom bytes result };
 

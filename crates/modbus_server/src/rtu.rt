@@ -9,7 +9,7 @@ ghost use Rattle.modbus_rtu.specs.Limits.{max_frame};
 ghost use Rattle.modbus_server.specs.Rtu.{rtu};
 
 use crate::error::ProcessError;
-use crate::framing::{Framing, Front, MAX_ROOM};
+use crate::framing::{Framing, Front};
 use crate::rtu_over_tcp::process_link;
 use crate::serving::serve_until;
 use bytes::BytesMut;
@@ -53,6 +53,14 @@ impl Framing for Inbox {
         MAX_FRAME
     }
 
+    fn longest_read() -> usize {
+        MAX_FRAME
+    }
+
+    fn seam() -> usize {
+        MAX_FRAME
+    }
+
     #[inline(always)]
     fn encode_answer(
         alloc: Global,
@@ -73,7 +81,7 @@ impl Framing for Inbox {
     }
 
     #[inline(always)]
-    fn front<'a>(&'a self, seam: &'a mut [u8; MAX_ROOM]) -> Result<Front<'a, SlaveId>, Crowd> {
+    fn front<'a>(&'a self, seam: &'a mut [u8]) -> Result<Front<'a, SlaveId>, Crowd> {
         match self.front(seam) {
             Ok(modbus_rtu::Front::Frame { slave, pdu, end }) => Ok(Front::Message {
                 header: slave,

@@ -5,7 +5,7 @@ ghost use Rattle.modbus_server.specs.Stepping.{Ran};
 ghost use Rattle.modbus_server.specs.Tcp.{tcp, told_fault};
 
 use crate::error::ProcessError;
-use crate::framing::{Framing, Front, MAX_ROOM};
+use crate::framing::{Framing, Front};
 pub use crate::listener::accept_tcp_connection;
 use crate::serving::{serve, serve_link};
 use bytes::BytesMut;
@@ -37,7 +37,7 @@ const LONGEST_RESPONSE: usize = HEADER + MAX_PDU;
 
 /// How many bytes a read has room for. The standard has no such number: reads of a stream always had this room, which is more than
 /// the longest ADU of a request that is answered.
-pub(crate) const ROOM: usize = 268;
+const ROOM: usize = 268;
 
 /// The bytes that were fed and not used yet: less than an ADU, once all whole ones are taken off.
 #[derive(Drop)]
@@ -75,6 +75,14 @@ impl Framing for AduBuffer {
         LONGEST_RESPONSE
     }
 
+    fn longest_read() -> usize {
+        ROOM
+    }
+
+    fn seam() -> usize {
+        0
+    }
+
     #[inline(always)]
     fn encode_answer(
         alloc: Global,
@@ -96,10 +104,7 @@ impl Framing for AduBuffer {
     }
 
     #[inline(always)]
-    fn front<'a>(
-        &'a self,
-        _seam: &'a mut [u8; MAX_ROOM],
-    ) -> Result<Front<'a, Header>, HeaderFault> {
+    fn front<'a>(&'a self, _seam: &'a mut [u8]) -> Result<Front<'a, Header>, HeaderFault> {
         match modbus_tcp::front(self.bytes.as_slice()) {
             Ok(modbus_tcp::Front::Adu { header, pdu, end }) => {
                 Ok(Front::Message { header, pdu, end })
