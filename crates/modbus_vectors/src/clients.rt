@@ -176,11 +176,7 @@ fn polled_call(
 }
 
 /// The answer of a seeded store of eight entries a table, which takes part in broadcasts.
-fn exchanged(
-    alloc: Global,
-    slave: u8,
-    request: Request<'_>,
-) -> Result<Option<String>, AllocError> {
+fn exchanged(alloc: Global, slave: u8, request: Request<'_>) -> Result<Option<String>, AllocError> {
     let form = Form {
         framing: Framing::Rtu,
         size: 8,

@@ -251,9 +251,11 @@ pub fn answer(alloc: Global, call: &str, words: &[&str]) -> Result<Option<String
             encode(alloc, call, 0, first, data.as_slice())
         }
         &[transaction, unit, word] => {
-            let (Some(transaction), Some(unit), Some(data)) =
-                (number(transaction), number(unit), bytes(alloc, word)?)
-            else {
+            let (Some(transaction), Some(unit), Some(data)) = (
+                number(transaction),
+                number(unit),
+                bytes(alloc, word)?,
+            ) else {
                 return Ok(None);
             };
             encode(alloc, call, transaction, unit, data.as_slice())

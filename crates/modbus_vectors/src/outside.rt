@@ -60,6 +60,9 @@ pub fn read_outside(alloc: Global, words: &[&str]) -> Result<Option<Outside>, Al
             return Ok(None);
         }
     }
+    if most == 0 {
+        return Ok(None);
+    }
     let bytes = all.as_slice();
     Ok(Some(Outside {
         source: MemorySource::new(alloc, bytes, stops.as_slice(), read_fails.as_slice())?,

@@ -5,9 +5,8 @@ use bytes::{Bytes, BytesMut};
 use modbus_frame::{PduError, Request, Response};
 use modbus_pdu::{
     decode_exception, decode_request, decode_response, decode_response_pdu,
-    encode_exception_response_pdu, encode_request_pdu,
-    encode_response_pdu, encode_response_result_pdu, request_pdu_size, response_pdu_size,
-    response_result_pdu_size,
+    encode_exception_response_pdu, encode_request_pdu, encode_response_pdu,
+    encode_response_result_pdu, request_pdu_size, response_pdu_size, response_result_pdu_size,
 };
 use std::alloc::{AllocError, Global};
 use std::borrow::CowSlice;
@@ -97,7 +96,9 @@ fn answered(alloc: Global, pdu: &[u8]) -> Result<Option<String>, AllocError> {
         Err(error) => return refused(alloc, error),
         Ok(found) => found.0,
     };
-    if let Err(refusal) = &found && refusal.function.value() >= 0x80 {
+    if let Err(refusal) = &found
+        && refusal.function.value() >= 0x80
+    {
         return Ok(None);
     }
     match response_result_pdu_size(&found) {
@@ -127,28 +128,38 @@ fn exception(alloc: Global, pdu: &[u8]) -> Result<Option<String>, AllocError> {
     }
 }
 
+/// How many bytes the PDU of a request has.
+fn size_told(alloc: Global, request: &Request<'_>) -> Result<Option<String>, AllocError> {
+    match request_pdu_size(request) {
+        Ok(size) => shown(alloc, &size),
+        Err(long) => told(alloc, &long),
+    }
+}
+
 /// How a request of so many coils, registers or bytes is written, all of them 0.
 fn sized(alloc: Global, kind: &str, count: u16) -> Result<Option<String>, AllocError> {
     let count = usize::from(count);
     let coils = Vec::from_elem(alloc, false, count)?;
     let words = Vec::from_elem(alloc, 0u16, count)?;
     let data = Vec::from_elem(alloc, 0u8, count)?;
-    let request = match kind {
+    match kind {
         "WriteMultipleCoils" => {
-            Request::WriteMultipleCoils(0, CowSlice::Borrowed(coils.as_slice()))
+            let coils = CowSlice::Borrowed(coils.as_slice());
+            size_told(alloc, &Request::WriteMultipleCoils(0, coils))
         }
         "WriteMultipleRegisters" => {
-            Request::WriteMultipleRegisters(0, CowSlice::Borrowed(words.as_slice()))
+            let words = CowSlice::Borrowed(words.as_slice());
+            size_told(alloc, &Request::WriteMultipleRegisters(0, words))
         }
         "ReadWriteMultipleRegisters" => {
-            Request::ReadWriteMultipleRegisters(0, 1, 0, CowSlice::Borrowed(words.as_slice()))
+            let words = CowSlice::Borrowed(words.as_slice());
+            size_told(alloc, &Request::ReadWriteMultipleRegisters(0, 1, 0, words))
         }
-        "Custom" => Request::Custom(0x55, CowSlice::Borrowed(data.as_slice())),
-        _ => return Ok(None),
-    };
-    match request_pdu_size(&request) {
-        Ok(size) => shown(alloc, &size),
-        Err(long) => told(alloc, &long),
+        "Custom" => {
+            let data = CowSlice::Borrowed(data.as_slice());
+            size_told(alloc, &Request::Custom(0x55, data))
+        }
+        _ => Ok(None),
     }
 }
 

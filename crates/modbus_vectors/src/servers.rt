@@ -93,12 +93,26 @@ fn served_by_polls(
 ) -> Result<Option<String>, AllocError> {
     let mut link = outside.into_polled_link(alloc)?;
     let ended = match framing {
-        "rtu" => polled(&mut rtu::PolledProcess::open(alloc, turns)?, &mut link, service),
-        "tcp" => polled(&mut tcp::PolledProcess::open(alloc, turns)?, &mut link, service),
+        "rtu" => polled(
+            &mut rtu::PolledProcess::open(alloc, turns)?,
+            &mut link,
+            service,
+        ),
+        "tcp" => polled(
+            &mut tcp::PolledProcess::open(alloc, turns)?,
+            &mut link,
+            service,
+        ),
         _ => return Ok(None),
     };
     let link = link.link();
-    told(alloc, &ended, link.sink().bytes(), link.source().given(), service)
+    told(
+        alloc,
+        &ended,
+        link.sink().bytes(),
+        link.source().given(),
+        service,
+    )
 }
 
 /// An RTU server that a signal stops after so many looks.
@@ -111,7 +125,13 @@ fn served_until(
     let mut server = rtu::Server::new(outside.into_link());
     let ended = server.serve_until(alloc, service, &mut MemoryStop::new(looks));
     let link = server.into_link();
-    told(alloc, &ended, link.sink().bytes(), link.source().given(), service)
+    told(
+        alloc,
+        &ended,
+        link.sink().bytes(),
+        link.source().given(),
+        service,
+    )
 }
 
 /// `serve`, `polled_serve` or `serve_until`; a framing; how many registers the service answers; how many reads may give bytes, or how often

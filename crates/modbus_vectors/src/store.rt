@@ -4,7 +4,7 @@ use crate::text::{bytes, number};
 use modbus_app::{Form, Framing, open};
 use modbus_frame::SlaveRequest;
 use modbus_pdu::decode_request;
-use modbus_store::RegisterStore;
+use modbus_store::{RegisterStore, Sizes, StoreError};
 use std::alloc::{AllocError, Global};
 
 /// The answers to requests, each a slave and a PDU, one after another.
@@ -31,6 +31,23 @@ fn apply(
     Ok(Some(text))
 }
 
+/// The greatest size that the words of the program may name.
+const MOST_ENTRIES: u32 = 0x10000;
+
+/// The device of the program, or for a size that its words don't name what the store itself says of that.
+fn store_of(alloc: Global, form: Form) -> Result<RegisterStore, StoreError> {
+    if form.size <= MOST_ENTRIES {
+        return open(alloc, form);
+    }
+    let sizes = Sizes {
+        coils: form.size,
+        discrete_inputs: form.size,
+        holding_registers: form.size,
+        input_registers: form.size,
+    };
+    RegisterStore::new(alloc, sizes, false)
+}
+
 /// `store rtu 8 seeded 1 0300010001`: a store of a framing, a size and contents, and the requests to it.
 pub fn answer(alloc: Global, call: &str, words: &[&str]) -> Result<Option<String>, AllocError> {
     let [framing, size, contents, requests @ ..] = words else {
@@ -44,9 +61,6 @@ pub fn answer(alloc: Global, call: &str, words: &[&str]) -> Result<Option<String
     let Ok(size) = size.parse::<u32>() else {
         return Ok(None);
     };
-    if size > 0x10000 && *contents == "seeded" {
-        return Ok(None);
-    }
     if call != "store" {
         return Ok(None);
     }
@@ -55,7 +69,7 @@ pub fn answer(alloc: Global, call: &str, words: &[&str]) -> Result<Option<String
         size,
         seeded: *contents == "seeded",
     };
-    match open(alloc, form) {
+    match store_of(alloc, form) {
         Ok(mut store) => apply(alloc, &mut store, requests),
         Err(error) => Ok(Some(format!(in alloc; "{error:?}: {error}")?)),
     }

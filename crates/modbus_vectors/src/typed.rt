@@ -132,7 +132,10 @@ pub fn answer(alloc: Global, call: &str, words: &[&str]) -> Result<Option<String
     };
     let client: Box<dyn Client> = Box::new(alloc, once)?;
     let mut context = Context::from(client);
-    let text = if matches!(request.function_code().value(), 0x05 | 0x06 | 0x0F | 0x10 | 0x16) {
+    let text = if matches!(
+        request.function_code().value(),
+        0x05 | 0x06 | 0x0F | 0x10 | 0x16
+    ) {
         format!(in alloc; "{:?}", write(&mut context, &request))?
     } else {
         format!(in alloc; "{:?}", read(&mut context, &request))?

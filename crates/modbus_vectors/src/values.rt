@@ -11,7 +11,9 @@ use std::alloc::{AllocError, Global};
 fn function(alloc: Global, code: u8) -> Result<Option<String>, AllocError> {
     let function = FunctionCode::new(code);
     let value = function.value();
-    Ok(Some(format!(in alloc; "{function:?} {value} {function}|{function:4}|{function:<4}|{function:03}")?))
+    Ok(Some(format!(in alloc;
+        "{function:?} {value} {function}|{function:4}|{function:<4}|{function:03}"
+    )?))
 }
 
 /// The exception code of a byte, and its text.
