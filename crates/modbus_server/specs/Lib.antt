@@ -1,5 +1,4 @@
 pub mod State
-pub mod Stage
 pub mod Framing
 pub mod Exchanges
 pub mod Answer
