@@ -1,10 +1,10 @@
 //! Calls of clients over links in memory, and of a service without a link.
 
-use crate::outside::read_outside;
+use crate::outside::{Outside, read_outside};
 use crate::text::{bytes, hex, number};
 use modbus_app::{Form, Framing, open};
 use modbus_client::{Client, PolledCall, Protocol, exchange, rtu, tcp};
-use modbus_frame::{Request, Response, Result as Answer, Slave, SlaveContext};
+use modbus_frame::{Error, Request, Response, Result as Answer, Slave, SlaveContext};
 use modbus_link::{MemoryLink, Polled, PolledMemoryLink};
 use modbus_pdu::decode_request;
 use std::alloc::{AllocError, Global};
@@ -152,26 +152,38 @@ fn polled<P: Protocol>(
     Ok(None)
 }
 
-fn polled_call(
+/// The text of a call that was not opened.
+fn not_opened(alloc: Global, error: Error) -> Result<Option<String>, AllocError> {
+    Ok(Some(format!(in alloc; "Err({error:?})")?))
+}
+
+fn rtu_polled(
     alloc: Global,
-    call: &str,
     slave: u8,
     request: Request<'_>,
-    link: &mut PolledMemoryLink,
+    outside: Outside,
 ) -> Result<Option<String>, AllocError> {
-    if call == "rtu_polled" {
-        return match rtu::PolledCall::new(alloc, Slave(slave), request, 2) {
-            Ok(opened) => polled(alloc, opened, link),
-            Err(error) => Ok(Some(format!(in alloc; "Err({error:?})")?)),
-        };
+    let mut link = outside.into_polled_link(alloc)?;
+    match rtu::PolledCall::new(alloc, Slave(slave), request, 2) {
+        Ok(opened) => polled(alloc, opened, &mut link),
+        Err(error) => not_opened(alloc, error),
     }
+}
+
+fn tcp_polled(
+    alloc: Global,
+    slave: u8,
+    request: Request<'_>,
+    outside: Outside,
+) -> Result<Option<String>, AllocError> {
+    let mut link = outside.into_polled_link(alloc)?;
     let header = modbus_frame::tcp::Header {
         transaction_id: 1,
         unit_id: slave,
     };
     match tcp::PolledCall::new(alloc, header, request, 2) {
-        Ok(opened) => polled(alloc, opened, link),
-        Err(error) => Ok(Some(format!(in alloc; "Err({error:?})")?)),
+        Ok(opened) => polled(alloc, opened, &mut link),
+        Err(error) => not_opened(alloc, error),
     }
 }
 
@@ -215,10 +227,8 @@ pub fn answer(alloc: Global, call: &str, words: &[&str]) -> Result<Option<String
         return Ok(None);
     };
     match call {
-        "rtu_polled" | "tcp_polled" => {
-            let mut link = outside.into_polled_link(alloc)?;
-            polled_call(alloc, call, slave, request, &mut link)
-        }
+        "rtu_polled" => rtu_polled(alloc, slave, request, outside),
+        "tcp_polled" => tcp_polled(alloc, slave, request, outside),
         "exchange" => exchanged(alloc, slave, request),
         _ => Ok(None),
     }
