@@ -33,6 +33,22 @@ fn frame<I: Framing>(
     }
 }
 
+/// Frames an exception into an empty buffer that has room for it.
+fn refuse<I: Framing>(
+    alloc: Global,
+    header: I::Header,
+    refusal: ExceptionResponse,
+    reply: &mut BytesMut,
+) -> Result<Answer, AnswerError>
+    requires function { function_number refusal.function < 0x80 }
+    requires empty { reply.old.items ≡ [] }
+    requires space { I.framing.reply_room ≤ reply.old.spare }
+    ensures frames { FramesAs I.framing (I.header_of header) (Err refusal) result reply.new.items }
+    ensures space { I.framing.reply_room ≤ length reply.new.items + reply.new.spare }
+{
+    frame::<I>(alloc, header, &Err(refusal), reply)
+}
+
 /// Asks the service what a message asks, and frames the reply into an empty buffer that has room for it.
 // What the service answers is framed where it is told, so that no answer is moved.
 #[inline(always)]
@@ -63,7 +79,7 @@ pub(crate) fn answer<I: Framing, V: Answerer>(
                 function,
                 exception,
             };
-            frame::<I>(alloc, header, &Err(refusal), reply)
+            refuse::<I>(alloc, header, refusal, reply)
         }
         Err(ServiceError::NoMemory) => Err(AnswerError::NoMemory),
     }

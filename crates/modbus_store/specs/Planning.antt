@@ -37,12 +37,12 @@ Plans t slave asked (Ok planned) = store_step t slave asked ≡ (told planned.re
 Plans t slave asked (Err (Exception c)) = store_step t slave asked ≡ (exception c, t)
 Plans t slave asked (Err NoMemory) = NeedsMemory t asked
 
--- A step over what has tables and takes in changes, whatever the slave: the response and the change are the whole step, and the change was
--- taken in. After an exception or want of memory all is as it was.
-abbrev pub Steps : {T : Type 0} → (T → Tables) → (T → Change → T → Type 0) → T → Asked → Result (Response × Change) ServiceError → T → Type 0
-Steps tables makes old asked (Ok done) new = (step_of (tables old) asked ≡ (reply done.0, changed (tables old) done.1)) × makes old done.1 new
-Steps tables makes old asked (Err (Exception c)) new = (step_of (tables old) asked ≡ (exception c, tables old)) × (new ≡ old)
-Steps tables makes old asked (Err NoMemory) new = NeedsMemory (tables old) asked × (new ≡ old)
+-- A step over what has tables and comes to have others, whatever the slave: the response and the tables that it comes to are the whole
+-- step. After an exception or want of memory all is as it was.
+abbrev pub Steps : {T : Type 0} → (T → Tables) → (T → Tables → T → Type 0) → T → Asked → Result Response ServiceError → T → Type 0
+Steps tables becomes old asked (Ok response) new = ((step_of (tables old) asked).0 ≡ reply response) × becomes old (step_of (tables old) asked).1 new
+Steps tables becomes old asked (Err (Exception c)) new = (step_of (tables old) asked ≡ (exception c, tables old)) × (new ≡ old)
+Steps tables becomes old asked (Err NoMemory) new = NeedsMemory (tables old) asked × (new ≡ old)
 
 -- what a read of a table answers
 abbrev pub ReadsAs : {T V : Type 0} → (V → List T) → List T → ℕ → ℕ → ℕ → Result V ServiceError → Type 0

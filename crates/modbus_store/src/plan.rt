@@ -8,7 +8,7 @@ use crate::bounds::{check_count, check_range};
 use crate::change::{Change, write_entries};
 use crate::read::{read_after_write, read_entries, read_queue};
 use crate::store::RegisterStore;
-use modbus_frame::{Coils, ExceptionCode, Quantity, Request, Response, SlaveRequest, Word, Words};
+use modbus_frame::{Address, Coil, Coils, ExceptionCode, Quantity, Request, Response, SlaveRequest, Word, Words};
 use modbus_pdu::{MAX_READ_COILS, MAX_READ_REGISTERS, MAX_WRITE_COILS, MAX_WRITE_REGISTERS};
 use modbus_service::ServiceError;
 use std::alloc::Global;
@@ -23,30 +23,46 @@ pub struct Planned<'a> {
 }
 
 /// What a request is asked of: a store, whose tables change at once, or one that only shows what it would answer.
-pub(crate) trait Target {
+pub(crate) trait Target<'a> {
     ghost use Rattle.modbus_store.specs.Tables.{Tables};
-    ghost use Rattle.modbus_store.specs.declared.change.Change.{Change};
+    ghost use Rattle.modbus_store.specs.declared.change.Change.TheVariants as change;
+    ghost use Rattle.modbus_store.specs.Planning.{changed};
 
     ghost tables: { Self → Tables };
 
-    ghost makes: { Self → Change → Self → Type 0 };
+    ghost becomes: { Self → Tables → Self → Type 0 };
 
     /// The store that is asked.
     fn store(&self) -> &RegisterStore
         ensures { result.now ≡ tables self.now };
 
-    /// Takes in a change, once nothing can fail any more.
-    fn make(&mut self, change: Change<'_>)
-        ensures { makes self.old change.entry self.new };
+    /// Takes in that nothing changes.
+    fn keep(&mut self)
+        ensures { becomes self.old (tables self.old) self.new };
+
+    /// Takes in one coil.
+    fn set_coil(&mut self, address: Address, coil: Coil)
+        ensures { becomes self.old (changed (tables self.old) (change.Coil address coil)) self.new };
+
+    /// Takes in coils one after another.
+    fn set_coils(&mut self, first: Address, coils: &'a [Coil])
+        ensures { becomes self.old (changed (tables self.old) (change.Coils first coils.entry)) self.new };
+
+    /// Takes in one holding register.
+    fn set_register(&mut self, address: Address, word: Word)
+        ensures { becomes self.old (changed (tables self.old) (change.Register address word)) self.new };
+
+    /// Takes in holding registers one after another.
+    fn set_registers(&mut self, first: Address, words: &'a [Word])
+        ensures { becomes self.old (changed (tables self.old) (change.Registers first words.entry)) self.new };
 }
 
-impl Target for RegisterStore {
+impl<'a> Target<'a> for RegisterStore {
     ghost use Rattle.std.specs.Prelude.{◌≡◌};
-    ghost use Rattle.modbus_store.specs.Planning.{changed};
 
     ghost tables = { λ store. store };
 
-    ghost makes = { λ old change new. new ≡ changed old change };
+    ghost becomes = { λ old after new. new ≡ after };
 
     #[inline(always)]
     fn store(&self) -> &RegisterStore {
@@ -54,23 +70,43 @@ impl Target for RegisterStore {
     }
 
     #[inline(always)]
-    fn make(&mut self, change: Change<'_>) {
-        self.commit(change);
+    fn keep(&mut self) {}
+
+    #[inline(always)]
+    fn set_coil(&mut self, address: Address, coil: Coil) {
+        let _ = write_entries(self.coils.as_mut_slice(), address, &[coil]);
+    }
+
+    #[inline(always)]
+    fn set_coils(&mut self, first: Address, coils: &'a [Coil]) {
+        let _ = write_entries(self.coils.as_mut_slice(), first, coils);
+    }
+
+    #[inline(always)]
+    fn set_register(&mut self, address: Address, word: Word) {
+        let _ = write_entries(self.holding_registers.as_mut_slice(), address, &[word]);
+    }
+
+    #[inline(always)]
+    fn set_registers(&mut self, first: Address, words: &'a [Word]) {
+        let _ = write_entries(self.holding_registers.as_mut_slice(), first, words);
     }
 }
 
-/// A store that stays as it is.
+/// A store that stays as it is, and the change that a step asks of it.
 #[derive(Drop)]
-struct Untouched<'s> {
+struct Draft<'s, 'a> {
     store: &'s RegisterStore,
+    change: Change<'a>,
 }
 
-impl<'s> Target for Untouched<'s> {
+impl<'s, 'a> Target<'a> for Draft<'s, 'a> {
     ghost use Rattle.std.specs.Prelude.{◌≡◌};
+    ghost use Rattle.modbus_store.specs.Planning.{changed};
 
-    ghost tables = { λ target. target.store.now };
+    ghost tables = { λ draft. draft.store.now };
 
-    ghost makes = { λ old change new. new ≡ old };
+    ghost becomes = { λ old after new. changed old.store.now new.change ≡ after };
 
     #[inline(always)]
     fn store(&self) -> &RegisterStore {
@@ -78,7 +114,29 @@ impl<'s> Target for Untouched<'s> {
     }
 
     #[inline(always)]
-    fn make(&mut self, _change: Change<'_>) {}
+    fn keep(&mut self) {
+        self.change = Change::Nothing;
+    }
+
+    #[inline(always)]
+    fn set_coil(&mut self, address: Address, coil: Coil) {
+        self.change = Change::Coil(address, coil);
+    }
+
+    #[inline(always)]
+    fn set_coils(&mut self, first: Address, coils: &'a [Coil]) {
+        self.change = Change::Coils(first, coils);
+    }
+
+    #[inline(always)]
+    fn set_register(&mut self, address: Address, word: Word) {
+        self.change = Change::Register(address, word);
+    }
+
+    #[inline(always)]
+    fn set_registers(&mut self, first: Address, words: &'a [Word]) {
+        self.change = Change::Registers(first, words);
+    }
 }
 
 impl RegisterStore {
@@ -97,11 +155,17 @@ impl RegisterStore {
         ensures { Plans self.now request.now.slave (meaning request.now.request) result }
     {
         let is_silent = self.broadcast && request.slave == 0;
-        let mut target = Untouched { store: self };
-        match step(&mut target, alloc, &request.request) {
-            Ok((response, change)) => {
+        let mut draft = Draft {
+            store: self,
+            change: Change::Nothing,
+        };
+        match step(&mut draft, alloc, &request.request) {
+            Ok(response) => {
                 let response = if is_silent { None } else { Some(response) };
-                Ok(Planned { response, change })
+                Ok(Planned {
+                    response,
+                    change: draft.change,
+                })
             }
             Err(ServiceError::Exception(_)) if is_silent => Ok(Planned {
                 response: None,
@@ -112,34 +176,17 @@ impl RegisterStore {
     }
 
     /// Makes a change, as `plan` told it. One that reaches past the end of its table changes nothing. It takes no memory.
-    #[inline(always)]
     pub fn commit(&mut self, change: Change<'_>)
         ensures { self.new ≡ changed self.old change.entry }
     {
-        let coils = self.coils.as_mut_slice();
-        let registers = self.holding_registers.as_mut_slice();
-        let _ = match change {
-            Change::Nothing => Ok(()),
-            Change::Coil(address, coil) => write_entries(coils, address, &[coil]),
-            Change::Coils(first, states) => write_entries(coils, first, states),
-            Change::Register(address, word) => write_entries(registers, address, &[word]),
-            Change::Registers(first, words) => write_entries(registers, first, words),
-        };
+        match change {
+            Change::Nothing => {}
+            Change::Coil(address, coil) => self.set_coil(address, coil),
+            Change::Coils(first, coils) => self.set_coils(first, coils),
+            Change::Register(address, word) => self.set_register(address, word),
+            Change::Registers(first, words) => self.set_registers(first, words),
+        }
     }
-}
-
-/// The end of a step: its change is made, and told beside the response.
-#[inline(always)]
-fn done<'a, T: Target>(
-    target: &mut T,
-    response: Response,
-    change: Change<'a>,
-) -> (Response, Change<'a>)
-    ensures made { T.makes target.old change.entry target.new }
-    ensures told { (result.0 ≡ response) × (result.1 ≡ change.entry) }
-{
-    target.make(change);
-    (response, change)
 }
 
 /// What a request comes to, whatever its slave: the one match over its kinds.
@@ -148,54 +195,54 @@ fn done<'a, T: Target>(
 /// costs a single write up to 55 instructions more.
 #[inline(always)]
 #[tactic(auto, unfolding(crate::specs::Step::step_of))]
-pub(crate) fn step<'a, T: Target>(
+pub(crate) fn step<'a, T: Target<'a>>(
     target: &mut T,
     alloc: Global,
     request: &'a Request<'_>,
-) -> Result<(Response, Change<'a>), ServiceError>
-    ensures { Steps T.tables T.makes target.old (meaning request.now) result target.new }
+) -> Result<Response, ServiceError>
+    ensures { Steps T.tables T.becomes target.old (meaning request.now) result target.new }
 {
     match request {
         Request::ReadCoils(address, quantity) => {
             let table = target.store().coils.as_slice();
             let found = read_entries(alloc, table, *address, *quantity, MAX_READ_COILS)?;
-            let response = Response::ReadCoils(Coils::new(found));
-            Ok(done(target, response, Change::Nothing))
+            target.keep();
+            Ok(Response::ReadCoils(Coils::new(found)))
         }
         Request::ReadDiscreteInputs(address, quantity) => {
             let table = target.store().discrete_inputs.as_slice();
             let found = read_entries(alloc, table, *address, *quantity, MAX_READ_COILS)?;
-            let response = Response::ReadDiscreteInputs(Coils::new(found));
-            Ok(done(target, response, Change::Nothing))
+            target.keep();
+            Ok(Response::ReadDiscreteInputs(Coils::new(found)))
         }
         Request::ReadHoldingRegisters(address, quantity) => {
             let table = target.store().holding_registers.as_slice();
             let found = read_entries(alloc, table, *address, *quantity, MAX_READ_REGISTERS)?;
-            let response = Response::ReadHoldingRegisters(Words::new(found));
-            Ok(done(target, response, Change::Nothing))
+            target.keep();
+            Ok(Response::ReadHoldingRegisters(Words::new(found)))
         }
         Request::ReadInputRegisters(address, quantity) => {
             let table = target.store().input_registers.as_slice();
             let found = read_entries(alloc, table, *address, *quantity, MAX_READ_REGISTERS)?;
-            let response = Response::ReadInputRegisters(Words::new(found));
-            Ok(done(target, response, Change::Nothing))
+            target.keep();
+            Ok(Response::ReadInputRegisters(Words::new(found)))
         }
         Request::WriteSingleCoil(address, coil) => {
             check_range(target.store().coils.len(), *address, 1)?;
-            let response = Response::WriteSingleCoil(*address, *coil);
-            Ok(done(target, response, Change::Coil(*address, *coil)))
+            target.set_coil(*address, *coil);
+            Ok(Response::WriteSingleCoil(*address, *coil))
         }
         Request::WriteSingleRegister(address, word) => {
             check_range(target.store().holding_registers.len(), *address, 1)?;
-            let response = Response::WriteSingleRegister(*address, *word);
-            Ok(done(target, response, Change::Register(*address, *word)))
+            target.set_register(*address, *word);
+            Ok(Response::WriteSingleRegister(*address, *word))
         }
         Request::WriteMultipleCoils(address, coils) => {
             let coils = coils.as_slice();
             check_count(coils.len(), MAX_WRITE_COILS)?;
             check_range(target.store().coils.len(), *address, coils.len())?;
-            let response = Response::WriteMultipleCoils(*address, coils.len() as Quantity);
-            Ok(done(target, response, Change::Coils(*address, coils)))
+            target.set_coils(*address, coils);
+            Ok(Response::WriteMultipleCoils(*address, coils.len() as Quantity))
         }
         Request::WriteMultipleRegisters(address, words) => {
             let words = words.as_slice();
@@ -205,28 +252,28 @@ pub(crate) fn step<'a, T: Target>(
                 *address,
                 words.len(),
             )?;
-            let response = Response::WriteMultipleRegisters(*address, words.len() as Quantity);
-            Ok(done(target, response, Change::Registers(*address, words)))
+            target.set_registers(*address, words);
+            Ok(Response::WriteMultipleRegisters(*address, words.len() as Quantity))
         }
         Request::MaskWriteRegister(address, and_mask, or_mask) => {
             check_range(target.store().holding_registers.len(), *address, 1)?;
             let old = target.store().holding_registers[usize::from(*address)];
             let new = mask_word(old, *and_mask, *or_mask);
-            let response = Response::MaskWriteRegister(*address, *and_mask, *or_mask);
-            Ok(done(target, response, Change::Register(*address, new)))
+            target.set_register(*address, new);
+            Ok(Response::MaskWriteRegister(*address, *and_mask, *or_mask))
         }
         Request::ReadWriteMultipleRegisters(address, quantity, write_address, words) => {
             let table = target.store().holding_registers.as_slice();
             let words = words.as_slice();
             let found = read_after_write(alloc, table, *address, *quantity, *write_address, words)?;
-            let response = Response::ReadWriteMultipleRegisters(Words::new(found));
-            Ok(done(target, response, Change::Registers(*write_address, words)))
+            target.set_registers(*write_address, words);
+            Ok(Response::ReadWriteMultipleRegisters(Words::new(found)))
         }
         Request::ReadFifoQueue(address) => {
             let table = target.store().holding_registers.as_slice();
             let found = read_queue(alloc, table, *address)?;
-            let response = Response::ReadFifoQueue(Words::new(found));
-            Ok(done(target, response, Change::Nothing))
+            target.keep();
+            Ok(Response::ReadFifoQueue(Words::new(found)))
         }
         Request::ReportServerId | Request::ReadDeviceIdentification(_, _) | Request::Custom(_, _) =>
             Err(ServiceError::Exception(ExceptionCode::IllegalFunction)),

@@ -40,6 +40,7 @@ fn register_after(table: &[Word], first: usize, words: &[Word], place: usize) ->
 }
 
 /// The registers that are read after others were written, of the table as it is before (section 6.17).
+#[cold]
 #[tactic(auto, using(crate::proofs::Writing::entries_more, crate::proofs::Writing::written_keeps_length))]
 pub(crate) fn read_after_write(
     alloc: Global,
@@ -62,6 +63,7 @@ pub(crate) fn read_after_write(
 }
 
 /// The registers of the queue whose count stands at an address, which is before them (section 6.18).
+#[cold]
 pub(crate) fn read_queue(
     alloc: Global,
     table: &[Word],

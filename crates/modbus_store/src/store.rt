@@ -192,7 +192,7 @@ impl RegisterStore {
         match step(self, alloc, &request.request) {
             Ok(_) if is_silent => Ok(None),
             Err(ServiceError::Exception(_)) if is_silent => Ok(None),
-            Ok((response, _)) => Ok(Some(response)),
+            Ok(response) => Ok(Some(response)),
             Err(error) => Err(error),
         }
     }
