@@ -13,7 +13,8 @@ use Rattle.modbus_store.specs.declared.lock.Stored.{Stored}
 use Rattle.modbus_store.specs.Legal.{Call, answer_to, replay, IsLegal, calls_by, StartsWith}
 use Rattle.modbus_store.specs.Views.{Opening, Stage, resting, waiting, serving, View, newcomer}
 use Rattle.modbus_store.specs.Lock.{tickets_of, numbers_of, tickets_in, numbers_in, IsServing, HasTicket, Account, words_of, Homes, away, home, Holds, StageFits, NumberFits, Fits, Placed, AllHeld, Kept}
-use Rattle.modbus_store.specs.Plays.{Mine, numbered, staged, ticket_of, counted, DrewNumber, DrewTicket, LookedServing, Counted, Advanced}
+use Rattle.modbus_store.specs.Plays.{Mine, numbered, staged, ticket_of, known_of, counted, DrewNumber, DrewTicket, LookedServing, Counted, Advanced}
+use Rattle.modbus_store.specs.Events.{KeptWith, Leads}
 use Rattle.modbus_store.proofs.Lists.{in_range, total-set, total-le, each_set}
 use Rattle.modbus_store.proofs.Histories.{legal-append, calls_by_more, calls_by_mine, starts_whole, starts_more, starts_trans, none_in_front}
 
@@ -57,41 +58,50 @@ module _ (o : Opening) where
       (λ j v e. tickets_few k.a (length s.views) s.homes j v v.number (k.each j v e).number) in omega arith
 
   module _ (s : St) (k : Kept o s) (id : ℕ) (v w : View) (at : get_elem? s.views id ≡ core.some v) where
-    pub rebuilt : (b : Account) (bells : List ℕ) (ws : List ℕ) (hs : Homes) → ws ≡ words_of b bells → b.seats ≤ 2 ^ 32 → IsLegal o.tables b.log → ((n : ℕ) → b.seats ≤ n → calls_by n b.log ≡ [])
+    pub rebuilt : (b : Account) (log : List Call) → b.log ≡ log → (bells : List ℕ) (ws : List ℕ) (hs : Homes) → ws ≡ words_of b bells → b.seats ≤ 2 ^ 32 → IsLegal o.tables b.log → ((n : ℕ) → b.seats ≤ n → calls_by n b.log ≡ [])
         → b.served + k.a.drawn + tickets_of w.stage ≡ b.drawn + k.a.served + tickets_of v.stage
         → k.a.seats + numbers_of w.number ≤ b.seats + numbers_of v.number
         → ((j : ℕ) (u : View) → j ≢ id → get_elem? s.views j ≡ core.some u → Fits o k.a (length s.views) s.homes j u → Fits o b (length s.views) hs j u)
         → Fits o b (length s.views) hs id w
         → AllHeld o b (set s.views id w)
         → Placed o b hs (set s.views id w)
-        → Kept o record { words = ws; homes = hs; views = set s.views id w }
-    rebuilt b bells ws hs words few legal unused tickets numbers others mine held placed = let kt = k.tickets in let kn = k.numbers in
-        let ts = total-set (λ (x : View). tickets_of x.stage) s.views id v w at in let ns = total-set (λ (x : View). numbers_of x.number) s.views id v w at in record {
-          a = b;
-          bells = bells;
-          words_are = words;
-          few = few;
-          legal = legal;
-          unused = unused;
-          tickets = omega arith;
-          numbers = omega arith;
-          each = subst (λ (c : ℕ). (j : ℕ) (u : View) → get_elem? (set s.views id w) j ≡ core.some u → Fits o b c hs j u) (sym (length-set s.views id w))
-              (each_set (Fits o b (length s.views) hs) s.views id w mine (λ j u other e. others j u other e (k.each j u e)));
-          held = held;
-          placed = placed;
-        }
+        → KeptWith o log record { words = ws; homes = hs; views = set s.views id w }
+    rebuilt b log same bells ws hs words few legal unused tickets numbers others mine held placed = let kt = k.tickets in let kn = k.numbers in
+        let ts = total-set (λ (x : View). tickets_of x.stage) s.views id v w at in let ns = total-set (λ (x : View). numbers_of x.number) s.views id v w at in (
+          record {
+            a = b;
+            bells = bells;
+            words_are = words;
+            few = few;
+            legal = legal;
+            unused = unused;
+            tickets = omega arith;
+            numbers = omega arith;
+            each = subst (λ (c : ℕ). (j : ℕ) (u : View) → get_elem? (set s.views id w) j ≡ core.some u → Fits o b c hs j u) (sym (length-set s.views id w))
+                (each_set (Fits o b (length s.views) hs) s.views id w mine (λ j u other e. others j u other e (k.each j u e)));
+            held = held;
+            placed = placed;
+          },
+          same,
+        )
 
     -- the tickets that are held, where the step changes none
     pub held_as : ((t : ℕ) → HasTicket t v.stage → HasTicket t w.stage) → AllHeld o k.a (set s.views id w)
     held_as same t low high = stage_stays (HasTicket t) s.views id (k.a.holder t) v w at (same t) (k.held t low high)
 
   -- a step that changes nothing
-  pub unmoved : (s : St) (k : Kept o s) (id : ℕ) (v : View) (cs : List (ℕ × S)) (i : ℕ) → get_elem? s.views id ≡ core.some v → Kept o (stepped s i (get_or s.words i 0) id cs v keeps)
-  unmoved s k id v cs i at = subst (λ (x : List ℕ × List View). Kept o record { words = x.0; homes = s.homes; views = x.1 }) (λ i'. (sym (set-get_or s.words i 0) i', sym (set_again s.views id v at) i')) k
+  unmoved : (log : List Call) (s : St) (k : KeptWith o log s) (id : ℕ) (v : View) (cs : List (ℕ × S)) (i : ℕ) → get_elem? s.views id ≡ core.some v → KeptWith o log (stepped s i (get_or s.words i 0) id cs v keeps)
+  unmoved log s k id v cs i at = subst (λ (x : List ℕ × List View). KeptWith o log record { words = x.0; homes = s.homes; views = x.1 }) (λ i'. (sym (set-get_or s.words i 0) i', sym (set_again s.views id v at) i')) k
+
+  -- a step that leads on from each history keeps the rule
+  pub allowed : (slots id : ℕ) (me : Mine) (i : ℕ) (f : ℕ → ℕ) (then : ℕ → Mine → Type 0) (after : List Call → List Call)
+      → ((log : List Call) → Leads o log (after log) id me i f then) → Allows (Kept o) slots id me i f then
+  allowed slots id me i f then after leads s k wide at small = let x = leads k.a.log s (k, refl) at in (x.0, x.1, x.2, x.3.0, x.4)
 
   -- A step on a bell
-  pub rings : (slots id : ℕ) (me : Mine) (i : ℕ) (f : ℕ → ℕ) → 4 ≤ i → Allows (Kept o) slots id me i f (λ r m'. m' ≡ me)
-  rings slots id me i f above s k wide at small =
+  pub rings_with : (log : List Call) (id : ℕ) (me : Mine) (i : ℕ) (f : ℕ → ℕ) → 4 ≤ i → Leads o log log id me i f (λ r m'. m' ≡ me)
+  rings_with log id me i f above s kept at =
+      let k = kept.0 in
       let j = i - 4 in
       let is : suc (suc (suc (suc j))) ≡ i = omega arith in
       let n = f (get_or s.words i 0) in
@@ -99,10 +109,13 @@ module _ (o : Opening) where
         me.0,
         keeps,
         tt,
-        subst (λ (vs : List View). Kept o record { words = set s.words i n; homes = s.homes; views = vs }) (sym (set_again s.views id me.0 at))
-            record { a = k.a; bells = set k.bells j n; words_are = words; few = k.few; legal = k.legal; unused = k.unused; tickets = k.tickets; numbers = k.numbers; each = k.each; held = k.held; placed = k.placed },
+        subst (λ (vs : List View). KeptWith o log record { words = set s.words i n; homes = s.homes; views = vs }) (sym (set_again s.views id me.0 at))
+            (record { a = k.a; bells = set k.bells j n; words_are = words; few = k.few; legal = k.legal; unused = k.unused; tickets = k.tickets; numbers = k.numbers; each = k.each; held = k.held; placed = k.placed }, kept.1),
         refl,
       )
+
+  pub rings : (slots id : ℕ) (me : Mine) (i : ℕ) (f : ℕ → ℕ) → 4 ≤ i → Allows (Kept o) slots id me i f (λ r m'. m' ≡ me)
+  rings slots id me i f above = allowed slots id me i f (λ r m'. m' ≡ me) (λ log. log) (λ log. rings_with log id me i f above)
 
   -- STEP 1
   module _ (a : Account) (id : ℕ) where
@@ -113,21 +126,22 @@ module _ (o : Opening) where
     number_after j u None f = f
     number_after j u (Some n) f = let l = f.0 in (omega arith, ap (λ (b : Bool). cond b id (a.who n)) (ne_eqb n a.seats (λ e. omega arith)) ∙ f.1, f.2, f.3)
 
-  pub draws : (slots id : ℕ) (me : Mine) (n : ℕ) → me.0.number ≡ None → n < 2 ^ 32
-      → Allows (Kept o) slots id me 3 (λ x. either (eqb x n) (n + 1) x) (DrewNumber (step slots 3 n (n + 1) core.none) me)
-  draws slots id me n none low s k wide at small =
+  pub draws_with : (log : List Call) (slots id : ℕ) (me : Mine) (n : ℕ) → me.0.number ≡ None → n < 2 ^ 32
+      → Leads o log log id me 3 (λ x. either (eqb x n) (n + 1) x) (DrewNumber (step slots 3 n (n + 1) core.none) me)
+  draws_with log slots id me n none low s kept at =
+      let k = kept.0 in
       let v = me.0 in let a = k.a in let b = one_number a id in let r : ℕ = get_or s.words 3 0 in
       let is : r ≡ a.seats = ap (λ (ws : List ℕ). get_or ws 3 0) k.words_are in
       let f = k.each id v at in
       let nf : NumberFits o a id v None = subst (NumberFits o a id v) none f.number in
-      let F : ℕ → Type 0 = λ x. (w : View) × (c : Act S) × Valid s.homes me.1 c × Kept o (stepped s 3 x id me.1 w c) × DrewNumber (step slots 3 n (n + 1) core.none) me r (w, carried_after me.1 c) in
+      let F : ℕ → Type 0 = λ x. (w : View) × (c : Act S) × Valid s.homes me.1 c × KeptWith o log (stepped s 3 x id me.1 w c) × DrewNumber (step slots 3 n (n + 1) core.none) me r (w, carried_after me.1 c) in
       let zero_first : v.first ≡ true → r ≡ 0 = λ t. is ∙ (f.alone t).1 in
       exchanged r n (n + 1) F
       (λ hit. let here : a.seats ≡ n = sym is ∙ hit in (
         numbered r v,
         keeps,
         tt,
-        rebuilt s k id v (numbered r v) at b k.bells (set s.words 3 (n + 1)) s.homes
+        rebuilt s k id v (numbered r v) at b log kept.1 k.bells (set s.words 3 (n + 1)) s.homes
             (ap (λ (ws : List ℕ). set ws 3 (n + 1)) k.words_are ∙ ap (λ (x : ℕ). a.drawn % 2 ^ 64 ∷ a.served % 2 ^ 64 ∷ length a.log ∷ (x + 1) ∷ k.bells) (sym here))
             (omega arith)
             k.legal
@@ -156,7 +170,11 @@ module _ (o : Opening) where
             (⊎_elim (λ h. inl h) (λ h. inr (h.0, h.1, serving_stays s.views id (a.holder a.served) v (numbered r v) at (λ x. x) h.2)) k.placed),
         (zero_first, (λ _. (refl, none_in_front r a.log v.seen f.seen (k.unused r (omega arith)))), λ miss. absurd (miss hit)),
       ))
-      (λ miss. (v, keeps, tt, unmoved s k id v me.1 3 at, (zero_first, (λ hit. absurd (miss hit)), λ _. refl)))
+      (λ miss. (v, keeps, tt, unmoved log s kept id v me.1 3 at, (zero_first, (λ hit. absurd (miss hit)), λ _. refl)))
+
+  pub draws : (slots id : ℕ) (me : Mine) (n : ℕ) → me.0.number ≡ None → n < 2 ^ 32
+      → Allows (Kept o) slots id me 3 (λ x. either (eqb x n) (n + 1) x) (DrewNumber (step slots 3 n (n + 1) core.none) me)
+  draws slots id me n none low = allowed slots id me 3 (λ x. either (eqb x n) (n + 1) x) (DrewNumber (step slots 3 n (n + 1) core.none) me) (λ log. log) (λ log. draws_with log slots id me n none low)
 
   -- STEP 2
   module _ (a : Account) (id : ℕ) where
@@ -186,9 +204,10 @@ module _ (o : Opening) where
       w : View
       w = staged (waiting k.a.drawn) v
 
-  pub takes_ticket : (slots id : ℕ) (me : Mine) (n : ℕ) → me.0.number ≡ Some n → me.0.stage ≡ resting
-      → Allows (Kept o) slots id me 0 (λ x. (x + 1) % 2 ^ 64) (DrewTicket (step slots 0 1 0 core.none) me)
-  takes_ticket slots id me n some rests s k wide at small =
+  pub takes_ticket_with : (log : List Call) (slots id : ℕ) (me : Mine) (n : ℕ) → me.0.number ≡ Some n → me.0.stage ≡ resting
+      → Leads o log log id me 0 (λ x. (x + 1) % 2 ^ 64) (DrewTicket (step slots 0 1 0 core.none) me)
+  takes_ticket_with log slots id me n some rests s kept at =
+      let k = kept.0 in
       let v = me.0 in let a = k.a in let b = one_ticket a id in let r : ℕ = get_or s.words 0 0 in
       let is : r ≡ a.drawn % 2 ^ 64 = ap (λ (ws : List ℕ). get_or ws 0 0) k.words_are in
       let f = k.each id v at in
@@ -197,7 +216,7 @@ module _ (o : Opening) where
         w,
         keeps,
         tt,
-        rebuilt s k id v w at b k.bells (set s.words 0 ((r + 1) % 2 ^ 64)) s.homes
+        rebuilt s k id v w at b log kept.1 k.bells (set s.words 0 ((r + 1) % 2 ^ 64)) s.homes
             (ap (λ (ws : List ℕ). set ws 0 ((get_or ws 0 0 + 1) % 2 ^ 64)) k.words_are ∙ ap (λ (x : ℕ). x ∷ a.served % 2 ^ 64 ∷ length a.log ∷ a.seats ∷ k.bells) (mod-add-mod a.drawn (2 ^ 64) 1))
             k.few
             k.legal
@@ -235,6 +254,10 @@ module _ (o : Opening) where
         (a.drawn, is, refl),
       )
 
+  pub takes_ticket : (slots id : ℕ) (me : Mine) (n : ℕ) → me.0.number ≡ Some n → me.0.stage ≡ resting
+      → Allows (Kept o) slots id me 0 (λ x. (x + 1) % 2 ^ 64) (DrewTicket (step slots 0 1 0 core.none) me)
+  takes_ticket slots id me n some rests = allowed slots id me 0 (λ x. (x + 1) % 2 ^ 64) (DrewTicket (step slots 0 1 0 core.none) me) (λ log. log) (λ log. takes_ticket_with log slots id me n some rests)
+
   -- STEP 3
   abbrev number_stays : (a : Account) (j : ℕ) (u w : View) (n : ℕ) → u.number ≡ Some n → w.number ≡ Some n → w.mine ≡ u.mine → w.seen ≡ u.seen → NumberFits o a j u u.number → (n < a.seats) × (a.who n ≡ j) × (calls_by n a.log ≡ u.mine) × (calls_by n u.seen ≡ u.mine)
   number_stays a j u w n e d m q f = subst (NumberFits o a j u) e f
@@ -244,9 +267,14 @@ module _ (o : Opening) where
   stage_when_away a homes j (waiting t) f = f
   stage_when_away a homes j (serving t known) f = (f.0, f.1, f.2, f.3, refl)
 
-  pub looks_serving : (slots id : ℕ) (v : View) (cs : List (ℕ × S)) (n t : ℕ) → v.number ≡ Some n → v.stage ≡ waiting t → v.live ≡ true
-      → Allows (Kept o) slots id (v, cs) 1 (λ x. x) (LookedServing (step slots 1 0 0 core.none) (v, cs))
-  looks_serving slots id v cs n t some waits live s k wide at small =
+  -- the look, and that who gets the turn knows the history
+  abbrev pub Looked : List Call → ℕ → Mine → ℕ → Mine → Type 0
+  Looked log slots me r m' = LookedServing (step slots 1 0 0 core.none) me r m' × (r ≡ ticket_of me.0.stage % 2 ^ 64 → known_of m'.0.stage ≡ log)
+
+  pub looks_with : (log : List Call) (slots id : ℕ) (v : View) (cs : List (ℕ × S)) (n t : ℕ) → v.number ≡ Some n → v.stage ≡ waiting t → v.live ≡ true
+      → Leads o log log id (v, cs) 1 (λ x. x) (Looked log slots (v, cs))
+  looks_with log slots id v cs n t some waits live s kept at =
+      let k = kept.0 in
       let a = k.a in let r : ℕ = get_or s.words 1 0 in
       let is : r ≡ a.served % 2 ^ 64 = ap (λ (ws : List ℕ). get_or ws 1 0) k.words_are in
       let f = k.each id v at in
@@ -263,7 +291,7 @@ module _ (o : Opening) where
         w,
         takes 0 (Some h.0),
         ap (λ (hs : Homes). get_elem? hs 0) h.1,
-        rebuilt s k id v w at a k.bells (set s.words 1 r) (set s.homes 0 core.none)
+        rebuilt s k id v w at a log kept.1 k.bells (set s.words 1 r) (set s.homes 0 core.none)
             (set-get_or s.words 1 0 ∙ k.words_are)
             k.few
             k.legal
@@ -295,22 +323,29 @@ module _ (o : Opening) where
               (w, ap (get_elem? (set s.views id w)) (ap a.holder turn ∙ mine.2) ∙ set_here s.views id w (in_range s.views id v at), tt),
             )),
         (
-          (λ _. (
-            a.log,
-            h.0,
-            refl,
-            subst (λ (x : Opening). Holds x a.log h.0) (sym (f.same live)) h.2,
-            subst (λ (x : Opening). IsLegal x.tables a.log) (sym (f.same live)) k.legal,
-            f.seen,
-            (λ m e. subst (λ (x : Option ℕ). (number : NumberFits o a id v x) → (calls_by m a.log ≡ v.mine) × (calls_by m v.seen ≡ v.mine)) (sym e) (λ g. (g.2, g.3)) f.number),
-          )),
-          (λ miss. absurd (miss hit)),
+          (
+            (λ _. (
+              a.log,
+              h.0,
+              refl,
+              subst (λ (x : Opening). Holds x a.log h.0) (sym (f.same live)) h.2,
+              subst (λ (x : Opening). IsLegal x.tables a.log) (sym (f.same live)) k.legal,
+              f.seen,
+              (λ m e. subst (λ (x : Option ℕ). (number : NumberFits o a id v x) → (calls_by m a.log ≡ v.mine) × (calls_by m v.seen ≡ v.mine)) (sym e) (λ g. (g.2, g.3)) f.number),
+            )),
+            (λ miss. absurd (miss hit)),
+          ),
+          (λ _. kept.1),
         ),
       ))
       (λ (h : (s.homes ≡ away) × (a.served < a.drawn) × ((u : View) × (get_elem? s.views (a.holder a.served) ≡ core.some u) × IsServing u.stage)).
       absurd (subst IsServing waits (subst (λ (x : View). IsServing x.stage) (same_at s.views (a.holder a.served) id h.2.0 v (ap a.holder turn ∙ mine.2) h.2.1 at) h.2.2)))
       k.placed)
-      (λ miss. (v, keeps, tt, unmoved s k id v cs 1 at, ((λ hit. absurd (miss hit)), λ _. refl)))
+      (λ miss. (v, keeps, tt, unmoved log s kept id v cs 1 at, (((λ hit. absurd (miss hit)), λ _. refl), λ hit. absurd (miss hit))))
+
+  pub looks_serving : (slots id : ℕ) (v : View) (cs : List (ℕ × S)) (n t : ℕ) → v.number ≡ Some n → v.stage ≡ waiting t → v.live ≡ true
+      → Allows (Kept o) slots id (v, cs) 1 (λ x. x) (LookedServing (step slots 1 0 0 core.none) (v, cs))
+  looks_serving slots id v cs n t some waits live s k wide at small = let x = looks_with k.a.log slots id v cs n t some waits live s (k, refl) at in (x.0, x.1, x.2, x.3.0, x.4.0)
 
   -- STEP 5
   module _ (a : Account) (e : Call) where
@@ -326,10 +361,11 @@ module _ (o : Opening) where
     stage_after_entry homes id j (waiting t) own other f = f
     stage_after_entry homes id j (serving t known) own other f = absurd (other (sym f.2 ∙ (ap a.holder f.0 ∙ own)))
 
-  counts_at : (slots id : ℕ) (e : Call) (v : View) (cs : List (ℕ × S)) (t : ℕ) (known : List Call) → v.number ≡ Some e.number → v.live ≡ true
+  counts_at : (log : List Call) (slots id : ℕ) (e : Call) (v : View) (cs : List (ℕ × S)) (t : ℕ) (known : List Call) → v.number ≡ Some e.number → v.live ≡ true
       → e.outcome ≡ answer_to (replay v.opening.tables known) e → length known + 1 < 2 ^ 64
-      → Allows (Kept o) slots id (staged (serving t known) v, cs) 2 (λ x. (x + 1) % 2 ^ 64) (Counted e (step slots 2 1 0 core.none) (staged (serving t known) v, cs))
-  counts_at slots id e v cs t known some live right fits s k wide at small =
+      → Leads o log (log ++ e ∷ []) id (staged (serving t known) v, cs) 2 (λ x. (x + 1) % 2 ^ 64) (Counted e (step slots 2 1 0 core.none) (staged (serving t known) v, cs))
+  counts_at log slots id e v cs t known some live right fits s kept at =
+      let k = kept.0 in
       let a = k.a in let b = one_entry a e in let r : ℕ = get_or s.words 2 0 in
       let old = staged (serving t known) v in
       let f = k.each id old at in
@@ -345,7 +381,7 @@ module _ (o : Opening) where
         w,
         keeps,
         tt,
-        rebuilt s k id old w at b k.bells (set s.words 2 ((r + 1) % 2 ^ 64)) s.homes
+        rebuilt s k id old w at b (log ++ e ∷ []) (ap (λ (l : List Call). l ++ e ∷ []) kept.1) k.bells (set s.words 2 ((r + 1) % 2 ^ 64)) s.homes
             (ap (λ (ws : List ℕ). set ws 2 ((get_or ws 2 0 + 1) % 2 ^ 64)) k.words_are ∙ ap (λ (x : ℕ). a.drawn % 2 ^ 64 ∷ a.served % 2 ^ 64 ∷ x ∷ a.seats ∷ k.bells) more)
             k.few
             (legal-append o.tables a.log (e ∷ []) k.legal (answered, tt))
@@ -380,11 +416,17 @@ module _ (o : Opening) where
       at_home_or_away : (y : Stored) (hs : Homes) → hs ≡ home y → hs ≡ away → ⊥
       at_home_or_away y hs p q = core.some-ne-none (Some y) (core.some-injective (core.some (Some y)) core.none (ap (λ (x : Homes). get_elem? x 0) (sym p ∙ q)))
 
+  pub counts_with : (log : List Call) (slots id : ℕ) (e : Call) (v : View) (cs : List (ℕ × S)) (t : ℕ) (known : List Call) → v.stage ≡ serving t known → v.number ≡ Some e.number → v.live ≡ true
+      → e.outcome ≡ answer_to (replay v.opening.tables known) e → length known + 1 < 2 ^ 64
+      → Leads o log (log ++ e ∷ []) id (v, cs) 2 (λ x. (x + 1) % 2 ^ 64) (Counted e (step slots 2 1 0 core.none) (v, cs))
+  counts_with log slots id e v cs t known is some live right fits =
+      subst (λ (st : Stage). Leads o log (log ++ e ∷ []) id (staged st v, cs) 2 (λ x. (x + 1) % 2 ^ 64) (Counted e (step slots 2 1 0 core.none) (staged st v, cs))) (sym is) (counts_at log slots id e v cs t known some live right fits)
+
   pub counts : (slots id : ℕ) (e : Call) (v : View) (cs : List (ℕ × S)) (t : ℕ) (known : List Call) → v.stage ≡ serving t known → v.number ≡ Some e.number → v.live ≡ true
       → e.outcome ≡ answer_to (replay v.opening.tables known) e → length known + 1 < 2 ^ 64
       → Allows (Kept o) slots id (v, cs) 2 (λ x. (x + 1) % 2 ^ 64) (Counted e (step slots 2 1 0 core.none) (v, cs))
   counts slots id e v cs t known is some live right fits =
-      subst (λ (st : Stage). Allows (Kept o) slots id (staged st v, cs) 2 (λ x. (x + 1) % 2 ^ 64) (Counted e (step slots 2 1 0 core.none) (staged st v, cs))) (sym is) (counts_at slots id e v cs t known some live right fits)
+      allowed slots id (v, cs) 2 (λ x. (x + 1) % 2 ^ 64) (Counted e (step slots 2 1 0 core.none) (v, cs)) (λ log. log ++ e ∷ []) (λ log. counts_with log slots id e v cs t known is some live right fits)
 
   -- STEP 7
   module _ (a : Account) where
@@ -401,9 +443,10 @@ module _ (o : Opening) where
     number_after_served j u None f = f
     number_after_served j u (Some n) f = f
 
-  advances_at : (slots id : ℕ) (v : View) (y : Stored) (t : ℕ) (known : List Call) (n : ℕ) → v.number ≡ Some n → v.live ≡ true → Holds v.opening known y
-      → Allows (Kept o) slots id (staged (serving t known) v, (0, Some y) ∷ []) 1 (λ x. (x + 1) % 2 ^ 64) (Advanced (step slots 1 1 0 core.none) (staged (serving t known) v, (0, Some y) ∷ []))
-  advances_at slots id v y t known n some live ok s k wide at small =
+  advances_at : (log : List Call) (slots id : ℕ) (v : View) (y : Stored) (t : ℕ) (known : List Call) (n : ℕ) → v.number ≡ Some n → v.live ≡ true → Holds v.opening known y
+      → Leads o log log id (staged (serving t known) v, (0, Some y) ∷ []) 1 (λ x. (x + 1) % 2 ^ 64) (Advanced (step slots 1 1 0 core.none) (staged (serving t known) v, (0, Some y) ∷ []))
+  advances_at log slots id v y t known n some live ok s kept at =
+      let k = kept.0 in
       let a = k.a in let b = one_served a in let r : ℕ = get_or s.words 1 0 in
       let old = staged (serving t known) v in
       let f = k.each id old at in
@@ -415,7 +458,7 @@ module _ (o : Opening) where
         w,
         gives,
         tt,
-        rebuilt s k id old w at b k.bells (set s.words 1 ((r + 1) % 2 ^ 64)) (set s.homes 0 (core.some (Some y)))
+        rebuilt s k id old w at b log kept.1 k.bells (set s.words 1 ((r + 1) % 2 ^ 64)) (set s.homes 0 (core.some (Some y)))
             (ap (λ (ws : List ℕ). set ws 1 ((get_or ws 1 0 + 1) % 2 ^ 64)) k.words_are ∙ ap (λ (x : ℕ). a.drawn % 2 ^ 64 ∷ x ∷ length a.log ∷ a.seats ∷ k.bells) (mod-add-mod a.served (2 ^ 64) 1))
             k.few
             k.legal
@@ -445,16 +488,21 @@ module _ (o : Opening) where
         refl,
       )
 
-  pub advances : (slots id : ℕ) (v : View) (y : Stored) (t : ℕ) (known : List Call) (n : ℕ) → v.stage ≡ serving t known → v.number ≡ Some n → v.live ≡ true → Holds v.opening known y
-      → Allows (Kept o) slots id (v, (0, Some y) ∷ []) 1 (λ x. (x + 1) % 2 ^ 64) (Advanced (step slots 1 1 0 core.none) (v, (0, Some y) ∷ []))
-  advances slots id v y t known n is some live ok =
-      subst (λ (st : Stage). Allows (Kept o) slots id (staged st v, (0, Some y) ∷ []) 1 (λ x. (x + 1) % 2 ^ 64) (Advanced (step slots 1 1 0 core.none) (staged st v, (0, Some y) ∷ []))) (sym is)
-      (advances_at slots id v y t known n some live ok)
+  advances : (log : List Call) (slots id : ℕ) (v : View) (y : Stored) (t : ℕ) (known : List Call) (n : ℕ) → v.stage ≡ serving t known → v.number ≡ Some n → v.live ≡ true → Holds v.opening known y
+      → Leads o log log id (v, (0, Some y) ∷ []) 1 (λ x. (x + 1) % 2 ^ 64) (Advanced (step slots 1 1 0 core.none) (v, (0, Some y) ∷ []))
+  advances log slots id v y t known n is some live ok =
+      subst (λ (st : Stage). Leads o log log id (staged st v, (0, Some y) ∷ []) 1 (λ x. (x + 1) % 2 ^ 64) (Advanced (step slots 1 1 0 core.none) (staged st v, (0, Some y) ∷ []))) (sym is)
+      (advances_at log slots id v y t known n some live ok)
+
+  pub advances_with : (log : List Call) (slots id : ℕ) (me : Mine) (y : Stored) (t : ℕ) (known : List Call) (n : ℕ) → me.1 ≡ (0, Some y) ∷ [] → me.0.stage ≡ serving t known → me.0.number ≡ Some n → me.0.live ≡ true → Holds me.0.opening known y
+      → Leads o log log id me 1 (λ x. (x + 1) % 2 ^ 64) (Advanced (step slots 1 1 0 core.none) me)
+  advances_with log slots id me y t known n has is some live ok =
+      subst (λ (cs : List (ℕ × S)). Leads o log log id (me.0, cs) 1 (λ x. (x + 1) % 2 ^ 64) (Advanced (step slots 1 1 0 core.none) (me.0, cs))) (sym has) (advances log slots id me.0 y t known n is some live ok)
 
   pub advances_as : (slots id : ℕ) (me : Mine) (y : Stored) (t : ℕ) (known : List Call) (n : ℕ) → me.1 ≡ (0, Some y) ∷ [] → me.0.stage ≡ serving t known → me.0.number ≡ Some n → me.0.live ≡ true → Holds me.0.opening known y
       → Allows (Kept o) slots id me 1 (λ x. (x + 1) % 2 ^ 64) (Advanced (step slots 1 1 0 core.none) me)
   advances_as slots id me y t known n has is some live ok =
-      subst (λ (cs : List (ℕ × S)). Allows (Kept o) slots id (me.0, cs) 1 (λ x. (x + 1) % 2 ^ 64) (Advanced (step slots 1 1 0 core.none) (me.0, cs))) (sym has) (advances slots id me.0 y t known n is some live ok)
+      allowed slots id me 1 (λ x. (x + 1) % 2 ^ 64) (Advanced (step slots 1 1 0 core.none) me) (λ log. log) (λ log. advances_with log slots id me y t known n has is some live ok)
 
 -- THE START
 abbrev start : Account

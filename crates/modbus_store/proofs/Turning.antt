@@ -1,6 +1,8 @@
 -- What a call makes of its steps.
 use Rattle.std.proofs.Common.{arith, length-append, ◌≡◌, ℕ, ◌%◌, ◌^◌, List, [], ◌∷◌, ◌++◌, sym, refl, ap, ◌∙◌, subst, Option, Some, None, Bool, true, false}
-use Rattle.std.specs.Prelude.{IfSome, is_some}
+use Rattle.std.specs.Prelude.{IfSome, is_some, Result, Ok, Err}
+use Rattle.modbus_service.specs.declared.service.ServiceError.{ServiceError}
+use Rattle.modbus_service.specs.declared.service.ServiceError.TheVariants.{Exception, NoMemory}
 use Rattle.std.specs.Option.{option_map}
 use Rattle.atomic_table.specs.Table.{Step, step, rest}
 use mathlib.Core.Option.{none}
@@ -10,6 +12,8 @@ use Rattle.modbus_store.specs.Legal.{Call, answer_to, tables_after, replay, IsLe
 use Rattle.modbus_store.specs.Views.{View, resting, waiting, serving}
 use Rattle.modbus_store.specs.Lock.{Records, Holds, opening_of}
 use Rattle.modbus_store.specs.Plays.{Mine, staged, known_of, counted, GotTurn, LookedServing}
+use Rattle.modbus_store.specs.Passes.{Pass}
+use Rattle.modbus_store.specs.Events.{AddsNoCall}
 use Rattle.modbus_store.specs.Turns.{Rests, Ripe, TookTurn, Extends, Serves}
 use Rattle.modbus_store.proofs.Histories.{replay-append, legal-append, calls_by_mine, none_between}
 
@@ -82,6 +86,12 @@ extends c m m' y w rests took right is =
       ),
       seen,
     )
+
+-- a pass that is as it was added no call
+pub adds_no_call : {T : Type 0} (result : Result T ServiceError) (old new : Pass) → new.number ≡ old.number → new.mine ≡ old.mine → AddsNoCall result old new
+adds_no_call (Ok x) old new number mine = tt
+adds_no_call (Err NoMemory) old new number mine = λ s h j v at is own. ap (λ (n : ℕ). calls_by n h.history) (sym number) ∙ ((h.own j v new.number at is).0 ∙ (own ∙ mine))
+adds_no_call (Err (Exception c)) old new number mine = tt
 
 -- the record once the call joined it
 pub records_more : (b : Bool) (h h' : Option (List Call)) (log : List Call) (c : Call) → Records b h log → h' ≡ option_map (λ kept. kept ++ c ∷ []) h → Records b h' (log ++ c ∷ [])

@@ -11,3 +11,4 @@ pub mod Turns
 pub mod Passes
 pub mod Standing
 pub mod Orderly
+pub mod Events

@@ -72,12 +72,12 @@ pub record TakesIn (old other new : Pass) : Type 0 where
   pub within : new.drawn ≤ 2 ^ 32
   pub rest : new ≡ record old { seen = new.seen; drawn = new.drawn }
 
--- The history at the end: it is legal, begins with all that the pass had seen, and has exactly the pass's own calls of its number. The
--- tables are what it leaves, and the record, where one was kept, is it.
-pub record Closes (pass : Pass) (tables : Tables) (kept : Option (List Call)) : Type 0 where
-  pub history : List Call
-  pub legal : IsLegal pass.opening.tables history
-  pub begins : StartsWith history pass.seen
-  pub own : calls_by pass.number history ≡ pass.mine
-  pub leaves : tables ≡ replay pass.opening.tables history
-  pub record_is : Records pass.opening.recorded kept history
+-- The last turn has the history at the end: it is legal, begins with all that the pass had seen, and has exactly the pass's own calls of its
+-- number. The tables are what it leaves, and the record, where one was kept, is it.
+pub record Closes (pass last : Pass) (tables : Tables) (kept : Option (List Call)) : Type 0 where
+  pub legal : IsLegal pass.opening.tables last.seen
+  pub begins : StartsWith last.seen pass.seen
+  pub own : calls_by pass.number last.seen ≡ pass.mine
+  pub leaves : tables ≡ replay pass.opening.tables last.seen
+  pub record_is : Records pass.opening.recorded kept last.seen
+  pub rest : last ≡ record pass { seen = last.seen }

@@ -10,7 +10,9 @@ ghost use Rattle.modbus_store.specs.declared.lock.Stored.{Stored};
 ghost use Rattle.modbus_store.specs.Legal.{Call, Asking, asking_of, IsLegal};
 ghost use Rattle.modbus_store.specs.Views.{Opening, View};
 ghost use Rattle.modbus_store.specs.Lock.{Kept};
+ghost use Rattle.modbus_store.specs.Plays.{Mine};
 ghost use Rattle.modbus_store.specs.Orderly.{IsOrderly};
+ghost use Rattle.modbus_store.specs.Events.{AddsCall, LeavesHistory};
 
 use modbus_pdu::responses_have_sizes;
 
@@ -30,4 +32,11 @@ pub fn calls_have_one_history()
 /// What the rule of the lock of a shared store comes to, between any two of its steps.
 pub fn the_lock_is_orderly()
     ensures { (opening : Opening) (state : State (Option Stored) View) → Kept opening state → IsOrderly opening state }
+{}
+
+/// A call joins the history of a shared store at one step, which counts it, and no other step changes the history. Of all seats a step may
+/// change what the one that takes it knows; a split makes one more, and a join leaves the other spent.
+pub fn a_call_joins_at_one_step()
+    ensures counts { (opening : Opening) (history : List Call) (id : ℕ) (me : Mine) → AddsCall opening history id me }
+    ensures others { (opening : Opening) (history : List Call) (id : ℕ) (me : Mine) → LeavesHistory opening history id me }
 {}

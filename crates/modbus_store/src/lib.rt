@@ -23,7 +23,7 @@ mod waiting;
 pub use crate::change::Change;
 pub use crate::history::{Entry, History};
 pub use crate::outcome::Outcome;
-pub use crate::pass::StorePass;
+pub use crate::pass::{LastTurn, StorePass};
 pub use crate::plan::Planned;
 pub use crate::shared::SharedStore;
 pub use crate::store::{OutOfRange, RegisterStore, Sizes, StoreError};

@@ -1,4 +1,4 @@
-//! The token of one caller of a shared store.
+//! The token of one caller of a shared store, and what is left of it once the store is closed.
 ghost use Rattle.std.specs.Prelude.{◌≡◌, length};
 ghost use Rattle.modbus_store.specs.Passes.{IsInLine};
 
@@ -45,4 +45,26 @@ impl StorePass {
     {
         self.seen
     }
+}
+
+/// The last turn of a shared store. Nobody has a turn after it.
+///
+/// It stands for the calls of the one history, which take no memory.
+#[derive(Drop)]
+pub struct LastTurn {
+    pub(crate) seat: Spot,
+    pub(crate) number: u32,
+}
+
+/// A contract sees the pass that has the turn, which has seen the whole history.
+impl Model for LastTurn {
+    ghost use Rattle.modbus_store.specs.Passes.{Pass};
+
+    ghost Value = { Pass };
+
+    ghost use Rattle.modbus_store.specs.Standing.{last_of, IsLast};
+
+    ghost view = { last_of };
+
+    ghost invariant = { IsLast };
 }

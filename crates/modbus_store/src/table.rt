@@ -3,11 +3,12 @@ ghost use Rattle.std.specs.Prelude.{◌≡◌, ◌^◌, true, false, [], is_some
 ghost use Rattle.modbus_frame.specs.Meaning.{meaning};
 ghost use Rattle.modbus_service.specs.Answering.{Keeps};
 ghost use Rattle.modbus_store.specs.Lock.{opening_of};
+ghost use Rattle.modbus_store.specs.Events.{AddsNoCall};
 ghost use Rattle.modbus_store.specs.Passes.{IsPassOf, caller, opened, SplitsOff, TakesIn, Closes};
 
 use crate::history::History;
 use crate::lock::{InTurn, Stored, View};
-use crate::pass::StorePass;
+use crate::pass::{LastTurn, StorePass};
 use crate::steps::{draw_number, glue, load_drawn, split, take_turn};
 use crate::store::RegisterStore;
 use crate::turn::turn;
@@ -52,6 +53,8 @@ pub struct ClosedStore {
     pub store: RegisterStore,
     /// All calls in their order; none where no record was kept.
     pub history: Option<History>,
+    /// The turn in which the store was taken out. It stands for all calls in their order, whether or not a record was kept.
+    pub last: LastTurn,
 }
 
 impl StoreTable {
@@ -99,6 +102,7 @@ impl StoreTable {
         requires { IsPassOf self.now pass.old }
         ensures answer { Keeps caller pass.old request.entry.slave (meaning request.entry.request) result pass.new }
         ensures same_store { IsPassOf self.now pass.new }
+        ensures none_added { AddsNoCall result pass.old pass.new }
     {
         let (outcome, length) = turn(
             &self.table.shared,
@@ -116,7 +120,7 @@ impl StoreTable {
     /// seen. It takes no memory.
     pub fn close<R: Wait>(self, rt: &R, pass: StorePass) -> ClosedStore
         requires { IsPassOf self pass }
-        ensures { Closes pass result.store result.history }
+        ensures { Closes pass result.last result.store result.history }
     {
         let StorePass {
             mut seat,
@@ -129,7 +133,11 @@ impl StoreTable {
             count: _,
             history,
         } = take_turn(&self.table.shared, rt, &mut seat, number);
-        ClosedStore { store, history }
+        ClosedStore {
+            store,
+            history,
+            last: LastTurn { seat, number },
+        }
     }
 
     /// A new pass of the same store, which has seen what this one has seen, and made no call. It takes no memory.
