@@ -1,6 +1,5 @@
-//! Tests of modbus_store: worked requests, the limits of the standard, a store that is shared, and that what may want memory succeeds with
-//! it.
+//! Tests of modbus_store: a store that is shared, by four passes on threads of their own at one time.
 #![tactic(auto)]
 
 #[cfg(test)]
-mod store;
+mod shared;

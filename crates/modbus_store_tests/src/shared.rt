@@ -1,0 +1,177 @@
+//! Four passes that call a shared store at one time: what each is answered, and where its calls stand in the history.
+
+use modbus_frame::{Request, Response, SlaveRequest, Words};
+use modbus_service::Service;
+use modbus_store::{
+    ClosedStore, Entry, History, Outcome, RegisterStore, SharedStore, Sizes, StorePass, StoreTable,
+};
+use std::alloc::{AllocError, Global};
+use std::sync::Wait;
+use std::sync::atomic::{AtomicU32, Ordering};
+use std::test::Fail;
+use std::thread::{Threads, map_vec, sleep};
+use std::time::{Clock, Duration};
+
+const SIZES: Sizes = Sizes {
+    coils: 1,
+    discrete_inputs: 1,
+    holding_registers: 8,
+    input_registers: 1,
+};
+
+/// How many passes call.
+const PASSES: u32 = 4;
+
+/// How many calls each makes.
+const CALLS: u16 = 100;
+
+/// How many calls a pass has made when it waits until each of the others has made as many.
+const MEETING: u16 = 10;
+
+/// How often it looks, once a millisecond.
+const LOOKS: u32 = 10_000;
+
+/// What a pass asks by its n-th call: it writes a register of its own, and then reads it.
+fn asked(register: u16, n: u16) -> Request<'static> {
+    if n % 2 == 0 {
+        Request::WriteSingleRegister(register, n / 2)
+    } else {
+        Request::ReadHoldingRegisters(register, 1)
+    }
+}
+
+/// What it is answered, where no other pass writes that register.
+fn answered(alloc: Global, register: u16, n: u16) -> Result<Response, AllocError> {
+    if n % 2 == 0 {
+        Ok(Response::WriteSingleRegister(register, n / 2))
+    } else {
+        let word = Vec::from_slice(alloc, &[n / 2])?;
+        Ok(Response::ReadHoldingRegisters(Words::new(word)))
+    }
+}
+
+#[derive(Drop)]
+struct Job<'t, R> {
+    service: SharedStore<'t, R>,
+    register: u16,
+    met: &'t AtomicU32,
+}
+
+/// Raises the count, and waits until all others have. Whether they did, within so many looks.
+fn meet<R: Clock>(rt: &R, met: &AtomicU32) -> bool {
+    met.fetch_add(1, Ordering::SeqCst);
+    for _ in 0..LOOKS {
+        if met.load(Ordering::SeqCst) >= PASSES {
+            return true;
+        }
+        sleep(rt, Duration::from_millis(1));
+    }
+    false
+}
+
+/// Makes a call. Whether it was answered so.
+fn is_answered<R: Wait>(
+    alloc: Global,
+    service: &mut SharedStore<'_, R>,
+    register: u16,
+    n: u16,
+) -> bool {
+    let Ok(wanted) = answered(alloc, register, n) else {
+        return false;
+    };
+    let request = SlaveRequest {
+        slave: 1,
+        request: asked(register, n),
+    };
+    match service.call(alloc, request) {
+        Ok(Some(response)) => response == wanted,
+        _ => false,
+    }
+}
+
+/// Makes all calls of a pass, and meets the others among them. The pass comes back where each was answered so.
+fn work<R: Wait + Clock>(rt: &R, alloc: Global, job: Job<'_, R>) -> Option<StorePass> {
+    let Job {
+        mut service,
+        register,
+        met,
+    } = job;
+    for n in 0..CALLS {
+        if n == MEETING && !meet(rt, met) {
+            return None;
+        }
+        if !is_answered(alloc, &mut service, register, n) {
+            return None;
+        }
+    }
+    Some(service.into_pass())
+}
+
+/// Whether an entry is the n-th call of this pass.
+fn is_call(alloc: Global, entry: &Entry, register: u16, n: u16) -> bool {
+    let Ok(response) = answered(alloc, register, n) else {
+        return false;
+    };
+    entry.slave == 1
+        && entry.request == asked(register, n)
+        && entry.outcome == Outcome::Response(response)
+}
+
+/// How many calls of a pass stand in the history, which are its calls in their order; none where one is another.
+fn calls_in_order(alloc: Global, history: &History, number: u16) -> Option<u16> {
+    let mut made = 0u16;
+    for place in 0..history.len() {
+        let entry = history.entry(place)?;
+        if entry.seat == u32::from(number) {
+            if made >= CALLS || !is_call(alloc, entry, number, made) {
+                return None;
+            }
+            made += 1;
+        }
+    }
+    Some(made)
+}
+
+/// How many calls the pass has seen that has seen the most, and the history.
+fn calls_of_four<R: Threads + Wait + Clock + Sync>(
+    rt: &R,
+    alloc: Global,
+) -> Option<(u64, History)> {
+    let store = RegisterStore::new(alloc, SIZES, false).ok()?;
+    let (table, mut first) = StoreTable::open(alloc, store).ok()?;
+    let met = AtomicU32::new(0);
+    let mut jobs = Vec::new(alloc);
+    for _ in 0..PASSES {
+        let own = table.split(rt, &mut first).ok()?;
+        let job = Job {
+            register: u16::try_from(own.number()).ok()?,
+            service: SharedStore::new(rt, &table, own),
+            met: &met,
+        };
+        jobs.push(job).ok()?;
+    }
+    let done = map_vec(rt, jobs, &|job: Job<'_, R>| work(rt, alloc, job)).ok()?;
+    let mut seen = 0;
+    for pass in done {
+        seen = seen.max(pass?.seen());
+    }
+    let ClosedStore {
+        store: _,
+        history,
+        last: _,
+    } = table.close(rt, first);
+    Some((seen, history?))
+}
+
+#[test]
+fn four_passes_call_at_one_time(rt: HostRuntime) -> Result<(), Fail> {
+    let alloc = rt.alloc();
+    let Some((seen, history)) = calls_of_four(&rt, alloc) else {
+        panic!(rt; "each call was answered, and the threads met")
+    };
+    assert_eq!(rt; (seen, history.len()), (400, 400));
+    for number in 1..5 {
+        assert_eq!(rt; calls_in_order(alloc, &history, number), Some(CALLS));
+    }
+    Ok(())
+}
