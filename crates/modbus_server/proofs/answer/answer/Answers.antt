@@ -40,12 +40,12 @@ returns-in-Err-Exception-clause-answers g c =
     let e : request_of message.1 ≡ Ok (meaning c.in-Ok.request) = c.in-Ok.ensures.value in
     let step : A.gives c.args.service.now (F.slave message.0) (meaning c.in-Ok.request) (exception c.in-Err-Exception.exception) c.ask.new.self =
     subst (λ n. A.gives c.args.service.now n (meaning c.in-Ok.request) (exception c.in-Err-Exception.exception) c.ask.new.self) c.slave-slave.ensures (rw c.in-Err-Exception.field-0-is at c.in-Err-Exception.ensures) in
-    framed_as F A message c.args.service.now c.ask.new.self (Err (record { function = c.function_code-function.result; exception = c.in-Err-Exception.exception })) c.frame-in-Err-Exception.result c.frame-in-Err-Exception.new.reply.items (
+    framed_as F A message c.args.service.now c.ask.new.self (Err (record { function = c.function_code-function.result; exception = c.in-Err-Exception.exception })) c.refuse.result c.refuse.new.reply.items (
       exchange F message.0 (meaning c.in-Ok.request) (exception c.in-Err-Exception.exception),
       answered F A message.0 message.1 c.args.service.now c.ask.new.self (meaning c.in-Ok.request) (exception c.in-Err-Exception.exception) e step,
       (λ bad. cc),
       exception_is (code_of (meaning c.in-Ok.request)) c.in-Err-Exception.exception ∙ ap (λ f. (function_number f + 0x80) ∷ exception_number c.in-Err-Exception.exception ∷ []) (sym c.function_code-function.ensures),
-    ) c.frame-in-Err-Exception.ensures.frames
+    ) c.refuse.ensures.frames
 
 pub returns-in-Err-NoMemory-clause-answers : goal.returns-in-Err-NoMemory-clause-answers
 returns-in-Err-NoMemory-clause-answers g c =
