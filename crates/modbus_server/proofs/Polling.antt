@@ -23,7 +23,7 @@ use Rattle.modbus_server.specs.Stepping.{StepsAs, EndsIfMay, Stepped, EndsRead, 
 use Rattle.modbus_server.specs.Complete.{Completes}
 use Rattle.modbus_server.specs.Polled.{ReadsNothing, PollWrites, PollReads, Paused, PollSteps, PollStands, PollEnds, PolledTo, RunsWhole}
 use Rattle.modbus_server.proofs.Standing.{opened, sent_on, halted}
-use Rattle.modbus_server.proofs.Stepping.{stepped_sent, stepped_read}
+use Rattle.modbus_server.proofs.Stepping.{fails_end, stepped_sent, stepped_read}
 
 -- two runs after what came before are one, with what was written in them
 regrouped : (P : List ℕ → List (ℕ × ℕ) → List ℕ → Type 0) (bytes fed fed' : List ℕ) (earlier made made' : List (ℕ × ℕ)) (written sent sent' : List ℕ)
@@ -357,7 +357,7 @@ module _ (F : Framing) {S : Type 0} (A : Answering S) where
           (λ turns bytes made written opening s.
           let all = count may_read (Err error) step turns bytes made written opening s in
           let before = s.spends in record {
-            served = stepped may_read (Err error) step turns bytes made written opening s;
+            served = fails_end F A (bytes ++ step.fed) (totals (made ++ shifted (length bytes) step.made)) opening next (written ++ step.sent) s.exchanges error (stepped may_read (Err error) step turns bytes made written opening s);
             rooms = have_rooms may_read (Err error) step turns bytes made written opening s;
             spends = spent error (length (made ++ shifted (length bytes) step.made)) turns step.leaves.2 (omega (arith, none, all, before));
           })

@@ -18,6 +18,7 @@ use Rattle.modbus_server.specs.Moving.{EndsInput}
 use Rattle.modbus_server.specs.Stepping.{StepsAs, EndsIfMay, Stepped, Ran, EndsRead, spending_of}
 use Rattle.modbus_server.specs.Stopping.{StaysUnset, LooksEach, RanUntil}
 use Rattle.modbus_server.proofs.Standing.{opened, halted, wanting}
+use Rattle.modbus_server.proofs.Stepping.{fails_end}
 
 module _ (F : Framing) {S X : Type 0} (A : Answering S) (stops : X → ℕ) (looks : X → Bool → X → Type 0) where
   -- what a loop of steps keeps
@@ -177,7 +178,7 @@ module _ (F : Framing) {S X : Type 0} (A : Answering S) (stops : X → ℕ) (loo
           made = g.made ++ shifted (length g.fed) step.made;
           sent = g.sent ++ step.sent;
           passes = all_passes (Err error) step;
-          served = all_steps (Err error) step;
+          served = fails_end F A (g.fed ++ step.fed) (totals (g.made ++ shifted (length g.fed) step.made)) start next (g.sent ++ step.sent) g.exchanges error (all_steps (Err error) step);
           rooms = all_rooms (Err error) step;
           spends = spent error (length (g.made ++ shifted (length g.fed) step.made)) step.leaves.2 (omega (arith, all_made (Err error) step, ap length step.leaves.0, g.spends));
           ended = λ told. ended_as error c.left (step.ended (g.passes.source.told ∙ told));

@@ -17,7 +17,7 @@ use Rattle.modbus_server.specs.Framing.{Framing, Message}
 use Rattle.modbus_service.specs.Answering.{Answering}
 use Rattle.modbus_server.specs.Exchanges.{Exchange, GivesOutcome, Run, ReplyFits, reply_of, output, last_reply, asked_of, asks}
 use Rattle.modbus_server.specs.Answer.{Answered, AnswersAs}
-use Rattle.modbus_server.specs.Serving.{Stands, NextIsRequest, Served, Halt, Halts, refused, too_long, NextTakesMemory, WantsMemory, Wanting}
+use Rattle.modbus_server.specs.Serving.{Stands, NextIsRequest, Served, ServedAfter, Halt, Halts, refused, too_long, NextTakesMemory, WantsMemory, Wanting, WantingAfter}
 use Rattle.modbus_server.specs.Taking.{TakesAs, next_of}
 
 module _ (F : Framing) where
@@ -116,9 +116,16 @@ module _ (F : Framing) where
         halts = halts;
       }
 
+      pub halted_after : (halt : Halt) (next : S) → Halts F A bytes cuts s.taken now next halt → ServedAfter F A bytes cuts opening next written exchanges halt
+      unfolding halted
+      halted_after halt next halts = (halted halt next halts, refl)
+
       -- memory is wanting after these exchanges
+      pub wanting_after : (next : S) → WantsMemory F A bytes cuts held s.taken now next → WantingAfter F A bytes cuts opening next written exchanges
+      wanting_after next cause = (record { held = held; exchanges = exchanges; ends = now; stood = s; cause = cause }, refl)
+
       pub wanting : (next : S) → WantsMemory F A bytes cuts held s.taken now next → Wanting F A bytes cuts opening next written
-      wanting next cause = record { held = held; exchanges = exchanges; ends = now; stood = s; cause = cause }
+      wanting next cause = (wanting_after next cause).0
 
       module _ {E : Type 0} (told : E → ProcessError) (message : Message F) (held' : List ℕ) (next : S) (made : List ℕ)
           (stands : F.StandsFor bytes cuts held' (s.taken ++ message ∷ [])) (is_next : F.IsNext bytes cuts s.taken message) where
@@ -129,16 +136,16 @@ module _ (F : Framing) where
         silenced (x, answered, fits, quiet, none) = (x, answered_on message held' next x stands answered fits [] (sym (silent_reply x quiet)), quiet)
 
         refuses : (reason : _) → AnswersAs F A message now (Err (fault.Refused reason)) next made → TakesAs F A told bytes cuts held' opening next written made exchanges (Err (Refused reason))
-        refuses reason (e, same) = halted (refused reason) next (message, is_next, e, same)
+        refuses reason (e, same) = halted_after (refused reason) next (message, is_next, e, same)
 
         overlong : (size : ℕ) → AnswersAs F A message now (Err (fault.TooLong size)) next made → TakesAs F A told bytes cuts held' opening next written made exchanges (Err (TooLong size))
-        overlong size (x, answered, e, long) = halted (too_long size) next (message, is_next, x, answered.asked, answered.step, e, long)
+        overlong size (x, answered, e, long) = halted_after (too_long size) next (message, is_next, x, answered.asked, answered.step, e, long)
 
         next_is : (request : Asked) → request_of message.1 ≡ Ok request → NextIsRequest F bytes cuts exchanges
         next_is request asked = (s.taken, message, is_next, s.asked, request, asked)
 
         wants : AnswersAs F A message now (Err fault.NoMemory) next made → TakesAs F A told bytes cuts held' opening next written made exchanges (Err NoMemory)
-        wants (request, asked, wanted) = (wanting next (inl (message, is_next, (request, asked, wanted))), next_is request asked)
+        wants (request, asked, wanted) = (wanting_after next (inl (message, is_next, (request, asked, wanted))), next_is request asked)
 
         pub takes_on : (result : Result Answer AnswerError) → AnswersAs F A message now result next made → TakesAs F A told bytes cuts held' opening next written made exchanges (next_of result)
         takes_on (Ok Framed) h = replied h

@@ -16,12 +16,12 @@ use Rattle.modbus_server.specs.declared.error.Step.TheVariants.{Answered, Silent
 use Rattle.modbus_server.specs.Framing.{Framing, Message, IsOfFraming}
 use Rattle.modbus_service.specs.Answering.{Answering}
 use Rattle.modbus_server.specs.Exchanges.{Exchange}
-use Rattle.modbus_server.specs.Serving.{Stands, AreAllAnswered, Served, remaining, broken, NextTakesMemory, Wanting, EndsAs}
+use Rattle.modbus_server.specs.Serving.{Stands, AreAllAnswered, ServedAfter, remaining, broken, NextTakesMemory, WantingAfter, EndsAs}
 use Rattle.modbus_server.specs.State.{State}
 use Rattle.modbus_server.specs.Taking.{TakesAs, Took, told_next, IsToldWell}
 use Rattle.modbus_server.specs.Moving.{Writes, Reads, EndsInput}
-use Rattle.modbus_server.specs.Stepping.{StepsAs, ReadsLast, EndsIfMay, LeavesAs, Stepped}
-use Rattle.modbus_server.proofs.Standing.{sent_on, fed_on, halted, wanting}
+use Rattle.modbus_server.specs.Stepping.{FailsAs, StepsAs, ReadsLast, EndsIfMay, LeavesAs, Stepped}
+use Rattle.modbus_server.proofs.Standing.{sent_on, fed_on, halted_after, wanting_after}
 
 -- of what holds for each fault that is left to a framing
 pub of_framing : (P : ProcessError → Type 0) → P TooManyRetries → P InvalidLength → ((protocol : ℕ) → P (InvalidProtocol protocol)) → (error : ProcessError) → IsOfFraming error → P error
@@ -44,13 +44,32 @@ pub idle : (P : List ℕ → List ℕ → List ℕ → Type 0) (bytes cuts writt
 idle P bytes cuts written p = along P (bytes ++ []) bytes (cuts ++ []) cuts (written ++ []) written (append-nil bytes) (append-nil cuts) (append-nil written) p
 
 module _ (F : Framing) {S : Type 0} (A : Answering S) where
+  -- a call that ends as a step failed
+  pub fails_end : (bytes cuts : List ℕ) (opening now : S) (written : List ℕ) (exchanges : List (Exchange F)) (error : ProcessError)
+      → FailsAs F A bytes cuts opening now written exchanges error → EndsAs F A bytes cuts opening now written (Err error)
+  fails_end bytes cuts opening now written exchanges BytesRemaining (left, some, served) = (left, some, served.0)
+  fails_end bytes cuts opening now written exchanges ReadFault (left, served) = (left, served.0)
+  fails_end bytes cuts opening now written exchanges TurnLimit never = absurd never
+  fails_end bytes cuts opening now written exchanges (InvalidRequest reason) served = served.0
+  fails_end bytes cuts opening now written exchanges (ResponseTooLong size) served = served.0
+  fails_end bytes cuts opening now written exchanges WriteFault (x, unwritten, same) = unwritten
+  fails_end bytes cuts opening now written exchanges NoMemory wanting = wanting.0
+  fails_end bytes cuts opening now written exchanges TooManyRetries served = served.0
+  fails_end bytes cuts opening now written exchanges InvalidLength served = served.0
+  fails_end bytes cuts opening now written exchanges (InvalidProtocol protocol) served = served.0
+
+  fails_told : {E : Type 0} (told : E → ProcessError) (bytes cuts held : List ℕ) (opening now : S) (written waiting : List ℕ) (exchanges : List (Exchange F)) (error : NextError E)
+      → IsToldWell told error → TakesAs F A told bytes cuts held opening now written waiting exchanges (Err error) → FailsAs F A bytes cuts opening now written exchanges (told_next told error)
+  fails_told told bytes cuts held opening now written waiting exchanges (next.Broken fault) own served =
+      of_framing (λ e. ServedAfter F A bytes cuts opening now written exchanges (broken e) → FailsAs F A bytes cuts opening now written exchanges e) (λ s. s) (λ s. s) (λ p s. s) (told fault) own served
+  fails_told told bytes cuts held opening now written waiting exchanges (next.Refused reason) own served = served
+  fails_told told bytes cuts held opening now written waiting exchanges (next.TooLong size) own served = served
+  fails_told told bytes cuts held opening now written waiting exchanges next.NoMemory own (wanting, request) = wanting
+
   pub ends_told : {E : Type 0} (told : E → ProcessError) (bytes cuts held : List ℕ) (opening now : S) (written waiting : List ℕ) (exchanges : List (Exchange F)) (error : NextError E)
       → IsToldWell told error → TakesAs F A told bytes cuts held opening now written waiting exchanges (Err error) → EndsAs F A bytes cuts opening now written (Err (told_next told error))
-  ends_told told bytes cuts held opening now written waiting exchanges (next.Broken fault) own served =
-      of_framing (λ e. Served F A bytes cuts opening now written (broken e) → EndsAs F A bytes cuts opening now written (Err e)) (λ s. s) (λ s. s) (λ p s. s) (told fault) own served
-  ends_told told bytes cuts held opening now written waiting exchanges (next.Refused reason) own served = served
-  ends_told told bytes cuts held opening now written waiting exchanges (next.TooLong size) own served = served
-  ends_told told bytes cuts held opening now written waiting exchanges next.NoMemory own (wanting, request) = wanting
+  ends_told told bytes cuts held opening now written waiting exchanges error own takes =
+      fails_end bytes cuts opening now written exchanges (told_next told error) (fails_told told bytes cuts held opening now written waiting exchanges error own takes)
 
   last_told : {E : Type 0} (told : E → ProcessError) (bytes cuts held : List ℕ) (opening now : S) (written waiting : List ℕ) (exchanges : List (Exchange F)) (error : NextError E) → IsToldWell told error
       → TakesAs F A told bytes cuts held opening now written waiting exchanges (Err error) → ReadsLast F bytes cuts exchanges (Err (told_next told error))
@@ -118,7 +137,7 @@ module _ (F : Framing) {S : Type 0} (A : Answering S) where
     stepped_error told error own took =
         still (Err (told_next told error))
         (λ bytes cuts written opening exchanges s.
-        ends_told told bytes cuts new.held opening after written new.waiting exchanges error own (took.stands bytes cuts written opening exchanges s))
+        fails_told told bytes cuts new.held opening after written new.waiting exchanges error own (took.stands bytes cuts written opening exchanges s))
         (λ bytes cuts written opening exchanges s.
         last_told told bytes cuts new.held opening after written new.waiting exchanges error own (took.stands bytes cuts written opening exchanges s))
         (refl, took.goes_on, other_than told (EndsIfMay may_read) tt tt (λ p. tt) (λ r. tt) (λ n. tt) tt error own)
@@ -204,7 +223,7 @@ module _ (F : Framing) {S : Type 0} (A : Answering S) where
             writes_as (Err WriteFault)
             (λ bytes cuts written opening exchanges s.
             let w = wrote_reply bytes cuts written opening exchanges s in
-            record { held = mid.held; waiting = new.waiting; exchanges = exchanges ++ w.0 ∷ []; stood = w.1 })
+            (w.0, record { held = mid.held; waiting = new.waiting; exchanges = exchanges ++ w.0 ∷ []; stood = w.1 }, refl))
             (λ bytes cuts written opening exchanges s. tt) (refl, writes.1, tt) (λ e. cc) tt (λ e. cc) cause
         stepped_sent (Ok _) writes cause = absurd writes
         stepped_sent (Err _) writes cause = absurd writes
@@ -217,15 +236,15 @@ module _ (F : Framing) {S : Type 0} (A : Answering S) where
         idle_not : may_read ≡ false → b ≡ a
         idle_not e = let clash : true ≡ false = sym may ∙ e in absurd cc
 
-        served_all : (bytes cuts written : List ℕ) (opening : S) (exchanges : List (Exchange F)) → Stands F A bytes cuts old.held opening before written [] exchanges → Served F A bytes cuts opening after written (remaining mid.held)
+        served_all : (bytes cuts written : List ℕ) (opening : S) (exchanges : List (Exchange F)) → Stands F A bytes cuts old.held opening before written [] exchanges → ServedAfter F A bytes cuts opening after written exchanges (remaining mid.held)
         served_all bytes cuts written opening exchanges s =
-            let h = took.stands bytes cuts written opening exchanges s in halted F A bytes cuts mid.held opening after written exchanges h.0 (remaining mid.held) after (h.1, refl)
+            let h = took.stands bytes cuts written opening exchanges s in halted_after F A bytes cuts mid.held opening after written exchanges h.0 (remaining mid.held) after (h.1, refl)
 
         wanting_all : F.ReadsTakeMemory → (bytes cuts written : List ℕ) (opening : S) (exchanges : List (Exchange F)) → Stands F A bytes cuts old.held opening before written [] exchanges
-            → Wanting F A bytes cuts opening after written
+            → WantingAfter F A bytes cuts opening after written exchanges
         wanting_all takes bytes cuts written opening exchanges s =
             let h = took.stands bytes cuts written opening exchanges s in
-            wanting F A bytes cuts mid.held opening after written exchanges h.0 after (inr (inl (takes, h.1, refl)))
+            wanting_after F A bytes cuts mid.held opening after written exchanges h.0 after (inr (inl (takes, h.1, refl)))
 
         passes_read : (result : Result Step ProcessError) (reads : Reads F a b mid new result) → RisesTo 0 reads.made (length reads.fed) → Passes a b k m reads.fed reads.made []
         passes_read result reads rises = passes_in a b k m reads.fed reads.made unsent reads.source reads.read reads.cuts rises

@@ -5,6 +5,7 @@ use Rattle.modbus_frame.specs.declared.server.Terminated.{Terminated}
 use Rattle.modbus_frame.specs.declared.server.Terminated.TheVariants.{Finished, Aborted}
 use Rattle.modbus_link.specs.declared.outside.Failed.{Failed}
 use Rattle.modbus_link.specs.Outside.{Rose}
+use Rattle.modbus_server.specs.declared.error.ProcessError.{ProcessError}
 use Rattle.modbus_server.specs.declared.error.ServeError.{ServeError}
 use Rattle.modbus_server.specs.declared.error.ServeError.TheVariants.{AcceptFault, Connect, SpawnFault, NoMemory}
 use Rattle.modbus_server.specs.Stopping.{never_set}
@@ -15,6 +16,15 @@ pub record WorkerState (L V H X : Type 0) : Type 0 where
   pub service : V
   pub on_process_error : H
   pub signal : X
+
+-- by what a hook may answer: it was called with the error of a call, where there is one
+abbrev pub IsTold : (ProcessError → Unit {0} → Type 0) → Result Terminated ProcessError → Type 0
+IsTold answers (Ok terminated) = Unit {0}
+IsTold answers (Err error) = answers error tt
+
+-- Of what the work of a worker may come to, and of what its hook may answer: the work came to this, once, and its own error was told.
+abbrev pub WorksOnce : {W : Type 0} → (W → Result Terminated ProcessError → Type 0) → (ProcessError → Unit {0} → Type 0) → Type 0
+WorksOnce {W} works answers = (after : W) × (result : Result Terminated ProcessError) × works after result × IsTold answers result
 
 -- What takes part in an accept loop, each by the relation that it states: an acceptor of links of type K, a hook that makes of each a
 -- link of type L and a service or rejects it, and a spawner of workers. The signal of a worker counts its stops.

@@ -73,6 +73,11 @@ pub record Served (F : Framing) {S : Type 0} (A : Answering S) (bytes cuts : Lis
   pub wrote : written ≡ output F exchanges
   pub halts : Halts F A bytes cuts before ends now halt
 
+-- such a run, whose exchanges are these
+abbrev pub ServedAfter : (F : Framing) → {S : Type 0} → Answering S → List ℕ → List ℕ → S → S → List ℕ → List (Exchange F) → Halt → Type 0
+ServedAfter F A bytes cuts opening now written exchanges halt =
+    (served : Served F A bytes cuts opening now written halt) × (served.exchanges ≡ exchanges)
+
 -- the exchange whose response is too long, where a call stops at one
 abbrev pub asked_last : (F : Framing) {S : Type 0} (A : Answering S) (bytes cuts : List ℕ) (before : List (Message F)) (ends now : S) (halt : Halt)
     → Halts F A bytes cuts before ends now halt → List (Exchange F)
@@ -114,6 +119,11 @@ pub record Wanting (F : Framing) {S : Type 0} (A : Answering S) (bytes cuts : Li
   pub ends : S
   pub stood : Stands F A bytes cuts held opening ends written [] exchanges
   pub cause : WantsMemory F A bytes cuts held stood.taken ends now
+
+-- such a want after these exchanges
+abbrev pub WantingAfter : (F : Framing) → {S : Type 0} → Answering S → List ℕ → List ℕ → S → S → List ℕ → List (Exchange F) → Type 0
+WantingAfter F A bytes cuts opening now written exchanges =
+    (wanting : Wanting F A bytes cuts opening now written) × (wanting.exchanges ≡ exchanges)
 
 -- how a call ended, over all that was fed and written
 abbrev pub EndsAs : (F : Framing) → {S : Type 0} → Answering S → List ℕ → List ℕ → S → S → List ℕ → Result (Unit {0}) ProcessError → Type 0

@@ -4,16 +4,30 @@ use Rattle.modbus_link.specs.Outside.{Input, Output, Rose, shifted}
 use Rattle.modbus_link.specs.Passing.{Passes}
 use Rattle.modbus_link.specs.Reads.{totals, HaveRooms, Spending, all_turns, fewer_turns, some_turns, Spends}
 use Rattle.modbus_server.specs.declared.error.ProcessError.{ProcessError}
-use Rattle.modbus_server.specs.declared.error.ProcessError.TheVariants.{ReadFault, WriteFault, BytesRemaining, TurnLimit, NoMemory}
+use Rattle.modbus_server.specs.declared.error.ProcessError.TheVariants.{ReadFault, WriteFault, BytesRemaining, InvalidRequest, ResponseTooLong, TurnLimit, NoMemory}
 use Rattle.modbus_server.specs.declared.error.Step.{Step}
 use Rattle.modbus_server.specs.declared.error.Step.TheVariants.{Answered, Silent, MoreRead, Hungry, Ended}
 use Rattle.modbus_service.specs.Outcome.{silence}
 use Rattle.modbus_server.specs.Framing.{Framing, Message}
 use Rattle.modbus_service.specs.Answering.{Answering}
 use Rattle.modbus_server.specs.Exchanges.{Exchange}
-use Rattle.modbus_server.specs.Serving.{Stands, AreAllAnswered, NothingFails, NextTakesMemory, EndsAs}
+use Rattle.modbus_server.specs.Serving.{Stands, ServedAfter, remaining, broken, refused, too_long, Unwritten, WantingAfter, AreAllAnswered, NothingFails, NextTakesMemory, EndsAs}
 use Rattle.modbus_server.specs.State.{State}
 use Rattle.modbus_server.specs.Moving.{EndsInput}
+
+-- Why a step tells an error. It comes right after the exchanges that were made before the step: the step answered no message. Where the
+-- sink failed it answered one, whose reply was not written whole.
+abbrev pub FailsAs : (F : Framing) → {S : Type 0} → Answering S → List ℕ → List ℕ → S → S → List ℕ → List (Exchange F) → ProcessError → Type 0
+FailsAs F A bytes cuts opening now written exchanges BytesRemaining =
+    (left : List ℕ) × (left ≢ []) × ServedAfter F A bytes cuts opening now written exchanges (remaining left)
+FailsAs F A bytes cuts opening now written exchanges ReadFault = (left : List ℕ) × ServedAfter F A bytes cuts opening now written exchanges (remaining left)
+FailsAs F A bytes cuts opening now written exchanges TurnLimit = ⊥
+FailsAs F A bytes cuts opening now written exchanges (InvalidRequest reason) = ServedAfter F A bytes cuts opening now written exchanges (refused reason)
+FailsAs F A bytes cuts opening now written exchanges (ResponseTooLong size) = ServedAfter F A bytes cuts opening now written exchanges (too_long size)
+FailsAs F A bytes cuts opening now written exchanges WriteFault =
+    (x : Exchange F) × (unwritten : Unwritten F A bytes cuts opening now written) × (unwritten.exchanges ≡ exchanges ++ x ∷ [])
+FailsAs F A bytes cuts opening now written exchanges NoMemory = WantingAfter F A bytes cuts opening now written exchanges
+FailsAs F A bytes cuts opening now written exchanges fault = ServedAfter F A bytes cuts opening now written exchanges (broken fault)
 
 -- what a step did, after these exchanges; the bytes, the cuts and what was written are those after it
 abbrev pub StepsAs : (F : Framing) → {S : Type 0} → Answering S → List ℕ → List ℕ → List ℕ → S → S → List ℕ → List ℕ → List (Exchange F) → Result Step ProcessError → Type 0
@@ -26,7 +40,7 @@ StepsAs F A bytes cuts held opening now written waiting exchanges (Ok Hungry) =
     (s : Stands F A bytes cuts held opening now written waiting exchanges) × F.IsAll bytes cuts held s.taken
 StepsAs F A bytes cuts held opening now written waiting exchanges (Ok Ended) =
     (s : Stands F A bytes cuts held opening now written waiting exchanges) × F.IsAll bytes cuts held s.taken × (held ≡ [])
-StepsAs F A bytes cuts held opening now written waiting exchanges (Err error) = EndsAs F A bytes cuts opening now written (Err error)
+StepsAs F A bytes cuts held opening now written waiting exchanges (Err error) = FailsAs F A bytes cuts opening now written exchanges error
 
 -- A step reads, or is hungry, only after all messages of the bytes that it had. Its want of memory stands in for no fault or refusal.
 abbrev pub ReadsLast : (F : Framing) → List ℕ → List ℕ → List (Exchange F) → Result Step ProcessError → Type 0

@@ -16,7 +16,7 @@ use Rattle.modbus_service.specs.Outcome.{silence}
 use Rattle.modbus_server.specs.Framing.{Framing, Message, IsOfFraming}
 use Rattle.modbus_service.specs.Answering.{Answering}
 use Rattle.modbus_server.specs.Exchanges.{Exchange}
-use Rattle.modbus_server.specs.Serving.{Stands, NextIsRequest, Served, broken, refused, too_long, NextTakesMemory, Wanting}
+use Rattle.modbus_server.specs.Serving.{Stands, NextIsRequest, ServedAfter, broken, refused, too_long, NextTakesMemory, WantingAfter}
 use Rattle.modbus_server.specs.State.{State}
 
 -- what stands at the front of the held bytes: the next message, which is taken off with all bytes before it; or these are all, and the
@@ -42,7 +42,7 @@ next_of (Err (fault.Refused reason)) = Err (Refused reason)
 next_of (Err (fault.TooLong size)) = Err (TooLong size)
 next_of (Err fault.NoMemory) = Err NoMemory
 
--- what it stands for then, after these exchanges
+-- What it stands for then, after these exchanges. An error comes right after them.
 abbrev pub TakesAs : (F : Framing) → {S E : Type 0} → Answering S → (E → ProcessError) → List ℕ → List ℕ → List ℕ → S → S → List ℕ → List ℕ → List (Exchange F) → Result Next (NextError E) → Type 0
 TakesAs F A told bytes cuts held opening now written waiting exchanges (Ok Reply) =
     (x : Exchange F) × Stands F A bytes cuts held opening now written waiting (exchanges ++ x ∷ []) × (x.outcome ≢ silence)
@@ -50,10 +50,14 @@ TakesAs F A told bytes cuts held opening now written waiting exchanges (Ok Silen
     (x : Exchange F) × Stands F A bytes cuts held opening now written [] (exchanges ++ x ∷ []) × (x.outcome ≡ silence)
 TakesAs F A told bytes cuts held opening now written waiting exchanges (Ok Waiting) =
     (s : Stands F A bytes cuts held opening now written [] exchanges) × F.IsAll bytes cuts held s.taken
-TakesAs F A told bytes cuts held opening now written waiting exchanges (Err (Broken fault)) = Served F A bytes cuts opening now written (broken (told fault))
-TakesAs F A told bytes cuts held opening now written waiting exchanges (Err (Refused reason)) = Served F A bytes cuts opening now written (refused reason)
-TakesAs F A told bytes cuts held opening now written waiting exchanges (Err (TooLong size)) = Served F A bytes cuts opening now written (too_long size)
-TakesAs F A told bytes cuts held opening now written waiting exchanges (Err NoMemory) = Wanting F A bytes cuts opening now written × NextIsRequest F bytes cuts exchanges
+TakesAs F A told bytes cuts held opening now written waiting exchanges (Err (Broken fault)) =
+    ServedAfter F A bytes cuts opening now written exchanges (broken (told fault))
+TakesAs F A told bytes cuts held opening now written waiting exchanges (Err (Refused reason)) =
+    ServedAfter F A bytes cuts opening now written exchanges (refused reason)
+TakesAs F A told bytes cuts held opening now written waiting exchanges (Err (TooLong size)) =
+    ServedAfter F A bytes cuts opening now written exchanges (too_long size)
+TakesAs F A told bytes cuts held opening now written waiting exchanges (Err NoMemory) =
+    WantingAfter F A bytes cuts opening now written exchanges × NextIsRequest F bytes cuts exchanges
 
 -- what is held and what waits then
 abbrev pub KeepsAs : {S E : Type 0} → (List ℕ → Type 0) → List ℕ → List ℕ → List ℕ → S → S → Result Next (NextError E) → Type 0

@@ -175,8 +175,8 @@ impl<I: Framing> Connection<I> {
     /// Takes the next message off the held bytes, asks the service once and keeps the bytes of the reply.
     ///
     /// # Errors
-    /// The fault that comes next, after the replies to all messages before it. `NoMemory` only where the request carries a list, or in the
-    /// service: framing a reply takes none.
+    /// The fault that comes next, right after the messages that were answered before this call. `NoMemory` only where the request carries
+    /// a list, or in the service: framing a reply takes none.
     #[inline(always)]
     pub fn next<V: Answerer>(
         &mut self,

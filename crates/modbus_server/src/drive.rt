@@ -136,10 +136,11 @@ pub(crate) fn poll_step<I: Framing, L: PolledLink, V: Answerer>(
 
 impl<I: Framing> Connection<I> {
     /// Takes one step with one object as source and sink: asks the service about the next message and writes the reply; where there is
-    /// no message, reads once if `may_read`.
+    /// no message, reads once if `may_read`. A caller of `next` writes what waits of a reply before it takes a step.
     ///
     /// # Errors
-    /// The fault that stands at this step, after the replies to all messages before it.
+    /// The fault that stands at this step, right after the messages that were answered before it: a step that tells an error answers none,
+    /// but for `WriteFault`, where a reply was not written whole.
     pub fn step_link<L: Source + Sink, V: Answerer>(
         &mut self,
         alloc: Global,

@@ -1,6 +1,7 @@
 //! One connection as work that can be handed over, whatever frames its messages.
 ghost use Rattle.std.specs.Prelude.{◌≡◌, ◌-◌, ◌^◌};
 ghost use Rattle.modbus_server.specs.Complete.{Completes};
+ghost use Rattle.modbus_server.specs.Listening.{WorkerState, IsTold, WorksOnce};
 ghost use Rattle.modbus_server.specs.Stopping.{RanUntil, to_the_end};
 
 use crate::error::ProcessError;
@@ -88,6 +89,17 @@ impl<I: Framing, L: Link, V: Answerer, H: Fn(ProcessError), X: Stop> ConnectionW
             u64::MAX,
         )
     }
+
+    /// Hands the error of the work to the hook, where there is one.
+    fn tell(&self, answer: Result<Terminated, ProcessError>)
+        requires { H.IsAlwaysCallable self.now.on_process_error }
+        ensures { IsTold (H.post self.now.on_process_error) answer }
+    {
+        match answer {
+            Ok(_) => {}
+            Err(error) => (self.on_process_error)(error),
+        }
+    }
 }
 
 impl<
@@ -100,9 +112,12 @@ impl<
     ghost ready = { λ worker. H.IsAlwaysCallable worker.on_process_error };
 
     /// Serves the link as `work` does, once, and hands its error to the hook.
-    fn run(mut self) {
-        if let Err(error) = self.work() {
-            (self.on_process_error)(error);
-        }
+    fn run(mut self)
+        requires ready { H.IsAlwaysCallable self.on_process_error }
+        ensures worked { WorksOnce (λ (after : WorkerState L V H X) result. RanUntil I.framing V.answering X.stops X.looks self.service after.service (L.input self.link) (L.input after.link) (L.output self.link) (L.output after.link) (2 ^ 64 - 1) self.signal after.signal result)
+            (H.post self.on_process_error) }
+    {
+        let answer = self.work();
+        self.tell(answer);
     }
 }

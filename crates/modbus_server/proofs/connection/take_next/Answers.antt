@@ -1,7 +1,12 @@
-use Rattle.std.proofs.Common.{[], ◌∷◌, ◌++◌, drop, subst, sym, ◌∙◌, List, ℕ}
-use Rattle.modbus_server.specs.Serving.{Stands}
-use Rattle.modbus_server.proofs.Standing.{kept, takes_on, next_takes, told_memory}
+use Rattle.std.proofs.Common.{[], ◌∷◌, ◌++◌, drop, refl, subst, sym, ◌∙◌, List, ℕ}
+use Rattle.modbus_server.specs.Serving.{Stands, broken}
+use Rattle.modbus_server.proofs.Standing.{halted_after, kept, takes_on, next_takes, told_memory}
 use Rattle.modbus_server.proofs.connection.take_next.Goals as goal
+
+pub returns-in-Err-clause-stands : goal.returns-in-Err-clause-stands
+returns-in-Err-clause-stands g c = λ bytes cuts written opening exchanges s.
+    halted_after g.I.Framing.framing g.V.Answerer.answering bytes cuts (g.I.Framing.held c.args.intake.now) opening c.args.service.now written exchanges s
+    (broken (g.I.Framing.told c.in-Err.fault)) c.args.service.now (c.in-Err.ensures.finds bytes cuts s.taken s.stands, refl)
 
 pub returns-in-Ok-Waiting-clause-stands : goal.returns-in-Ok-Waiting-clause-stands
 returns-in-Ok-Waiting-clause-stands g c = λ bytes cuts written opening exchanges s.
