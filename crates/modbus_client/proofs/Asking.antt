@@ -1,5 +1,5 @@
 -- What is written of a request, and what a call makes of one that was not sent.
-use Rattle.std.proofs.Common.{◌≡◌, ◌↔◌, ℕ, ◌<◌, List, [], length, Result, Err, refl, sym, ap, ◌∙◌, arith}
+use Rattle.std.proofs.Common.{◌≡◌, ◌↔◌, inl, ℕ, ◌<◌, List, [], length, Result, Err, refl, sym, ap, ◌∙◌, arith}
 use Rattle.std.specs.Prelude.{IfErr}
 use Rattle.modbus_link.specs.Outside.{Input, Output, Rose}
 use Rattle.modbus_link.specs.Passing.{Passes, passes_none}
@@ -11,10 +11,10 @@ use Rattle.modbus_frame.specs.declared.fault.TransportError.TheVariants as trans
 use Rattle.modbus_pdu.specs.Coding.{Fits, told_size}
 use Rattle.modbus_pdu.specs.Limits.{max_pdu}
 use Rattle.modbus_pdu.specs.RequestPdu.{request_pdu}
-use Rattle.modbus_client.specs.Protocol.{Protocol}
+use Rattle.modbus_client.specs.Protocol.{Protocol, waiting}
 use Rattle.modbus_client.specs.Matching.{Answer}
 use Rattle.modbus_client.specs.Sending.{WritesRequest, IsOfSending}
-use Rattle.modbus_client.specs.Calling.{CallEndsAs, CallEndsRead, call_spending, Sent, Exchanged}
+use Rattle.modbus_client.specs.Calling.{CallEndsAs, CallEndsRead, CameLast, call_spending, Sent, Exchanged}
 use Rattle.modbus_client.specs.Polled.{IsRefused}
 
 module _ (X : Type 0) {H : Type 0} (P : Protocol H) (header : H) (asked : Asked) (held : List ℕ) (empty : held ≡ []) where
@@ -62,17 +62,17 @@ module _ (X : Type 0) {H : Type 0} (P : Protocol H) (header : H) (asked : Asked)
   sent_refused a k NoMemory refused = sent_wanting a k refused
 
 -- a request that was not sent is the whole call
-module _ (X : Type 0) {H : Type 0} (P : Protocol H) (a b : Input) (k m : Output) (header : H) (asked : Asked) (turns : ℕ) (held : List ℕ) where
+module _ (X : Type 0) {H : Type 0} (P : Protocol H) (opening : P.Finds [] [] (waiting [])) (a b : Input) (k m : Output) (header : H) (asked : Asked) (turns : ℕ) (held : List ℕ) where
   abbrev pub SentAs : Error → Type 0
   SentAs e = Sent {X = X} P a b k m header asked held (Err e)
 
-  unsent : (e : Error) → SentAs e → CallEndsAs P (P.seen header) (function_asked asked) [] [] held (Err e) → CallEndsRead (Err e) b.left → Spends (call_spending (Err e)) 0 turns
+  unsent : (e : Error) → SentAs e → CallEndsAs P (P.seen header) (function_asked asked) [] [] held (Err e) → CameLast P [] [] (Err e) → CallEndsRead (Err e) b.left → Spends (call_spending (Err e)) 0 turns
       → (((size : ℕ) → (let answer : Answer = Err e in answer ≡ Err (Transport (transport.RequestTooLong size))) ↔ ((max_pdu < length (request_pdu asked)) × (size ≡ told_size (request_pdu asked)))))
       → ((s : SentAs e) → (let answer : Answer = Err e in WritesRequest (P.adu header (request_pdu asked)) s.sent answer))
       → (let answer : Answer = Err e in answer ≡ Err (Transport transport.WriteFault) → Rose k.faults m.faults)
       → (let answer : Answer = Err e in answer ≡ Err (Transport transport.ReadFault) → Rose a.faults b.faults)
       → Exchanged P a b k m header asked turns held (Err e)
-  unsent e s ends ended spends long writes write_fault read_fault = record {
+  unsent e s ends last ended spends long writes write_fault read_fault = record {
     fed = [];
     made = [];
     sent = s.sent;
@@ -80,6 +80,7 @@ module _ (X : Type 0) {H : Type 0} (P : Protocol H) (a b : Input) (k m : Output)
     too_long = long;
     writes = writes s;
     ends = ends;
+    last = last;
     ended = λ told. ended;
     spends = spends;
     rooms = tt;
@@ -90,16 +91,16 @@ module _ (X : Type 0) {H : Type 0} (P : Protocol H) (a b : Input) (k m : Output)
   pub exchanged_unsent : (e : Error) → SentAs e → Exchanged P a b k m header asked turns held (Err e)
   exchanged_unsent (protocol fault) s = absurd s.only
   exchanged_unsent (Transport (transport.RequestTooLong size)) s =
-      unsent (Transport (transport.RequestTooLong size)) s (refl, s.emptied) tt (omega arith)
+      unsent (Transport (transport.RequestTooLong size)) s (refl, s.emptied) (λ e. cc) tt (omega arith)
       (λ n. (
         λ e. let same : size ≡ n = cc in (s.too_long n).0 (ap (λ n. Err (Transport (transport.RequestTooLong n))) same),
         λ told. let same : size ≡ n = ((s.too_long size).0 refl).1 ∙ sym told.1 in ap (λ n. Err (Transport (transport.RequestTooLong n))) same,
       ))
       (λ s. s.writes) (λ e. cc) (λ e. cc)
   exchanged_unsent (Transport transport.WriteFault) s =
-      unsent (Transport transport.WriteFault) s (refl, s.emptied) tt (omega arith)
+      unsent (Transport transport.WriteFault) s (refl, s.emptied) (λ e. cc) tt (omega arith)
       (λ n. (λ e. cc, λ told. let bad = (s.too_long n).1 told in cc)) (λ s. s.writes) (λ e. s.write_fault refl) (λ e. cc)
   exchanged_unsent (Transport _) s = absurd s.only
   exchanged_unsent NoMemory s =
-      unsent NoMemory s tt tt (omega arith)
+      unsent NoMemory s (inl ([], opening)) tt tt (omega arith)
       (λ n. (λ e. cc, λ told. let bad = (s.too_long n).1 told in cc)) (λ s. s.writes) (λ e. cc) (λ e. cc)

@@ -1,6 +1,7 @@
 -- A link that fails nowhere and holds one message alone which belongs to the request.
 use Rattle.std.proofs.Common.{◌≡◌, ◌⊎◌, inl, inr, ℕ, ◌<◌, List, [], ◌++◌, length, Result, Ok, Err, refl, sym, ap, ◌∙◌, subst, arith, length-append, IsTrue}
 use Rattle.modbus_link.specs.Outside.{Input, Output, Rose}
+use Rattle.modbus_link.specs.Line.{LinkMeaning}
 use Rattle.modbus_link.specs.Runs.{RisesTo-count}
 use Rattle.modbus_link.specs.Reads.{totals}
 use Rattle.modbus_frame.specs.Meaning.{Asked, function_asked}
@@ -87,8 +88,8 @@ module _ {H : Type 0} (P : Protocol H) (alone : IsFoundAlone P) (from to : Input
   completes (Err NoMemory) r = inr refl
 
 -- what a call did to a client says so of it
-pub called_completes : {L H I : Type 0} (P : Protocol H) (N : Heading H I) → IsFoundAlone P → (input : L → Input) (output : L → Output) (old : ClientState I L) (asked : Asked) (answer : Answer) (new : ClientState I L)
-    → Called P N input output old asked answer new → IsComplete P N input output old asked answer new
-called_completes P N alone input output old asked answer new called = λ on fits told no_read no_write pdu result whole means of left short.
-    completes P alone (input old.link) (input new.link) (output old.link) (output new.link) (next_header N old) asked old.turns new.held fits told no_read no_write pdu result whole means of left short
+pub called_completes : {L H I : Type 0} (P : Protocol H) (N : Heading H I) → IsFoundAlone P → (M : LinkMeaning L) (old : ClientState I L) (asked : Asked) (answer : Answer) (new : ClientState I L)
+    → Called P N M old asked answer new → IsComplete P N M old asked answer new
+called_completes P N alone M old asked answer new called = λ on fits told no_read no_write pdu result whole means of left short.
+    completes P alone (M.input old.link) (M.input new.link) (M.output old.link) (M.output new.link) (next_header N old) asked old.turns new.held fits told no_read no_write pdu result whole means of left short
     answer (called.ran on)

@@ -92,10 +92,13 @@ module _ {H : Type 0} (P : Protocol H) (opening : P.Finds [] [] (waiting [])) (o
   told_broken kept fault (Err (Transport transport.BrokenPipe)) r finds = breaks_not_waits _ r kept held fault finds r.ends.0
   told_broken kept fault (Err (Transport transport.BytesRemaining)) r finds = breaks_not_waits _ r kept held fault finds r.ends.0
   told_broken kept fault (Err (Transport (transport.InvalidResponse reason))) r finds = let (seen, pdu, finds', meant) = r.ends in no_break _ r held kept seen pdu fault finds' finds
-  told_broken kept fault (Err (Transport transport.TooManyRetries)) r finds = inl (ap (λ f. Err (Transport f)) (same_fault _ r kept held fault transport.TooManyRetries finds r.ends.1))
-  told_broken kept fault (Err (Transport transport.InvalidLength)) r finds = inl (ap (λ f. Err (Transport f)) (same_fault _ r kept held fault transport.InvalidLength finds r.ends.1))
-  told_broken kept fault (Err (Transport (transport.InvalidProtocol number))) r finds = inl (ap (λ f. Err (Transport f)) (same_fault _ r kept held fault (transport.InvalidProtocol number) finds r.ends.1))
-  told_broken kept fault (Err NoMemory) r finds = inr refl
+  told_broken kept fault (Err (Transport transport.TooManyRetries)) r finds = ap (λ f. Err (Transport f)) (same_fault _ r kept held fault transport.TooManyRetries finds r.ends.1)
+  told_broken kept fault (Err (Transport transport.InvalidLength)) r finds = ap (λ f. Err (Transport f)) (same_fault _ r kept held fault transport.InvalidLength finds r.ends.1)
+  told_broken kept fault (Err (Transport (transport.InvalidProtocol number))) r finds = ap (λ f. Err (Transport f)) (same_fault _ r kept held fault (transport.InvalidProtocol number) finds r.ends.1)
+  told_broken kept fault (Err NoMemory) r finds = elim r.ends [
+    | inl waits ↦ breaks_not_waits _ r kept waits.0 fault finds waits.1
+    | inr wants ↦ no_break _ r wants.0 kept wants.1 wants.2 fault wants.3 finds
+  ]
 
   told_waiting : (kept : List ℕ) (answer : Answer) (r : Exchanged P from to sunk sinks header asked turns held answer) → P.Finds r.fed (totals r.made) (waiting kept) → Tells answer (waiting kept)
   told_waiting kept (Ok x) r finds = let (seen, pdu, result, finds', meant, judges) = r.ends in no_wait _ r held kept seen pdu finds' finds

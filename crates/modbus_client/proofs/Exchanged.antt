@@ -10,10 +10,12 @@ use Rattle.modbus_server.specs.declared.error.ProcessError.{ProcessError}
 use Rattle.modbus_server.specs.Piece.{ServedPiece}
 use Rattle.modbus_server.specs.Rtu.{rtu}
 use Rattle.modbus_client.specs.Matching.{Answer}
+use Rattle.modbus_client.specs.Protocol.{waiting}
+use Rattle.modbus_client.specs.Rtu.{FindsFrame}
 use Rattle.modbus_client.specs.Exchange.{IsOfReplies, IsWanting, LocalExchange, ExchangesLocally}
 use Rattle.modbus_client.specs.Back.{ComesBack}
 
-module _ {S : Type 0} (A : Answering S) (slave : ℕ) (asked : Asked) (before after : S) (fits : Fits (request_pdu asked)) where
+module _ {S : Type 0} (A : Answering S) (slave : ℕ) (asked : Asked) (before after : S) (fits : Fits (request_pdu asked)) (opening : FindsFrame [] [] (waiting [])) where
   exchange_by : (answer : Answer) → IsOfReplies answer → LocalExchange A before after slave asked answer ⊎ ((answer ≡ Err NoMemory) × (after ≡ before)) → ExchangesLocally A before after slave asked answer
   exchange_by answer of asks = record {
     too_long = λ size. (λ e. absurd ((subst IsOfReplies e of).0 refl), λ p. absurd (omega (arith, p.0, fits)));
@@ -31,7 +33,7 @@ module _ {S : Type 0} (A : Answering S) (slave : ℕ) (asked : Asked) (before af
         server = ends;
         wanting = λ w. refl;
         held = [];
-        client = record { only = (λ e. cc, λ e. cc); reads = 0; ends = tt; ended = tt };
+        client = record { only = (λ e. cc, λ e. cc); reads = 0; ends = inl ([], opening); ended = tt };
       })
       | inr none ↦ inr (refl, none.1)
     ])

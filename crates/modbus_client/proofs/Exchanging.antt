@@ -1,5 +1,5 @@
 -- A call that is fed bytes in memory, in pieces that fill its room.
-use Rattle.std.proofs.Common.{◌≡◌, ℕ, zero, suc, ◌+◌, ◌*◌, ◌<◌, min, List, [], ◌∷◌, ◌++◌, length, take, drop, Some, None, Option, Ok, Err, refl, sym, ap, ◌∙◌, subst, arith, length-append}
+use Rattle.std.proofs.Common.{◌≡◌, inl, ℕ, zero, suc, ◌+◌, ◌*◌, ◌<◌, min, List, [], ◌∷◌, ◌++◌, length, take, drop, Some, None, Option, Ok, Err, refl, sym, ap, ◌∙◌, subst, arith, length-append}
 use Rattle.std.proofs.Math.Seq.{take-add}
 use Rattle.std.proofs.lemmas.List.{length-take, length-drop, drop-drop}
 use Rattle.modbus_frame.specs.declared.code.FunctionCode.{FunctionCode}
@@ -53,7 +53,7 @@ module _ {H : Type 0} (P : Protocol H) (bytes : List ℕ) where
     may_read some = omega (arith, some, ap length g.rest, length-drop (g.reads * read_room) bytes, g.stands.counted, count_full g.reads bytes)
 
     pub no_memory : (held : List ℕ) → ReadsAll P first.asked first.function bytes held (Err NoMemory)
-    no_memory held = record { only = (λ e. cc, λ e. cc); reads = g.reads; ends = tt; ended = tt }
+    no_memory held = record { only = (λ e. cc, λ e. cc); reads = g.reads; ends = inl (old.held, g.stands.finds); ended = tt }
 
     pub over : left ≡ [] → (fault : TransportError) → TellsEnd old.held fault → ReadsAll P first.asked first.function bytes old.held (Err (Transport fault))
     over none transport.BrokenPipe tells = record { only = (λ e. cc, λ e. cc); reads = g.reads; ends = (g.stands.finds, tells); ended = sym g.rest ∙ none }

@@ -1,5 +1,5 @@
 -- One poll of a call: what is unwritten of the request is written, and then one turn comes after another, as far as the link is ready.
-use Rattle.std.proofs.Common.{◌≡◌, ◌≢◌, inl, inr, ℕ, ◌+◌, ◌<◌, ◌≤◌, List, [], ◌++◌, length, Option, Some, None, Ok, Err, refl, sym, ap, ◌∙◌, subst, arith, append-nil, append_assoc, length-append}
+use Rattle.std.proofs.Common.{◌≡◌, ◌≢◌, inl, inr, ℕ, ◌+◌, ◌<◌, ◌≤◌, List, [], ◌∷◌, ◌++◌, length, Option, Some, None, Ok, Err, refl, sym, ap, ◌∙◌, subst, arith, append-nil, append_assoc, length-append}
 use Rattle.modbus_link.specs.declared.polled.Polled.{Polled}
 use Rattle.modbus_link.specs.declared.polled.Polled.TheVariants.{Ready, Pending}
 use Rattle.modbus_link.specs.Outside.{Input, Output, Rose, shifted}
@@ -19,7 +19,8 @@ use Rattle.modbus_client.specs.Protocol.{Protocol, waiting}
 use Rattle.modbus_client.specs.Matching.{Answer}
 use Rattle.modbus_client.specs.Call.{CallState, CallStands, IsCallFor, IsSameCall, OpensCall}
 use Rattle.modbus_client.specs.Sending.{WritesRequest}
-use Rattle.modbus_client.specs.Calling.{HasRoom, CallEndsAs, call_spending, TurnsAs, Turned, IsOfReply, Exchanged}
+use Rattle.modbus_client.specs.Limits.{read_room}
+use Rattle.modbus_client.specs.Calling.{HasRoom, CallEndsAs, CameLast, WaitedBefore, IsOneRead, TurnSpends, call_spending, TurnsAs, Turned, IsOfReply, Exchanged}
 use Rattle.modbus_client.specs.Polled.{ReadsNothing, CallGoes, CallEnds, IsOfPoll, CallPolled, Opens, AsksWhole}
 use Rattle.modbus_client.proofs.Receiving.{rose_later, late_turn, spends_by, once_most, once_rooms}
 use Rattle.modbus_client.proofs.Turning.{none_left}
@@ -95,6 +96,32 @@ module _ {H : Type 0} (P : Protocol H) where
 
     pub unopened_wanting : OpensCall P header asked turns (Err encode.NoMemory) → Opens P header asked turns (Err NoMemory)
     unopened_wanting o = record { goes = tt; asks = tt; fits = tt; too_long = λ long. absurd (omega (arith, o.cause, long)); cause = o.cause }
+
+  -- an answer of the bytes comes with the read of its turn, before which the search waited
+  module _ (bytes fed held : List ℕ) (earlier made : List (ℕ × ℕ)) (waits : P.Finds bytes (totals earlier) (waiting held)) (once : IsOneRead fed made) where
+    waited : length made ≡ 1 → WaitedBefore P (bytes ++ fed) (earlier ++ shifted (length bytes) made)
+    waited one = elim once [
+      | inl none ↦ absurd (omega (arith, one, ap length none.1))
+      | inr some ↦ record {
+        before = bytes;
+        piece = fed;
+        earlier = earlier;
+        kept = held;
+        joined = refl;
+        last = ap (λ m. earlier ++ shifted (length bytes) m) some.1 ∙ ap (λ n. earlier ++ (n, read_room) ∷ []) (sym (length-append bytes fed));
+        waits = waits;
+      }
+    ]
+
+  came_last : (answer : Answer) (bytes fed held : List ℕ) (earlier made : List (ℕ × ℕ)) → P.Finds bytes (totals earlier) (waiting held) → IsOneRead fed made → TurnSpends (Some answer) (length made)
+      → CameLast P (bytes ++ fed) (earlier ++ shifted (length bytes) made) answer
+  came_last (Ok result) bytes fed held earlier made waits once spends = waited bytes fed held earlier made waits once spends.1
+  came_last (Err (protocol fault)) bytes fed held earlier made waits once spends = waited bytes fed held earlier made waits once spends.1
+  came_last (Err (Transport transport.BrokenPipe)) bytes fed held earlier made waits once spends = λ e. absurd cc
+  came_last (Err (Transport transport.BytesRemaining)) bytes fed held earlier made waits once spends = λ e. absurd cc
+  came_last (Err (Transport transport.ReadFault)) bytes fed held earlier made waits once spends = λ e. absurd cc
+  came_last (Err (Transport _)) bytes fed held earlier made waits once spends = λ e. waited bytes fed held earlier made waits once spends.1
+  came_last (Err NoMemory) bytes fed held earlier made waits once spends = tt
 
   -- what a poll keeps from turn to turn, once the request is written
   pub record PollGoing (from to : Input) (sunk sinks : Output) (idle idle' : ℕ) (old call : CallState) : Type 0 where
@@ -184,6 +211,7 @@ module _ {H : Type 0} (P : Protocol H) where
           unread_on (λ x y. CallEnds P (written ++ sends.sent) x y new (Err (Transport transport.WriteFault))) bytes earlier record {
             writes = (new.unwritten, after.stands.wrote);
             ends = (none, after.empty none);
+            last = λ e. absurd cc;
             rooms = after.rooms;
             spends =
                 let counted : new.reads ≡ length (totals earlier) = after.stands.counted in
@@ -314,6 +342,7 @@ module _ {H : Type 0} (P : Protocol H) where
             regroup (λ x y. CallEnds P (written ++ g.sent) x y new answer) bytes g.fed t.fed earlier g.made t.made record {
               writes = whole_written new.request (written ++ g.sent) answer all late;
               ends = turned (Some answer) t (written ++ g.sent) now made s;
+              last = came_last answer now t.fed old.held made t.made s.stands.finds t.once t.spends;
               rooms = have_rooms (Some answer) t (written ++ g.sent) now made s;
               spends = subst (λ n. Spends (call_spending answer) n new.turns) (sym (count (Some answer) t (written ++ g.sent) now made s))
                   (subst (λ n. Spends (call_spending answer) (length made + length t.made) n) (sym t.same.turns)
@@ -351,6 +380,7 @@ module _ {H : Type 0} (P : Protocol H) where
         let count = totals_count (earlier ++ shifted (length bytes) g.made) in record {
           writes = sym (s.stands.wrote ∙ ap (λ w. (written ++ g.sent) ++ w) g.written ∙ append-nil (written ++ g.sent));
           ends = s.stands.finds;
+          last = λ e. absurd cc;
           rooms = s.rooms;
           spends = omega (arith, counted, within, count, none);
         };
@@ -381,6 +411,7 @@ module _ {H : Type 0} (P : Protocol H) where
           ends =
               subst (λ (seen : HeaderSeen). CallEndsAs P seen (function_asked asked) all cuts new.held answer) (p.same.asked ∙ asks.under)
               (subst (λ (function : FunctionCode). CallEndsAs P new.asked function all cuts new.held answer) (p.same.function ∙ asks.function) ends.ends);
+          last = ends.last;
           ended = λ told. p.ended (passed.source.told ∙ told);
           spends = subst (λ n. Spends (call_spending answer) (length (made ++ shifted (length bytes) p.made)) n) (p.same.turns ∙ asks.limit) ends.spends;
           rooms = ends.rooms;

@@ -13,9 +13,9 @@ rose_later a b c le rose = omega (arith, rose)
 pub late_turn : (answer : Answer) (count : ℕ) → TurnSpends (Some answer) count → IsOfReply answer
 late_turn (Ok result) count spends = tt
 late_turn (Err (protocol fault)) count spends = (λ e. cc, λ e. cc)
-late_turn (Err (Transport transport.NotConnected)) count spends = absurd cc
-late_turn (Err (Transport (transport.RequestTooLong size))) count spends = absurd cc
-late_turn (Err (Transport transport.WriteFault)) count spends = absurd cc
+late_turn (Err (Transport transport.NotConnected)) count spends = let stage = spends.0 in absurd cc
+late_turn (Err (Transport (transport.RequestTooLong size))) count spends = let stage = spends.0 in absurd cc
+late_turn (Err (Transport transport.WriteFault)) count spends = let stage = spends.0 in absurd cc
 late_turn (Err (Transport _)) count spends = (λ e. cc, λ e. cc)
 late_turn (Err NoMemory) count spends = (λ e. cc, λ e. cc)
 
@@ -25,7 +25,7 @@ spends_by (Err (protocol fault)) made count turns spends most less = omega arith
 spends_by (Err (Transport transport.BrokenPipe)) made count turns spends most less = omega (arith, spends)
 spends_by (Err (Transport transport.BytesRemaining)) made count turns spends most less = omega (arith, spends)
 spends_by (Err (Transport transport.ReadFault)) made count turns spends most less = omega (arith, spends)
-spends_by (Err (Transport transport.TurnLimit)) made count turns spends most less = absurd cc
+spends_by (Err (Transport transport.TurnLimit)) made count turns spends most less = let stage = spends.0 in absurd cc
 spends_by (Err (Transport _)) made count turns spends most less = omega arith
 spends_by (Err NoMemory) made count turns spends most less = omega arith
 

@@ -50,7 +50,7 @@ module _ {H : Type 0} (P : Protocol H) where
   answered_ends asked function bytes cuts held (Err (Transport transport.InvalidLength)) is = is
   answered_ends asked function bytes cuts held (Err (Transport (transport.InvalidProtocol number))) is = is
   answered_ends asked function bytes cuts held (Err (Transport _)) is = absurd is.0
-  answered_ends asked function bytes cuts held (Err NoMemory) is = tt
+  answered_ends asked function bytes cuts held (Err NoMemory) is = inr is
 
   fed_turns : (written bytes cuts : List ℕ) (call : CallState) (answer : Option Answer) → FeedsAs P written bytes cuts call answer → TurnsAs P written bytes cuts call answer
   fed_turns written bytes cuts call None feeds = feeds
@@ -58,12 +58,12 @@ module _ {H : Type 0} (P : Protocol H) where
 
 fed_spends : (answer : Option Answer) → IsOfBytesIfSome answer → TurnSpends answer 1
 fed_spends None late = refl
-fed_spends (Some (Ok result)) late = tt
-fed_spends (Some (Err (protocol fault))) late = tt
-fed_spends (Some (Err (Transport (transport.InvalidResponse reason)))) late = refl
-fed_spends (Some (Err (Transport transport.TooManyRetries))) late = refl
-fed_spends (Some (Err (Transport transport.InvalidLength))) late = refl
-fed_spends (Some (Err (Transport (transport.InvalidProtocol number)))) late = refl
+fed_spends (Some (Ok result)) late = (tt, refl)
+fed_spends (Some (Err (protocol fault))) late = (tt, refl)
+fed_spends (Some (Err (Transport (transport.InvalidResponse reason)))) late = (refl, refl)
+fed_spends (Some (Err (Transport transport.TooManyRetries))) late = (refl, refl)
+fed_spends (Some (Err (Transport transport.InvalidLength))) late = (refl, refl)
+fed_spends (Some (Err (Transport (transport.InvalidProtocol number)))) late = (refl, refl)
 fed_spends (Some (Err (Transport _))) late = absurd cc
 fed_spends (Some (Err NoMemory)) late = tt
 
@@ -108,7 +108,7 @@ module _ {H : Type 0} (P : Protocol H) (a b : Input) (k m : Output) (old new : C
   pub turned_none : (n : ℕ) → b ≡ a → m ≡ k → new ≡ record old { free = n } → Turned P a b k m old new (Some (Err NoMemory))
   turned_none n same same' e =
       turned_so (Err NoMemory) n e (subst (λ i. Passes a i k m [] [] []) (sym same) (subst (λ o. Passes a a k o [] [] []) (sym same') (passes_none a k)))
-      tt (λ written bytes cuts s. tt) (λ told. tt) (λ bad. cc)
+      tt (λ written bytes cuts s. inl (new.held, still P bytes cuts old.held new.held (ap (λ (s : CallState). s.held) e) s.finds)) (λ told. tt) (λ bad. cc)
 
   module _ (n : ℕ) (e : new ≡ record old { free = n }) (same : m ≡ k) (adv : Advances a b) where
     nothing : {E : Type 0} (before after : List ℕ) (result : Result ℕ E) → (IsTrue a.told → ReadIsTold a b before after result) → (IsTrue a.told → bytes_read a b ≡ []) → (IsTrue a.told → cuts_made a b ≡ []) → Passes a b k m [] [] []

@@ -97,6 +97,10 @@ pub record OpensCall {H : Type 0} (P : Protocol H) (header : H) (asked : Asked) 
   pub too_long : max_pdu < length (request_pdu asked) → result ≡ Err (encode.TooLong (told_size (request_pdu asked)))
   pub cause : IfErr result (λ refusal. Refuses refusal (request_pdu asked))
 
+-- memory was refused for a message: the search found it in these bytes
+abbrev pub WantsFor : {H : Type 0} → Protocol H → List ℕ → List ℕ → Type 0
+WantsFor P bytes cuts = (rest : List ℕ) × (header : HeaderSeen) × (pdu : List ℕ) × P.Finds bytes cuts (reply rest header pdu)
+
 -- one look at the bytes that are held after some were fed, by all bytes that were fed and their cuts
 abbrev pub LooksAs : {H : Type 0} → Protocol H → List ℕ → List ℕ → List ℕ → Result (Option Reply) LookError → Type 0
 LooksAs P bytes cuts held (Ok None) = P.Finds bytes cuts (waiting held)
@@ -104,7 +108,7 @@ LooksAs P bytes cuts held (Ok (Some found)) = (pdu : List ℕ) × P.Finds bytes 
 LooksAs P bytes cuts held (Err (look.Broken fault)) = P.Finds bytes cuts (broken held fault)
 LooksAs P bytes cuts held (Err (look.Refused reason)) =
     (header : HeaderSeen) × (pdu : List ℕ) × P.Finds bytes cuts (reply held header pdu) × (response_result_of pdu ≡ Err reason)
-LooksAs P bytes cuts held (Err look.NoMemory) = Unit {0}
+LooksAs P bytes cuts held (Err look.NoMemory) = WantsFor P bytes cuts
 
 -- a fault is one of those that are left to protocols
 abbrev pub IsOwn : {X : Type 0} → Result X LookError → Type 0
@@ -124,7 +128,7 @@ IsAnswered P asked function bytes cuts held (Err (error.Protocol fault)) = IsJud
 IsAnswered P asked function bytes cuts held (Err (error.Transport (transport.InvalidResponse reason))) =
     (header : HeaderSeen) × (pdu : List ℕ) × P.Finds bytes cuts (reply held header pdu) × (response_result_of pdu ≡ Err reason)
 IsAnswered P asked function bytes cuts held (Err (error.Transport fault)) = IsOfProtocol fault × P.Finds bytes cuts (broken held fault)
-IsAnswered P asked function bytes cuts held (Err error.NoMemory) = Unit {0}
+IsAnswered P asked function bytes cuts held (Err error.NoMemory) = WantsFor P bytes cuts
 
 -- the answers that the bytes may give, and not the link or the limits of the call
 abbrev pub IsOfBytes : Answer → Type 0

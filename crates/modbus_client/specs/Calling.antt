@@ -1,10 +1,11 @@
 -- What a call of a client does, whatever its protocol.
 use Rattle.std.specs.Prelude.{◌≡◌, ◌≢◌, ◌↔◌, ◌⊎◌, ℕ, ◌+◌, ◌<◌, false, List, [], ◌∷◌, ◌++◌, length, IsTrue, Option, Some, None, Result, Ok, Err, IfErr}
 use Rattle.modbus_link.specs.Outside.{Input, Output, Rose, shifted}
+use Rattle.modbus_link.specs.Line.{LinkMeaning}
 use Rattle.modbus_link.specs.Passing.{Passes}
 use Rattle.modbus_link.specs.Reads.{totals, HaveRooms, Spending, all_turns, fewer_turns, some_turns, Spends}
 use Rattle.modbus_frame.specs.Meaning.{Asked, function_asked}
-use Rattle.modbus_frame.specs.Stage.{unsent, writing, error_stage}
+use Rattle.modbus_frame.specs.Stage.{unsent, writing, of_bytes, transport_stage, error_stage}
 use Rattle.modbus_frame.specs.declared.code.FunctionCode.{FunctionCode}
 use Rattle.modbus_frame.specs.declared.response.Response.{Response}
 use Rattle.modbus_frame.specs.declared.response.ExceptionResponse.{ExceptionResponse}
@@ -19,7 +20,7 @@ use Rattle.modbus_pdu.specs.ResponseOf.{response_result_of}
 use Rattle.modbus_client.specs.Limits.{read_room}
 use Rattle.modbus_client.specs.Protocol.{Protocol, Heading, waiting}
 use Rattle.modbus_client.specs.Matching.{Answer, IsOf, answer_of}
-use Rattle.modbus_client.specs.Call.{CallState, CallStands, IsSameCall, IsAnswered, IsOfBytes}
+use Rattle.modbus_client.specs.Call.{CallState, CallStands, IsSameCall, WantsFor, IsAnswered, IsOfBytes}
 use Rattle.modbus_client.specs.Sending.{WritesRequest, IsOfSending, stays_connected}
 use Rattle.modbus_client.specs.State.{ClientState, KeepsSettings, next_header, drawn}
 
@@ -27,8 +28,13 @@ use Rattle.modbus_client.specs.State.{ClientState, KeepsSettings, next_header, d
 abbrev pub HasRoom : List ℕ → ℕ → Type 0
 HasRoom bytes room = room ≡ read_room
 
+-- the search waits in these bytes
+abbrev pub IsWaiting : {H : Type 0} → Protocol H → List ℕ → List ℕ → Type 0
+IsWaiting P bytes cuts = (kept : List ℕ) × P.Finds bytes cuts (waiting kept)
+
 -- How a connected call ended, by all bytes that it read and their cuts, and by what is then held. An answer of the bytes is that of the
--- search in them; where the input ended, a read failed or the last turn was made, the search waits.
+-- search in them; where the input ended, a read failed or the last turn was made, the search waits. Memory is wanting where the search
+-- waits, for the request or for a read, or where it found a message: so it stands in for no fault of the bytes.
 abbrev pub CallEndsAs : {H : Type 0} → Protocol H → HeaderSeen → FunctionCode → List ℕ → List ℕ → List ℕ → Answer → Type 0
 CallEndsAs P asked function bytes cuts held (Err (Transport transport.NotConnected)) = ⊥
 CallEndsAs P asked function bytes cuts held (Err (Transport (transport.RequestTooLong size))) = (bytes ≡ []) × (held ≡ [])
@@ -37,6 +43,7 @@ CallEndsAs P asked function bytes cuts held (Err (Transport transport.ReadFault)
 CallEndsAs P asked function bytes cuts held (Err (Transport transport.TurnLimit)) = P.Finds bytes cuts (waiting held)
 CallEndsAs P asked function bytes cuts held (Err (Transport transport.BrokenPipe)) = P.Finds bytes cuts (waiting held) × (held ≡ [])
 CallEndsAs P asked function bytes cuts held (Err (Transport transport.BytesRemaining)) = P.Finds bytes cuts (waiting held) × (held ≢ [])
+CallEndsAs P asked function bytes cuts held (Err NoMemory) = IsWaiting P bytes cuts ⊎ WantsFor P bytes cuts
 CallEndsAs P asked function bytes cuts held answer = IsAnswered P asked function bytes cuts held answer
 
 -- a call ends with the input
@@ -75,13 +82,14 @@ TurnsAs P written bytes cuts call None = CallStands P written bytes cuts call
 TurnsAs P written bytes cuts call (Some answer) = CallEndsAs P call.asked call.function bytes cuts call.held answer
 
 -- A turn on which the call waits on has read. One that tells the end of the input, or a fault of the source, has read nothing; else it
--- ends with an answer of the bytes.
+-- has read once, and ends with an answer of the bytes, or memory is wanting.
 abbrev pub TurnSpends : Option Answer → ℕ → Type 0
 TurnSpends None count = count ≡ 1
 TurnSpends (Some (Err (Transport transport.BrokenPipe))) count = count ≡ 0
 TurnSpends (Some (Err (Transport transport.BytesRemaining))) count = count ≡ 0
 TurnSpends (Some (Err (Transport transport.ReadFault))) count = count ≡ 0
-TurnSpends (Some answer) count = IsOfBytes answer
+TurnSpends (Some (Err NoMemory)) count = Unit {0}
+TurnSpends (Some answer) count = IsOfBytes answer × (count ≡ 1)
 
 abbrev pub TurnEnds : Option Answer → List ℕ → Type 0
 TurnEnds None left = Unit {0}
@@ -101,6 +109,22 @@ pub record Turned {H : Type 0} (P : Protocol H) (from to : Input) (sunk sinks : 
   pub ended : IsTrue from.told → TurnEnds answer to.left
   pub read_fault : answer ≡ Some (Err (Transport transport.ReadFault)) → Rose from.faults to.faults
 
+-- These bytes came in one read after those in which the search waited.
+pub record WaitedBefore {H : Type 0} (P : Protocol H) (bytes : List ℕ) (made : List (ℕ × ℕ)) : Type 0 where
+  pub before : List ℕ
+  pub piece : List ℕ
+  pub earlier : List (ℕ × ℕ)
+  pub kept : List ℕ
+  pub joined : bytes ≡ before ++ piece
+  pub last : made ≡ earlier ++ (length bytes, read_room) ∷ []
+  pub waits : P.Finds before (totals earlier) (waiting kept)
+
+-- An answer of the bytes came with the last read: no read was made after the one that brought it.
+abbrev pub CameLast : {H : Type 0} → Protocol H → List ℕ → List (ℕ × ℕ) → Answer → Type 0
+CameLast P bytes made (Err NoMemory) = Unit {0}
+CameLast P bytes made (Err (Transport fault)) = transport_stage fault ≡ of_bytes → WaitedBefore P bytes made
+CameLast P bytes made answer = WaitedBefore P bytes made
+
 -- an answer that comes only after the whole request was written
 abbrev pub IsOfReply : Answer → Type 0
 IsOfReply (Err error) = (error_stage error ≢ unsent) × (error_stage error ≢ writing)
@@ -118,38 +142,42 @@ pub record Exchanged {H : Type 0} (P : Protocol H) (from to : Input) (sunk sinks
   pub too_long : (size : ℕ) → (answer ≡ Err (Transport (transport.RequestTooLong size))) ↔ ((max_pdu < length (request_pdu asked)) × (size ≡ told_size (request_pdu asked)))
   pub writes : WritesRequest (P.adu header (request_pdu asked)) sent answer
   pub ends : CallEndsAs P (P.seen header) (function_asked asked) fed (totals made) held answer
+  pub last : CameLast P fed made answer
   pub ended : IsTrue from.told → CallEndsRead answer to.left
   pub spends : Spends (call_spending answer) (length made) turns
   pub rooms : HaveRooms HasRoom fed 0 made
   pub write_fault : answer ≡ Err (Transport transport.WriteFault) → Rose sunk.faults sinks.faults
   pub read_fault : answer ≡ Err (Transport transport.ReadFault) → Rose from.faults to.faults
 
--- What a call does to a client over a link of these ends, by the state before, the request, the answer and the state after. It asks under
--- the header that comes next.
-pub record Called {L H I : Type 0} (P : Protocol H) (N : Heading H I) (input : L → Input) (output : L → Output) (old : ClientState I L) (asked : Asked) (answer : Answer) (new : ClientState I L) : Type 0 where
+-- What a call does to a client over a link of this meaning, by the state before, the request, the answer and the state after. It asks
+-- under the header that comes next.
+pub record Called {L H I : Type 0} (P : Protocol H) (N : Heading H I) (M : LinkMeaning L) (old : ClientState I L) (asked : Asked) (answer : Answer) (new : ClientState I L) : Type 0 where
   -- only its own calls set the slave, the turns and the timeout
   pub keeps : KeepsSettings old new
+  -- the timeout of the link, its faults of shutdowns and whether it is down stay, whatever it answers
+  pub line : M.line new.link ≡ M.line old.link
   -- each call draws a header, whatever it answers
   pub draws : new.ids ≡ N.next old.ids
   -- a disconnected client does nothing else
   pub disconnected : old.is_connected ≡ false → (answer ≡ Err (Transport transport.NotConnected)) × (new ≡ drawn N old)
   pub connected : IsTrue old.is_connected → new.is_connected ≡ stays_connected answer
-  pub ran : IsTrue old.is_connected → Exchanged P (input old.link) (input new.link) (output old.link) (output new.link) (next_header N old) asked old.turns new.held answer
+  pub ran : IsTrue old.is_connected → Exchanged P (M.input old.link) (M.input new.link) (M.output old.link) (M.output new.link) (next_header N old) asked old.turns new.held answer
 
 -- The same of sending a request, which waits for no reply.
-pub record SentAlone {L H I : Type 0} (P : Protocol H) (N : Heading H I) (input : L → Input) (output : L → Output) (old : ClientState I L) (asked : Asked) (answer : Result (Unit {0}) Error) (new : ClientState I L) : Type 0 where
+pub record SentAlone {L H I : Type 0} (P : Protocol H) (N : Heading H I) (M : LinkMeaning L) (old : ClientState I L) (asked : Asked) (answer : Result (Unit {0}) Error) (new : ClientState I L) : Type 0 where
   pub keeps : KeepsSettings old new
+  pub line : M.line new.link ≡ M.line old.link
   pub draws : new.ids ≡ N.next old.ids
   pub disconnected : old.is_connected ≡ false → (answer ≡ Err (Transport transport.NotConnected)) × (new ≡ drawn N old)
   pub connected : IsTrue old.is_connected → new.is_connected ≡ stays_connected answer
-  pub sent : IsTrue old.is_connected → Sent P (input old.link) (input new.link) (output old.link) (output new.link) (next_header N old) asked new.held answer
+  pub sent : IsTrue old.is_connected → Sent P (M.input old.link) (M.input new.link) (M.output old.link) (M.output new.link) (next_header N old) asked new.held answer
 
 -- Completeness: a link that fails nowhere and holds one message alone, whose first bytes tell where it ends and which belongs to the
 -- request, gives its result in whatever pieces it comes, or memory is wanting.
-abbrev pub IsComplete : {L H I : Type 0} → Protocol H → Heading H I → (L → Input) → (L → Output) → ClientState I L → Asked → Answer → ClientState I L → Type 0
-IsComplete P N input output old asked answer new =
-    IsTrue old.is_connected → Fits (request_pdu asked) → IsTrue (input old.link).told
-    → (Rose (input old.link).faults (input new.link).faults → ⊥) → (Rose (output old.link).faults (output new.link).faults → ⊥)
+abbrev pub IsComplete : {L H I : Type 0} → Protocol H → Heading H I → LinkMeaning L → ClientState I L → Asked → Answer → ClientState I L → Type 0
+IsComplete P N M old asked answer new =
+    IsTrue old.is_connected → Fits (request_pdu asked) → IsTrue (M.input old.link).told
+    → (Rose (M.input old.link).faults (M.input new.link).faults → ⊥) → (Rose (M.output old.link).faults (M.output new.link).faults → ⊥)
     → (pdu : List ℕ) (result : Result Response ExceptionResponse) → P.IsWhole (next_header N old) pdu → response_result_of pdu ≡ Ok result → IsOf (function_asked asked) result
-    → (input old.link).left ≡ P.adu (next_header N old) pdu → length (input old.link).left < old.turns
+    → (M.input old.link).left ≡ P.adu (next_header N old) pdu → length (M.input old.link).left < old.turns
     → (answer ≡ answer_of result) ⊎ (answer ≡ Err NoMemory)

@@ -29,12 +29,12 @@ IsOfWaiting (Err (Transport transport.NotConnected)) = ⊥
 IsOfWaiting (Err error) = error_stage error ≢ of_bytes
 IsOfWaiting (Ok result) = ⊥
 
--- What a call tells of its search: a message gives its answer, and a fault of the bytes is told, unless memory is wanting; where the
--- search waits, the answer is none of the bytes.
+-- What a call tells of its search: a message gives its answer, unless memory is wanting; a fault of the bytes is told, whatever memory
+-- there is; where the search waits, the answer is none of the bytes.
 abbrev pub IsToldOf : HeaderSeen → FunctionCode → Found → Answer → Type 0
 IsToldOf asked function (waiting held) answer = IsOfWaiting answer
 IsToldOf asked function (reply held seen pdu) answer = IsAnswerTo asked function seen (response_result_of pdu) answer ⊎ (answer ≡ Err NoMemory)
-IsToldOf asked function (broken held fault) answer = (answer ≡ Err (Transport fault)) ⊎ (answer ≡ Err NoMemory)
+IsToldOf asked function (broken held fault) answer = answer ≡ Err (Transport fault)
 
 -- What a call tells whose search waits with these bytes held, where the request fits and nothing failed: that the turns ran out where so
 -- many reads gave bytes, and the end of the input where fewer did and nothing is left to read; or memory is wanting.

@@ -20,7 +20,7 @@ use Rattle.modbus_client.specs.Protocol.{Protocol}
 use Rattle.modbus_client.specs.Matching.{Answer, IsOf, answer_of}
 use Rattle.modbus_client.specs.Call.{CallState, CallStands, IsCallFor, IsSameCall}
 use Rattle.modbus_client.specs.Sending.{WritesRequest}
-use Rattle.modbus_client.specs.Calling.{HasRoom, CallEndsAs, CallEndsRead, call_spending, Turned, Exchanged}
+use Rattle.modbus_client.specs.Calling.{HasRoom, CallEndsAs, CallEndsRead, CameLast, call_spending, Turned, Exchanged}
 
 -- nothing is unwritten where the link was ready all along, and else something is
 abbrev pub IsFlushed : {E : Type 0} → List ℕ → Result (Polled (Unit {0})) E → Type 0
@@ -54,6 +54,7 @@ pub record CallGoes {H : Type 0} (P : Protocol H) (written bytes : List ℕ) (ma
 pub record CallEnds {H : Type 0} (P : Protocol H) (written bytes : List ℕ) (made : List (ℕ × ℕ)) (call : CallState) (answer : Answer) : Type 0 where
   pub writes : WritesRequest call.request written answer
   pub ends : CallEndsAs P call.asked call.function bytes (totals made) call.held answer
+  pub last : CameLast P bytes made answer
   pub rooms : HaveRooms HasRoom bytes 0 made
   pub spends : Spends (call_spending answer) (length made) call.turns
 

@@ -28,6 +28,7 @@ fn flush<P: Protocol, L: PolledLink>(
     ensures cause { OnErr result (Rose (L.output link.old).faults (L.output link.new).faults) }
     ensures waited { Waited result (L.not_ready link.old) (L.not_ready link.new) }
     ensures later { L.not_ready link.old ≤ L.not_ready link.new }
+    ensures line { L.line link.new ≡ L.line link.old }
 {
     while !call.to_write().is_empty() {
         match link.poll_write(call.to_write())? {
@@ -52,6 +53,7 @@ fn turn<P: Protocol, L: PolledLink>(
         (holding call.old held.old) (holding call.new held.new) result }
     ensures waited { result ≡ Pending → Rose (L.not_ready link.old) (L.not_ready link.new) }
     ensures later { L.not_ready link.old ≤ L.not_ready link.new }
+    ensures line { L.line link.new ≡ L.line link.old }
 {
     // Memory comes first, so that no byte is read that can't be kept.
     if Call::<P>::make_room(held).is_err() {
@@ -78,9 +80,10 @@ pub(crate) fn poll<P: Protocol, L: PolledLink>(
     alloc: Global,
     link: &mut L,
 ) -> Polled<Result<Response>>
-    ensures { CallPolled P.protocol (L.input link.old) (L.input link.new)
+    ensures polled { CallPolled P.protocol (L.input link.old) (L.input link.new)
         (L.output link.old) (L.output link.new) (L.not_ready link.old) (L.not_ready link.new)
         (holding call.old held.old) (holding call.new held.new) result }
+    ensures line { L.line link.new ≡ L.line link.old }
 {
     match flush(call, link) {
         Err(Failed) => {
@@ -130,7 +133,8 @@ pub(crate) fn send<P: Protocol, L: Source + Sink>(
     request: &Request<'_>,
     held: &mut BytesMut,
 ) -> std::result::Result<(), Error>
-    ensures { Sent P.protocol (L.input link.old) (L.input link.new) (L.output link.old) (L.output link.new) header (meaning request.now) held.new.items result }
+    ensures sent { Sent P.protocol (L.input link.old) (L.input link.new) (L.output link.old) (L.output link.new) header (meaning request.now) held.new.items result }
+    ensures line { L.line link.new ≡ L.line link.old }
 {
     let mut call = open::<P>(alloc, header, request, 0, held)?;
     match flush(&mut call, link) {
@@ -149,8 +153,10 @@ pub(crate) fn exchange<P: Protocol, L: Source + Sink>(
     turns: u64,
     held: &mut BytesMut,
 ) -> Result<Response>
-    ensures { Exchanged P.protocol (L.input link.old) (L.input link.new) (L.output link.old) (L.output link.new) header (meaning request.now) turns held.new.items result }
+    ensures exchanged { Exchanged P.protocol (L.input link.old) (L.input link.new) (L.output link.old) (L.output link.new) header (meaning request.now) turns held.new.items result }
+    ensures line { L.line link.new ≡ L.line link.old }
 {
+    P::laws();
     let mut call = open::<P>(alloc, header, request, turns, held)?;
     match poll(&mut call, held, alloc, link) {
         Polled::Ready(answer) => answer,

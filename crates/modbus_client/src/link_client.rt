@@ -1,5 +1,6 @@
 //! A client over a link, whatever its protocol.
 ghost use Rattle.std.specs.Prelude.{◌≡◌, ◌↔◌, IsNone, IfSome, IfOk, IfErr, IsTrue, false, length, not};
+ghost use Rattle.modbus_link.specs.Line.{meaning_of};
 ghost use Rattle.modbus_frame.specs.Meaning.{meaning};
 ghost use Rattle.modbus_client.specs.State.{attached, drawn, next_header};
 ghost use Rattle.modbus_client.specs.Sending.{stays_connected};
@@ -131,8 +132,8 @@ impl<P: Protocol, L: Link> LinkClient<P, L> {
     /// that is above 253. `WriteFault` only where the link's count of write faults rose; the client is then disconnected.
     /// `NoMemory` where memory is refused.
     pub fn send(&mut self, request: Request<'_>) -> std::result::Result<(), Error>
-        ensures { SentAlone P.protocol P.heading L.input L.output self.old (meaning request.entry)
-            result self.new }
+        ensures { SentAlone P.protocol P.heading (meaning_of L.input L.output L.line)
+            self.old (meaning request.entry) result self.new }
     {
         let header = self.draw()?;
         let answer = send::<P, L>(self.alloc, &mut self.link, header, &request, &mut self.held);
@@ -142,7 +143,7 @@ impl<P: Protocol, L: Link> LinkClient<P, L> {
 
     /// Keeps how long a read or a write may take, and sets it on the link of a client that is connected.
     pub(crate) fn limit(&mut self, duration: Option<Duration>)
-        ensures { Limited L.line L.input L.output self.old duration self.new }
+        ensures { Limited (meaning_of L.input L.output L.line) self.old duration self.new }
     {
         self.timeout = duration;
         if self.is_connected {
@@ -166,19 +167,19 @@ where
     P::Ids: Send,
 {
     ghost answers = { λ old asked answer new.
-        Called P.protocol P.heading L.input L.output old asked answer new };
+        Called P.protocol P.heading (meaning_of L.input L.output L.line) old asked answer new };
 
-    ghost disconnects = { λ old result new. Disconnected L.line L.input L.output old result new };
+    ghost disconnects = { λ old result new. Disconnected (meaning_of L.input L.output L.line) old result new };
 
     ghost time_limit = { λ client. client.timeout };
 
-    ghost limits = { λ old duration new. Limited L.line L.input L.output old duration new };
+    ghost limits = { λ old duration new. Limited (meaning_of L.input L.output L.line) old duration new };
 
     fn call(&mut self, request: Request<'_>) -> Result<Response>
-        ensures called { Called P.protocol P.heading L.input L.output self.old
-            (meaning request.entry) result self.new }
-        ensures complete { IsComplete P.protocol P.heading L.input L.output self.old
-            (meaning request.entry) result self.new }
+        ensures called { Called P.protocol P.heading (meaning_of L.input L.output L.line)
+            self.old (meaning request.entry) result self.new }
+        ensures complete { IsComplete P.protocol P.heading (meaning_of L.input L.output L.line)
+            self.old (meaning request.entry) result self.new }
     {
         P::laws();
         let header = self.draw()?;

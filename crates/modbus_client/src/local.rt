@@ -75,6 +75,7 @@ pub fn exchange<V: Answerer>(
     ensures exchanges { ExchangesLocally V.answering service.old service.new slave.0 (meaning request.entry) result }
     ensures comes_back { ComesBack V.answering service.old service.new slave.0 (meaning request.entry) result }
 {
+    Frames::laws();
     modbus_rtu::laws::verdicts_by_offset();
     modbus_pdu::request_reads_back(&request);
     outcomes_come_back::<V>();

@@ -76,6 +76,7 @@ impl<P: Protocol> PolledCall<P> {
         requires { IsTrue self.old.is_open }
         ensures polled { CallPolled P.protocol (L.input link.old) (L.input link.new) (L.output link.old) (L.output link.new) (L.not_ready link.old) (L.not_ready link.new) self.old.call self.new.call result }
         ensures asked { AsksWhole P.protocol (L.input link.old) (L.input link.new) (L.output link.old) (L.output link.new) self.old.call self.new.call result }
+        ensures line { L.line link.new ≡ L.line link.old }
         ensures open { self.new.is_open ≡ is_pending result }
     {
         let answer = poll(&mut self.call, &mut self.held, self.alloc, link);

@@ -4,7 +4,8 @@ ghost use Rattle.modbus_frame.specs.Meaning.{meaning};
 ghost use Rattle.modbus_client.specs.Tcp.{tcp_protocol, tcp_heading};
 ghost use Rattle.modbus_client.specs.State.{attached};
 ghost use Rattle.modbus_client.specs.Polled.{OpensPolled};
-ghost use Rattle.modbus_client.specs.Connecting.{Connects};
+ghost use Rattle.modbus_link.specs.Line.{meaning_of};
+ghost use Rattle.modbus_client.specs.Connecting.{Connects, connector_of};
 
 use crate::link_client::LinkClient;
 use crate::protocol::{LookError, Protocol, Reply};
@@ -141,7 +142,9 @@ pub fn connect<C: Connector>(
 ) -> std::result::Result<Client<C::Link>, ConnectFault>
 where
     C::Link: Link,
-    ensures { Connects C.connects C.faults C.Link.line C.Link.input C.Link.output connector.old socket_addr 255 None result connector.new }
+    ensures { Connects (connector_of C.connects C.faults)
+        (meaning_of C.Link.input C.Link.output C.Link.line)
+        connector.old socket_addr 255 None result connector.new }
 {
     connect_slave(alloc, connector, socket_addr, Slave::tcp_device())
 }
@@ -158,7 +161,9 @@ pub fn connect_slave<C: Connector>(
 ) -> std::result::Result<Client<C::Link>, ConnectFault>
 where
     C::Link: Link,
-    ensures { Connects C.connects C.faults C.Link.line C.Link.input C.Link.output connector.old socket_addr slave.0 None result connector.new }
+    ensures { Connects (connector_of C.connects C.faults)
+        (meaning_of C.Link.input C.Link.output C.Link.line)
+        connector.old socket_addr slave.0 None result connector.new }
 {
     connect_slave_with_timeout(alloc, connector, socket_addr, slave, None)
 }
@@ -176,7 +181,9 @@ pub fn connect_with_timeout<C: Connector>(
 ) -> std::result::Result<Client<C::Link>, ConnectFault>
 where
     C::Link: Link,
-    ensures { Connects C.connects C.faults C.Link.line C.Link.input C.Link.output connector.old socket_addr 255 timeout result connector.new }
+    ensures { Connects (connector_of C.connects C.faults)
+        (meaning_of C.Link.input C.Link.output C.Link.line)
+        connector.old socket_addr 255 timeout result connector.new }
 {
     connect_slave_with_timeout(alloc, connector, socket_addr, Slave::tcp_device(), timeout)
 }
@@ -195,7 +202,9 @@ pub fn connect_slave_with_timeout<C: Connector>(
 ) -> std::result::Result<Client<C::Link>, ConnectFault>
 where
     C::Link: Link,
-    ensures { Connects C.connects C.faults C.Link.line C.Link.input C.Link.output connector.old socket_addr slave.0 timeout result connector.new }
+    ensures { Connects (connector_of C.connects C.faults)
+        (meaning_of C.Link.input C.Link.output C.Link.line)
+        connector.old socket_addr slave.0 timeout result connector.new }
 {
     match connector.connect(socket_addr, timeout) {
         Ok(link) => {

@@ -3,7 +3,7 @@ ghost use Rattle.std.specs.Prelude.{◌≡◌, ◌↔◌, ◌<◌, length, IsTru
 ghost use Rattle.std.specs.Io.{ReadsAtMost, WritesAtMost};
 ghost use Rattle.modbus_link.specs.Outside.{Advances, Extends, bytes_appended, ReadIsTold, front_of};
 ghost use Rattle.modbus_link.specs.Memory.{source_input, sink_output, MemoryReads, MemoryWrites};
-ghost use Rattle.modbus_link.specs.Line.{line_at_start, shut};
+ghost use Rattle.modbus_link.specs.Line.{line_at_start, shut, Shuts};
 
 use crate::link::Link;
 use crate::memory::{MemorySink, MemorySource};
@@ -76,6 +76,8 @@ impl Ends for MemoryLink {
     ghost input = { λ link. source_input link.source };
 
     ghost output = { λ link. sink_output link.sink };
+
+    ghost line = { λ link. link.line };
 }
 
 impl Source for MemoryLink {
@@ -107,11 +109,10 @@ impl Sink for MemoryLink {
 }
 
 impl Link for MemoryLink {
-    ghost line = { λ link. link.line };
-
     fn shutdown(&mut self) -> Result<(), Failed>
         ensures fails { IsErr result ↔ IsTrue self.old.shutdown_fails }
         ensures shut { self.new ≡ record self.old { line = shut result self.old.line } }
+        ensures line { Shuts self.old.line result self.new.line }
     {
         if self.shutdown_fails {
             self.faults = self.faults.saturating_add(1);

@@ -48,7 +48,8 @@ pub trait PolledLink: Ends {
         ensures cause { OnErr result (Rose (Self.input self.old).faults (Self.input self.new).faults) }
         ensures waited { Waited result (not_ready self.old) (not_ready self.new) }
         ensures later { not_ready self.old ≤ not_ready self.new }
-        ensures sink { Self.output self.new ≡ Self.output self.old };
+        ensures sink { Self.output self.new ≡ Self.output self.old }
+        ensures line { Self.line self.new ≡ Self.line self.old };
 
     /// Appends a front of `piece` as `Sink::write` does, and answers how many bytes it took; or the link is not ready, and takes nothing.
     ///
@@ -62,7 +63,8 @@ pub trait PolledLink: Ends {
         ensures cause { OnErr result (Rose (Self.output self.old).faults (Self.output self.new).faults) }
         ensures waited { Waited result (not_ready self.old) (not_ready self.new) }
         ensures later { not_ready self.old ≤ not_ready self.new }
-        ensures source { Self.input self.new ≡ Self.input self.old };
+        ensures source { Self.input self.new ≡ Self.input self.old }
+        ensures line { Self.line self.new ≡ Self.line self.old };
 }
 
 impl<L: Source + Sink> PolledLink for L {
@@ -142,6 +144,8 @@ impl Ends for PolledMemoryLink {
     ghost input = { λ polled. source_input polled.link.source };
 
     ghost output = { λ polled. sink_output polled.link.sink };
+
+    ghost line = { λ polled. polled.link.line };
 }
 
 impl PolledLink for PolledMemoryLink {

@@ -1,9 +1,10 @@
 //! Adapters over the readers and writers of std, the trusted edge: they tell no content, only how often they failed.
 //!
 //! A call that a signal interrupts is tried again and is no fault, as with std's own `read_exact` and `write_all`.
-ghost use Rattle.std.specs.Prelude.{◌≡◌};
+ghost use Rattle.std.specs.Prelude.{◌≡◌, ◌<◌, length, IfOk};
 ghost use Rattle.std.specs.Io.{ReadsAtMost, WritesAtMost};
-ghost use Rattle.modbus_link.specs.Outside.{untold_input, untold_output};
+ghost use Rattle.modbus_link.specs.Outside.{Advances, Extends, untold_input, untold_output};
+ghost use Rattle.modbus_link.specs.Memory.{faults_after};
 
 use crate::outside::{Ends, Failed, Sink, Source};
 use std::io::{Error, ErrorKind, Read, Result as IoResult, Write};
@@ -76,7 +77,16 @@ impl<R: Read> Ends for ReadSource<R> {
 }
 
 impl<R: Read> Source for ReadSource<R> {
-    fn read(&mut self, room: &mut [u8]) -> Result<usize, Failed> {
+    /// Reads what the reader has. A read that gives no byte is the end of the input, and no fault.
+    ///
+    /// # Errors
+    /// `Failed` where the reader failed.
+    fn read(&mut self, room: &mut [u8]) -> Result<usize, Failed>
+        ensures bound { ReadsAtMost result room.new }
+        ensures source { Advances (untold_input self.old) (untold_input self.new) }
+
+        ensures counts { self.new ≡ faults_after result self.old }
+    {
         match read_once(&mut self.reader, room) {
             Ok(count) => Ok(count),
             Err(_) => {
@@ -117,8 +127,17 @@ impl<W: Write> Ends for WriteSink<W> {
 }
 
 impl<W: Write> Sink for WriteSink<W> {
-    /// Writes and flushes. A writer that takes nothing of a piece that isn't empty has failed.
-    fn write(&mut self, piece: &[u8]) -> Result<usize, Failed> {
+    /// Writes and flushes.
+    ///
+    /// # Errors
+    /// `Failed` where the writer failed, took nothing of a piece that isn't empty, or could not be flushed.
+    fn write(&mut self, piece: &[u8]) -> Result<usize, Failed>
+        ensures bound { WritesAtMost result piece.now }
+        ensures some { IfOk result (λ count. 0 < length piece.now → 0 < count) }
+        ensures sink { Extends (untold_output self.old) (untold_output self.new) }
+
+        ensures counts { self.new ≡ faults_after result self.old }
+    {
         let taken = match write_once(&mut self.writer, piece) {
             Ok(count) if count > 0 || piece.is_empty() => Some(count),
             _ => None,

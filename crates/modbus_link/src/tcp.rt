@@ -5,7 +5,7 @@ ghost use Rattle.std.specs.Prelude.{◌≡◌, ◌<◌, ◌≤◌, length, IfOk,
 ghost use Rattle.std.specs.Io.{ReadsAtMost, WritesAtMost};
 ghost use Rattle.modbus_link.specs.Outside.{Rose, Advances, Extends, untold_input, untold_output};
 ghost use Rattle.modbus_link.specs.Memory.{faults_after};
-ghost use Rattle.modbus_link.specs.Line.{shut};
+ghost use Rattle.modbus_link.specs.Line.{shut, Shuts};
 ghost use Rattle.modbus_link.specs.Tcp.{tcp_at_start};
 ghost use Rattle.modbus_link.specs.Listens.{tally_at_start, tally_after};
 
@@ -99,6 +99,8 @@ impl Ends for TcpLink {
     ghost input = { λ link. untold_input link.read_faults };
 
     ghost output = { λ link. untold_output link.write_faults };
+
+    ghost line = { λ link. link.line };
 }
 
 impl Source for TcpLink {
@@ -151,14 +153,13 @@ fn is_down_already(kind: ErrorKind) -> bool {
 }
 
 impl Link for TcpLink {
-    ghost line = { λ link. link.line };
-
     /// Shuts both directions down. A stream that is connected to nobody any more is down.
     ///
     /// # Errors
     /// `Failed` where the stream failed in another way.
     fn shutdown(&mut self) -> Result<(), Failed>
         ensures shut { self.new ≡ record self.old { line = shut result self.old.line } }
+        ensures line { Shuts self.old.line result self.new.line }
     {
         match self.stream.shutdown(Shutdown::Both) {
             Err(error) if !is_down_already(error.kind()) => {

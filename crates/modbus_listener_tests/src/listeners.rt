@@ -350,6 +350,8 @@ impl<L: Ends> Ends for Watched<L> {
     ghost input = { λ it. L.input it.link };
 
     ghost output = { λ it. L.output it.link };
+
+    ghost line = { λ it. L.line it.link };
 }
 
 impl<L: Source> Source for Watched<L> {
@@ -369,8 +371,6 @@ impl<L: Sink> Sink for Watched<L> {
 }
 
 impl<L: Link> Link for Watched<L> {
-    ghost line = { λ it. L.line it.link };
-
     fn shutdown(&mut self) -> Result<(), Failed> {
         self.link.shutdown()
     }

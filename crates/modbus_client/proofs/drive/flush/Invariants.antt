@@ -7,6 +7,7 @@ invariant-loop-link g l = record {
   source : g.L.Ends.input l.link ≡ g.L.Ends.input l.fn.link;
   keeps : l.call ≡ record l.fn.call { unwritten = l.call.unwritten };
   sends : Sends (g.L.Ends.output l.fn.link) (g.L.Ends.output l.link) l.fn.call.unwritten l.call.unwritten;
+  line : g.L.Ends.line l.link ≡ g.L.Ends.line l.fn.link;
   later : g.L.PolledLink.not_ready l.fn.link ≤ g.L.PolledLink.not_ready l.link;
 }
 

@@ -3,7 +3,7 @@ use Rattle.std.proofs.lemmas.List.{take_min, drop_min}
 use Rattle.modbus_client.specs.Limits.{read_room}
 use Rattle.modbus_client.specs.Call.{holding}
 use Rattle.modbus_client.proofs.Turning.{roomier}
-use Rattle.modbus_client.proofs.Exchanging.{Going, going, goes_on, received, may_read}
+use Rattle.modbus_client.proofs.Exchanging.{Going, going, goes_on, received, no_memory, may_read}
 use Rattle.modbus_client.proofs.local.receive_all.Goals as goal
 
 pub pieces-init : goal.pieces-init
@@ -16,6 +16,9 @@ feed-requires-clause-may_read g c =
     let limit : c.pieces.call.turns ≡ 2 ^ 64 - 1 = search rules in
     let within : length c.args.replies.now < 2 ^ 64 - 1 = search rules in
     omega (arith, less, limit, within)
+
+pub returns-then-is_err : goal.returns-then-is_err
+returns-then-is_err g c = no_memory g.P.Protocol.protocol c.args.replies.now (holding c.args.call.now c.args.held.now) (holding c.pieces.call c.pieces.held) c.pieces.left.now c.pieces.invariant c.make_room.new.held.items
 
 pub returns-in-Some : goal.returns-in-Some
 returns-in-Some g c =

@@ -1,4 +1,5 @@
 use Rattle.std.proofs.Common.{rules, Ok}
+use Rattle.modbus_link.specs.Line.{meaning_of}
 use Rattle.modbus_client.proofs.Connecting.{connected}
 use Rattle.modbus_client.proofs.tcp.connect_slave_with_timeout.Goals as goal
 
@@ -6,6 +7,6 @@ pub returns-in-Ok : goal.returns-in-Ok
 returns-in-Ok g c = record {
   given = Ok c.in-Ok.link;
   made = c.in-Ok.ensures.connects;
-  client = connected g.C.Link.Link.line g.C.Link.Ends.input g.C.Link.Ends.output c.args.slave.0 c.args.timeout c.in-Ok.link _ _ c.attach_slave-client.ensures c.limit.ensures;
+  client = connected (meaning_of g.C.Link.Ends.input g.C.Link.Ends.output g.C.Link.Ends.line) c.args.slave.0 c.args.timeout c.in-Ok.link _ _ c.attach_slave-client.ensures c.limit.ensures;
   fault = search rules;
 }
