@@ -1,4 +1,4 @@
-//! The source, the sink, the link and the connector in memory.
+//! The link and the connector in memory.
 use modbus_link::{
     Connector, Failed, Link, MemoryConnector, MemoryLink, MemorySink, MemorySource, Sink, Source,
 };
@@ -6,33 +6,6 @@ use std::alloc::{AllocError, Global};
 use std::net::{Ipv4Addr, SocketAddr};
 use std::test::Fail;
 use std::time::Duration;
-
-#[test]
-fn reads_stop_at_stops_and_fail_by_number(rt: HostRuntime) -> Result<(), Fail> {
-    let mut source = MemorySource::new(rt.alloc(), b"abcdef", &[2, 9], &[1])?;
-    let mut room = [0u8; 3];
-    assert_eq!(rt; source.read(&mut room), Ok(2));
-    assert_eq!(rt; room, *b"ab\0");
-    assert_eq!(rt; source.read(&mut room), Err(Failed));
-    assert_eq!(rt; source.read(&mut room), Ok(3));
-    assert_eq!(rt; room, *b"cde");
-    assert_eq!(rt; source.given(), 5);
-    assert_eq!(rt; source.read(&mut room), Ok(1));
-    assert_eq!(rt; source.read(&mut room), Ok(0));
-    Ok(())
-}
-
-#[test]
-fn writes_take_what_is_free_and_fail_by_number(rt: HostRuntime) -> Result<(), Fail> {
-    let mut sink = MemorySink::new(rt.alloc(), 5, 3, &[1])?;
-    assert_eq!(rt; sink.write(b"abcd"), Ok(3));
-    assert_eq!(rt; sink.write(b"d"), Err(Failed));
-    assert_eq!(rt; sink.write(b"defg"), Ok(2));
-    assert_eq!(rt; sink.write(b"f"), Err(Failed));
-    assert_eq!(rt; sink.write(b""), Ok(0));
-    assert_eq!(rt; sink.bytes(), b"abcde".as_slice());
-    Ok(())
-}
 
 /// A link that gives three bytes, two of them at first, and holds four.
 fn small_link(alloc: Global, shutdown_fails: bool) -> Result<MemoryLink, AllocError> {

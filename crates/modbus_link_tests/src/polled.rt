@@ -12,28 +12,6 @@ fn faulty_link(alloc: Global) -> Result<MemoryLink, AllocError> {
     Ok(MemoryLink::new(source, sink, false))
 }
 
-#[test]
-fn a_poll_is_pending_exactly_where_it_is_named(rt: HostRuntime) -> Result<(), Fail> {
-    let alloc = rt.alloc();
-    let mut link = PolledMemoryLink::new(alloc, faulty_link(alloc)?, &[0, 3, 4])?;
-    let mut room = [0u8; 3];
-    assert_eq!(rt; link.poll_read(&mut room), Ok(Polled::Pending));
-    assert_eq!(rt; room, [0, 0, 0]);
-    assert_eq!(rt; link.poll_read(&mut room), Ok(Polled::Ready(2)));
-    assert_eq!(rt; room, *b"ab\0");
-    assert_eq!(rt; link.poll_write(b"xy"), Ok(Polled::Ready(1)));
-    assert_eq!(rt; link.poll_write(b"y"), Ok(Polled::Pending));
-    assert_eq!(rt; link.poll_read(&mut room), Ok(Polled::Pending));
-    assert_eq!(rt; link.poll_write(b"y"), Err(Failed));
-    assert_eq!(rt; link.poll_read(&mut room), Err(Failed));
-    assert_eq!(rt; link.poll_write(b"y"), Ok(Polled::Ready(1)));
-    assert_eq!(rt; link.poll_read(&mut room), Ok(Polled::Ready(1)));
-    assert_eq!(rt; link.poll_read(&mut room), Ok(Polled::Ready(0)));
-    assert_eq!(rt; link.link().source().given(), 3);
-    assert_eq!(rt; link.link().sink().bytes(), b"xy".as_slice());
-    Ok(())
-}
-
 /// What a read and a write of any link give that may not be ready.
 fn polls<L: PolledLink + Drop>(
     mut link: L,
