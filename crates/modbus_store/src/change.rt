@@ -27,6 +27,7 @@ pub enum Change<'a> {
 ///
 /// # Errors
 /// `OutOfRange` exactly where they reach past its end; the table is then as it was.
+#[inline(always)]
 pub(crate) fn write_entries<T: Copy>(
     table: &mut [T],
     first: Address,

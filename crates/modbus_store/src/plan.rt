@@ -8,7 +8,9 @@ use crate::bounds::{check_count, check_range};
 use crate::change::{Change, write_entries};
 use crate::read::{read_after_write, read_entries, read_queue};
 use crate::store::RegisterStore;
-use modbus_frame::{Address, Coil, Coils, ExceptionCode, Quantity, Request, Response, SlaveRequest, Word, Words};
+use modbus_frame::{
+    Address, Coil, Coils, ExceptionCode, Quantity, Request, Response, SlaveRequest, Word, Words,
+};
 use modbus_pdu::{MAX_READ_COILS, MAX_READ_REGISTERS, MAX_WRITE_COILS, MAX_WRITE_REGISTERS};
 use modbus_service::ServiceError;
 use std::alloc::Global;

@@ -40,7 +40,6 @@ fn register_after(table: &[Word], first: usize, words: &[Word], place: usize) ->
 }
 
 /// The registers that are read after others were written, of the table as it is before (section 6.17).
-#[cold]
 #[tactic(auto, using(crate::proofs::Writing::entries_more, crate::proofs::Writing::written_keeps_length))]
 pub(crate) fn read_after_write(
     alloc: Global,

@@ -190,10 +190,9 @@ impl RegisterStore {
     {
         let is_silent = self.broadcast && request.slave == 0;
         match step(self, alloc, &request.request) {
-            Ok(_) if is_silent => Ok(None),
-            Err(ServiceError::Exception(_)) if is_silent => Ok(None),
-            Ok(response) => Ok(Some(response)),
-            Err(error) => Err(error),
+            Ok(response) if !is_silent => Ok(Some(response)),
+            Err(error) if !is_silent || error == ServiceError::NoMemory => Err(error),
+            _ => Ok(None),
         }
     }
 }
