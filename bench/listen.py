@@ -83,6 +83,8 @@ def run(load, processors, pid, port, connections, requests):
 
 
 def main():
+    if not os.access(PROGRAM, os.X_OK):
+        sys.exit("bench: build the program first: ./prove")
     requests = int(sys.argv[1]) if len(sys.argv) > 1 else REQUESTS
     of_server, of_load = halves()
     with tempfile.TemporaryDirectory() as folder:

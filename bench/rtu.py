@@ -93,8 +93,8 @@ def run(count):
 
 def main():
     count = int(sys.argv[1]) if len(sys.argv) > 1 else FRAMES
-    # The launcher builds the program where that is wanted.
-    subprocess.run([os.path.join(TOP, "modbus"), "rtu"], stdin=subprocess.DEVNULL, check=True)
+    if not os.access(PROGRAM, os.X_OK):
+        sys.exit("bench: build the program first: ./prove")
     for part in (count // 10, count):
         seconds, most = run(part)
         print(f"{part} frames in {seconds:.2f} s: {part / seconds:.0f} frames per second, {most} KiB resident at most")

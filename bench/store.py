@@ -5,7 +5,7 @@ usage: bench/store.py [milliseconds]
 
 Each thread has a pass of its own, and writes and reads one register in turn. It prints the calls a second by 1, 8, 32 and 128 threads,
 with those of the slowest and of the fastest thread, all from a common start; and then the largest resident memory after 1,000,000 and
-after 10,000,000 calls of four threads. Build the program first, by `rt run` in crates/modbus_store_bench. It is no test; it needs
+after 10,000,000 calls of four threads. Build the program first, by ./prove. It is no test; it needs
 Python 3.9.
 """
 
@@ -33,6 +33,8 @@ def calls(*words):
 
 
 def main():
+    if not os.access(PROGRAM, os.X_OK):
+        sys.exit("bench: build the program first: ./prove")
     milliseconds = int(sys.argv[1]) if len(sys.argv) > 1 else MILLISECONDS
     for threads in THREADS:
         slowest, fastest, all_calls, _ = calls("rate", threads, milliseconds)
