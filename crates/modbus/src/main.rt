@@ -4,23 +4,37 @@
 use modbus_app::{listening, port, run};
 use modbus_link::{ReadSource, WriteSink};
 use modbus_server::ProcessError;
-use std::alloc::AllocError;
+use std::alloc::{AllocError, Global};
+use std::env::{Env, FillError};
 use std::process::ExitCode;
-use std::{env, io};
 
-/// The words after the program's name. Where one is not UTF-8 there are none, which are no form either.
+/// One word more than the longest form of the program has.
+const MOST_WORDS: usize = 4;
+
+/// The bytes of the longest word of a form, and some more.
+const LONGEST_WORD: usize = 16;
+
+/// The text of a word. A word that is not UTF-8 is empty, and so no word of a form.
+fn text_of(alloc: Global, word: &[u8]) -> Result<String, AllocError> {
+    match str::from_utf8(word) {
+        Ok(text) => String::from_str(alloc, text),
+        Err(_) => Ok(String::new(alloc)),
+    }
+}
+
+/// The words after the program's name, which may have any bytes: as many as tell whether they are a form. A word that is longer than each
+/// word of a form, or that is not UTF-8, is empty.
 fn args(rt: &HostRuntime) -> Result<Vec<String>, AllocError> {
     let mut words = Vec::new(rt.alloc());
-    match env::args(rt) {
-        Ok(all) => {
-            for word in all.skip(1) {
-                words.push(word)?;
-            }
-            Ok(words)
+    for place in 0..MOST_WORDS {
+        let mut room = [0; LONGEST_WORD];
+        match rt.arg(place + 1, &mut room) {
+            Ok(length) => words.push(text_of(rt.alloc(), &room[..length])?)?,
+            Err(FillError::TooLong) => words.push(String::new(rt.alloc()))?,
+            Err(FillError::NotPresent) => break,
         }
-        Err(error) if error.kind() == io::ErrorKind::OutOfMemory => Err(AllocError),
-        Err(_) => Ok(words),
     }
+    Ok(words)
 }
 
 fn main(rt: HostRuntime) -> ExitCode {
@@ -30,7 +44,17 @@ fn main(rt: HostRuntime) -> ExitCode {
         return ExitCode::from(modbus_app::NO_MEMORY);
     };
     if let Some((framing, port)) = listening(&words) {
-        return ExitCode::from(port::serve(&rt, rt.alloc(), framing, port, &mut errors));
+        let notes = (WriteSink::new(rt.stderr()), WriteSink::new(rt.stderr()));
+        let status = port::serve(
+            &rt,
+            rt.alloc(),
+            framing,
+            port,
+            |_error: ProcessError| {},
+            &mut errors,
+            notes,
+        );
+        return ExitCode::from(status);
     }
     let status = run(
         rt.alloc(),

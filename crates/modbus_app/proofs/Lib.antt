@@ -4,3 +4,4 @@ pub mod Digits
 pub mod ServingLinks
 pub mod SingleWrites
 pub mod Making
+pub mod Unspawned

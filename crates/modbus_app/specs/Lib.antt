@@ -5,3 +5,6 @@ pub mod Make
 pub mod Ending
 pub mod Listen
 pub mod Memory
+pub mod Watched
+pub mod Patient
+pub mod Turning

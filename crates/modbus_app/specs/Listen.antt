@@ -1,11 +1,12 @@
 -- What a program that listens is asked, and what it does.
-use Rattle.std.specs.Prelude.{◌≡◌, ℕ, ◌-◌, ◌^◌, Option, Some, None, Result, Ok, Err}
+use Rattle.std.specs.Prelude.{◌≡◌, ◌≢◌, ℕ, ◌-◌, ◌^◌, Option, Some, None, Result, Ok, Err}
 use Rattle.std.specs.declared.net.SocketAddr.{SocketAddr}
 use Rattle.modbus_link.specs.declared.outside.Failed.{Failed}
-use Rattle.modbus_link.specs.Outside.{Output}
+use Rattle.modbus_link.specs.Outside.{Output, Rose}
 use Rattle.modbus_server.specs.declared.error.ServeError.{ServeError}
-use Rattle.modbus_server.specs.declared.error.ServeError.TheVariants.{Connect}
-use Rattle.modbus_server.specs.Listening.{WorkerState, Parts, Listener, Counts, Serves, Exact, Balances, unsignalled}
+use Rattle.modbus_server.specs.declared.error.ServeError.TheVariants.{AcceptFault, Connect, SpawnFault}
+use Rattle.modbus_server.specs.Listening.{WorkerState, Parts, Listener, Counts, Serves, Accepts, Exact, Balances, unsignalled, unspawned, without_spawner}
+use Rattle.modbus_server.specs.Stopping.{never_set}
 use Rattle.modbus_store.specs.declared.table.PassesOut.{PassesOut}
 use Rattle.modbus_store.specs.Passes.{Pass, SplitsOff}
 use Rattle.modbus_app.specs.Status.{listener_status_of, listener_line_of, Reports}
@@ -17,10 +18,14 @@ SplitsFor pass_of old link (Ok (Some taken)) new = (taken.1 ≡ link) × SplitsO
 SplitsFor pass_of old link (Ok None) new = ⊥
 SplitsFor pass_of old link (Err none_left) new = (new.drawn ≡ 2 ^ 32) × (new ≡ record old { drawn = new.drawn })
 
+-- the hook of a listener, by the pass that it splits
+abbrev pub hook_with : {V K : Type 0} → (V → Pass) → Pass → K → SocketAddr → Result (Option (V × K)) PassesOut → Pass → Type 0
+hook_with pass_of old link address answer new = SplitsFor pass_of old link answer new
+
 -- what takes part in listening: an acceptor, the hook, whose state is the pass that it splits, and a spawner of workers over such passes
 abbrev pub parts_with : {A P K V H : Type 0} → (V → Pass) → (A → Result (K × SocketAddr) Failed → A → Type 0)
     → (P → WorkerState K V H ℕ → Result (Unit {0}) Failed → P → Type 0) → Parts A Pass P K K V PassesOut H
-parts_with pass_of accepts starts = record { accepts = accepts; connects = λ old link address answer new. SplitsFor pass_of old link answer new; starts = starts }
+parts_with pass_of accepts starts = record { accepts = accepts; connects = hook_with pass_of; starts = starts }
 
 -- Links were served until this error, as a listener promises that is never stopped (`listener`). Of the pass of the services others were
 -- split, and nothing else (`pass`); where the hook refused a connection no number was left (`passes_out`); and as it rejects none, each
@@ -38,3 +43,15 @@ pub record Listened {A P K V H : Type 0} (parts : Parts A Pass P K K V PassesOut
   pub is : status ≡ listener_status_of error
   pub serves : ServesLinks parts counts on_error old new error
   pub tells : Reports said told (listener_line_of error)
+
+-- The same, over a spawner that never fails and of which nothing is said: the acceptor and the pass are told before and after.
+pub record ListenedOver {A K V H : Type 0} (pass_of : V → Pass) (accepted : A → Result (K × SocketAddr) Failed → A → Type 0) (faults : A → ℕ) (on_error : H)
+    (old new : A × Pass) (said told : Output) (status : ℕ) : Type 0 where
+  pub error : ServeError PassesOut
+  pub is : status ≡ listener_status_of error
+  pub tells : Reports said told (listener_line_of error)
+  pub accepts : Accepts (unspawned accepted (hook_with pass_of)) never_set on_error (without_spawner old.0 old.1) tt (without_spawner new.0 new.1) tt (Err error)
+  pub accept_fault : error ≡ AcceptFault → Rose (faults old.0) (faults new.0)
+  pub spawns : error ≢ SpawnFault
+  pub pass : new.1 ≡ record old.1 { drawn = new.1.drawn }
+  pub passes_out : (none_left : PassesOut) → error ≡ Connect none_left → new.1.drawn ≡ 2 ^ 32

@@ -70,6 +70,10 @@ listener_line_of SpawnFault = codes "modbus: spawn fault\n"
 listener_line_of (Connect none_left) = codes "modbus: passes out\n"
 listener_line_of serve.NoMemory = line_of NoMemory
 
+-- the line of a listener that the system refuses
+abbrev pub bind_line : List ℕ
+bind_line = codes "modbus: bind fault\n"
+
 -- A line was written, or a front of it where the sink failed. What stood there before stays.
 pub record Reports (said told : Output) (line : List ℕ) : Type 0 where
   pub grows : Extends said told

@@ -4,7 +4,6 @@ use Rattle.std.specs.Str.{bytes_eq}
 use Rattle.std.specs.declared.alloc.Global.{Global}
 use Rattle.modbus_app.specs.declared.words.Framing.{Framing}
 use Rattle.modbus_app.specs.declared.words.Framing.TheVariants.{Rtu, Tcp}
-use Rattle.modbus_app.specs.declared.words.Form.{Form}
 use Rattle.modbus_app.specs.declared.words.Task.{Task}
 use Rattle.modbus_app.specs.declared.words.Task.TheVariants.{Serve, Make, Listen}
 

@@ -1,21 +1,92 @@
 //! Listening on a port, with a thread of a scope for each connection.
 ghost use Rattle.std.specs.Prelude.{◌≡◌};
+ghost use Rattle.modbus_server.specs.declared.error.ProcessError.TheVariants.{NoMemory};
+ghost use Rattle.modbus_app.specs.Listen.{ListenedOver};
+ghost use Rattle.modbus_app.specs.Status.{line_of, bind_line, Reports};
 
 use crate::device::open_shared;
 use crate::listen::run_listen;
+use crate::patient::{Keeper, PatientAcceptor};
 use crate::services::{Services, StoreServices};
 use crate::status::{BIND_FAULT, BIND_LINE, NO_MEMORY, report, report_fault};
+use crate::turning::TurningSpawner;
+use crate::watched::WatchedAcceptor;
 use crate::words::Framing;
 use modbus_link::{
     Acceptor, Failed, FlagStop, Link, ScopeSpawner, Sink, Spawner, Stop, TcpAcceptor, Worker,
 };
 use modbus_server::{Answerer, ConnectionWorker, ProcessError, rtu_over_tcp, tcp};
 use std::alloc::Global;
-use std::io::ErrorKind;
+use std::io::{ErrorKind, Result as IoResult};
+use std::marker::Model;
 use std::net::{Net, SocketAddr, TcpListener, TcpStream};
 use std::sync::Wait;
+use std::sync::atomic::{AtomicBool, Ordering};
 use std::thread;
 use std::thread::{Scope, Threads};
+use std::time::{Clock, Duration};
+
+/// How often an accept that fails is tried again.
+const RETRIES: u32 = 300;
+
+/// How many milliseconds are waited before that.
+const PAUSE: u64 = 100;
+
+/// The line of a listener that has no file descriptor left.
+const NO_DESCRIPTOR_LINE: &str = "modbus: no descriptor, peers are turned away\n";
+
+/// The line of an accept that failed.
+const RETRY_LINE: &str = "modbus: accept fault, it is tried again\n";
+
+/// What keeps the listener of a port going. A peer has room where one more file descriptor could be had beside that of its link, so that
+/// the next accept has one.
+#[derive(Drop)]
+struct PortKeeper<'r, R, N> {
+    rt: &'r R,
+    listener: TcpListener,
+    notes: N,
+    is_full: bool,
+    is_faulty: bool,
+}
+
+/// A contract knows nothing of it.
+impl<'r, R, N> Model for PortKeeper<'r, R, N> {
+    ghost Value = { Unit {0} };
+
+    ghost view = { λ _. tt };
+}
+
+impl<'r, R, N> PortKeeper<'r, R, N> {
+    fn new(rt: &'r R, listener: TcpListener, notes: N) -> PortKeeper<'r, R, N> {
+        PortKeeper {
+            rt,
+            listener,
+            notes,
+            is_full: false,
+            is_faulty: false,
+        }
+    }
+}
+
+impl<'r, R: Clock, N: Sink> Keeper for PortKeeper<'r, R, N> {
+    fn has_room(&mut self) -> bool {
+        let has_room = self.listener.try_clone().is_ok();
+        if !has_room && !self.is_full {
+            report(&mut self.notes, NO_DESCRIPTOR_LINE);
+        }
+        self.is_full = !has_room;
+        self.is_faulty = false;
+        has_room
+    }
+
+    fn wait(&mut self) {
+        if !self.is_faulty {
+            report(&mut self.notes, RETRY_LINE);
+            self.is_faulty = true;
+        }
+        thread::sleep(self.rt, Duration::from_millis(PAUSE));
+    }
+}
 
 /// A spawner for the workers of each framing.
 #[derive(Drop)]
@@ -83,8 +154,9 @@ where
     scope.spawn(move || worker.run()).is_ok()
 }
 
-/// Serves as `run_listen` does, with a thread of `scope` for each connection, which ends with it.
-fn listen_in_scope<'s, Env, R, A, S, H, E>(
+/// Serves as `run_listen` does, with a thread of `scope` for each connection, which ends with it. A peer that no thread can be had for is
+/// turned away.
+fn listen_in_scope<'s, Env, R, A, S, H, E, N>(
     rt: &R,
     alloc: Global,
     framing: Framing,
@@ -92,6 +164,7 @@ fn listen_in_scope<'s, Env, R, A, S, H, E>(
     services: &mut S,
     on_process_error: H,
     errors: &mut E,
+    notes: N,
     scope: &Scope<'s, Env>,
 ) -> u8
 where
@@ -102,9 +175,12 @@ where
     S::Service: Send + Drop + 's,
     H: Fn(ProcessError) + Copy + Send + 's,
     E: Sink,
+    N: Sink + Drop,
     requires error_hook { H.IsAlwaysCallable on_process_error }
+    ensures { ListenedOver S.pass_of A.accepts A.faults on_process_error (acceptor.old, S.pass services.old) (acceptor.new, S.pass services.new)
+        (E.output errors.old) (E.output errors.new) result }
 {
-    let mut spawner = Spawners {
+    let spawners = Spawners {
         rtu: ScopeSpawner::new(
             |worker: rtu_over_tcp::ConnectionWorker<A::Link, S::Service, H, FlagStop>| -> bool
                 requires { H.IsAlwaysCallable worker.on_process_error }
@@ -116,6 +192,7 @@ where
             { start(scope, worker) },
         ),
     };
+    let mut spawner = TurningSpawner::new(spawners, notes);
     run_listen(
         rt,
         alloc,
@@ -129,43 +206,93 @@ where
 }
 
 /// Tells want of memory.
-fn no_memory<E: Sink>(errors: &mut E) -> u8 {
+fn no_memory<E: Sink>(errors: &mut E) -> u8
+    ensures status { result ≡ 11 }
+    ensures tells { Reports (E.output errors.old) (E.output errors.new) (line_of NoMemory) }
+{
     report_fault(errors, ProcessError::NoMemory);
     NO_MEMORY
 }
 
+/// Tells that the system refuses a listener.
+fn bind_fault<E: Sink>(errors: &mut E) -> u8
+    ensures status { result ≡ 15 }
+    ensures tells { Reports (E.output errors.old) (E.output errors.new) bind_line }
+{
+    report(errors, BIND_LINE);
+    BIND_FAULT
+}
+
+/// The listener on this port of this machine (127.0.0.1), and another share of it.
+fn bind<R>(rt: &R, port: u16) -> IoResult<(TcpListener, TcpListener)>
+where
+    R: Net<Listener = TcpListener, Stream = TcpStream>,
+{
+    let listener = TcpListener::bind(rt, SocketAddr::from(([127, 0, 0, 1], port)))?;
+    let share = listener.try_clone()?;
+    Ok((listener, share))
+}
+
 /// Serves all connections to a port of this machine (127.0.0.1), each in a thread, over one device of four tables of 1024 entries that
-/// hold 0 at first. The error of a single connection ends that connection alone.
+/// hold 0 at first. The error of a single connection ends that connection alone, and is handed to `on_process_error`.
+///
+/// A peer that there is no file descriptor or no thread for is turned away, and the first of several in a row is told on `notes`, the
+/// descriptors on the first of them. After a fault of accepting it waits for 100 milliseconds and tries again, 300 times in a row. A
+/// connection that moves no byte for ten minutes is let go. Once the call does not go on, each of its connections ends within a second.
 ///
 /// The status is one of `run_listen`, or 15 where the system refuses the listener. Each has its line on `errors`.
-pub fn serve<R, E>(rt: &R, alloc: Global, framing: Framing, port: u16, errors: &mut E) -> u8
+pub fn serve<R, H, E, N>(
+    rt: &R,
+    alloc: Global,
+    framing: Framing,
+    port: u16,
+    on_process_error: H,
+    errors: &mut E,
+    notes: (N, N),
+) -> u8
 where
-    R: Threads + Wait + Net<Listener = TcpListener, Stream = TcpStream> + Sync,
+    R: Threads + Wait + Clock + Net<Listener = TcpListener, Stream = TcpStream> + Sync,
+    H: Fn(ProcessError) + Copy + Send,
     E: Sink,
+    N: Sink + Drop,
+    requires error_hook { H.IsAlwaysCallable on_process_error }
 {
-    let listener = match TcpListener::bind(rt, SocketAddr::from(([127, 0, 0, 1], port))) {
+    let (listener, share) = match bind(rt, port) {
         Ok(listener) => listener,
         Err(error) if error.kind() == ErrorKind::OutOfMemory => return no_memory(errors),
-        Err(_) => {
-            report(errors, BIND_LINE);
-            return BIND_FAULT;
-        }
+        Err(_) => return bind_fault(errors),
     };
     let Ok((table, pass)) = open_shared(alloc, framing) else {
         return no_memory(errors);
     };
-    let mut acceptor = TcpAcceptor::new(listener);
+    let ended = AtomicBool::new(false);
+    let accepting = WatchedAcceptor::new(TcpAcceptor::new(listener), &ended);
+    let mut acceptor = PatientAcceptor::new(
+        accepting,
+        PortKeeper::new(rt, share, notes.0),
+        RETRIES,
+    );
     let mut services = StoreServices::new(rt, &table, pass);
-    thread::scope(thread::scope_env(), rt, |scope| {
-        listen_in_scope(
-            rt,
-            alloc,
-            framing,
-            &mut acceptor,
-            &mut services,
-            |_error: ProcessError| {},
-            errors,
-            scope,
-        )
-    })
+    let notes = notes.1;
+    thread::scope(
+        thread::scope_env(),
+        rt,
+        |scope| -> u8
+            requires { H.IsAlwaysCallable on_process_error }
+        {
+            let status = listen_in_scope(
+                rt,
+                alloc,
+                framing,
+                &mut acceptor,
+                &mut services,
+                on_process_error,
+                errors,
+                notes,
+                scope,
+            );
+            ended.store(true, Ordering::Release);
+            status
+        },
+    )
 }

@@ -55,6 +55,13 @@ impl<'t, R> StoreServices<'t, R> {
     {
         StoreServices { rt, table, pass }
     }
+
+    /// The pass, which others were split off.
+    pub fn into_pass(self) -> StorePass
+        ensures { result ≡ self.entry }
+    {
+        self.pass
+    }
 }
 
 impl<'t, R: Wait> Services for StoreServices<'t, R> {
