@@ -81,8 +81,6 @@ fn take_bytes(opening: u16, bytes: &[u8]) -> u16
 }
 
 /// The checksum of `bytes`, which a frame carries with its low byte first.
-// A call of its own, so that its loop has all registers.
-#[inline(never)]
 #[tactic(auto, unfolding(crate::specs::Checksum::crc))]
 pub fn calc_crc(bytes: &[u8]) -> u16
     ensures { result ≡ crc bytes.now }
