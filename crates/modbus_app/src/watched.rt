@@ -92,6 +92,8 @@ impl<'f> Ends for WatchedLink<'f> {
     ghost input = { λ link. untold_input link.read_faults };
 
     ghost output = { λ link. untold_output link.write_faults };
+
+    ghost line = { λ link. link.line };
 }
 
 impl<'f> Source for WatchedLink<'f> {
@@ -115,8 +117,6 @@ impl<'f> Sink for WatchedLink<'f> {
 }
 
 impl<'f> Link for WatchedLink<'f> {
-    ghost line = { λ link. link.line };
-
     fn shutdown(&mut self) -> Result<(), Failed> {
         self.link.shutdown()
     }
