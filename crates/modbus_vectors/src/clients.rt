@@ -2,6 +2,7 @@
 
 use crate::outside::{Outside, read_outside};
 use crate::text::{bytes, hex, number};
+use crate::typed::asked;
 use modbus_app::{Form, Framing, open};
 use modbus_client::{Client, PolledCall, Protocol, exchange, rtu, tcp};
 use modbus_frame::{Error, Request, Response, Result as Answer, Slave, SlaveContext};
@@ -30,7 +31,7 @@ fn left(alloc: Global, link: Option<&MemoryLink>, held: usize) -> Result<String,
 }
 
 /// What a step of a line does to any client: `disconnect`, `slave=9`, a call of a function by its number with any data, as
-/// `custom=4100`, or a call by the PDU of its request.
+/// `custom=4100`, the typed call of a request by its PDU, as `typed=0300000001`, or a call by the PDU of its request.
 fn step<C: Client>(
     alloc: Global,
     client: &mut C,
@@ -57,10 +58,15 @@ fn step<C: Client>(
         let request = Request::Custom(*code, CowSlice::Borrowed(data));
         return Ok(Some(answered(alloc, client.call(request))?));
     }
+    let (is_typed, step) = match step.strip_prefix("typed=") {
+        Some(pdu) => (true, pdu),
+        None => (false, step),
+    };
     let Some(pdu) = bytes(alloc, step)? else {
         return Ok(None);
     };
     match decode_request(alloc, pdu.as_slice()) {
+        Ok(request) if is_typed => Ok(Some(asked(alloc, client, &request)?)),
         Ok(request) => Ok(Some(answered(alloc, client.call(request))?)),
         Err(_) => Ok(None),
     }

@@ -7,6 +7,7 @@
 mod clients;
 mod codecs;
 mod faults;
+mod listeners;
 mod outside;
 mod pdus;
 mod program;
@@ -19,9 +20,15 @@ mod values;
 use std::alloc::{AllocError, Global};
 use std::io;
 use std::process::ExitCode;
+use std::sync::Wait;
 
 /// The answer to a call, where the line names one.
-fn answer(alloc: Global, call: &str, words: &[&str]) -> Result<Option<String>, AllocError> {
+fn answer<R: Wait>(
+    rt: &R,
+    alloc: Global,
+    call: &str,
+    words: &[&str],
+) -> Result<Option<String>, AllocError> {
     if let Some(found) = values::answer(alloc, call, words)? {
         return Ok(Some(found));
     }
@@ -40,6 +47,9 @@ fn answer(alloc: Global, call: &str, words: &[&str]) -> Result<Option<String>, A
     if let Some(found) = servers::answer(alloc, call, words)? {
         return Ok(Some(found));
     }
+    if let Some(found) = listeners::answer(rt, alloc, call, words)? {
+        return Ok(Some(found));
+    }
     if let Some(found) = typed::answer(alloc, call, words)? {
         return Ok(Some(found));
     }
@@ -50,7 +60,7 @@ fn answer(alloc: Global, call: &str, words: &[&str]) -> Result<Option<String>, A
 }
 
 /// What stands for a line of the input in the output.
-fn answer_line(alloc: Global, line: &str) -> Result<String, AllocError> {
+fn answer_line<R: Wait>(rt: &R, alloc: Global, line: &str) -> Result<String, AllocError> {
     if line.is_empty() || line.as_bytes()[0] == b'#' {
         return String::from_str(alloc, line);
     }
@@ -61,23 +71,23 @@ fn answer_line(alloc: Global, line: &str) -> Result<String, AllocError> {
     let Some((call, rest)) = words.split_first() else {
         return String::from_str(alloc, "no call");
     };
-    match answer(alloc, call, rest)? {
+    match answer(rt, alloc, call, rest)? {
         Some(found) => Ok(found),
         None => String::from_str(alloc, "no such call, or no such arguments"),
     }
 }
 
-fn answer_lines(rt: &HostRuntime) -> io::Result<()> {
+fn answer_lines<R: Wait>(rt: &HostRuntime, waits: &R) -> io::Result<()> {
     for line in rt.lines(rt.alloc()) {
         let line = line?;
-        let found = answer_line(rt.alloc(), line.as_str())?;
+        let found = answer_line(waits, rt.alloc(), line.as_str())?;
         println!(rt; "{found}")?;
     }
     Ok(())
 }
 
 fn main(rt: HostRuntime) -> ExitCode {
-    match answer_lines(&rt) {
+    match answer_lines(&rt, &rt) {
         Ok(()) => ExitCode::SUCCESS,
         Err(_) => ExitCode::from(1),
     }

@@ -4,17 +4,29 @@ use crate::outside::{Outside, read_outside};
 use crate::text::{hex, number};
 use modbus_frame::{Response, SlaveRequest, Words};
 use modbus_link::{MemoryStop, Polled, PolledMemoryLink};
+use modbus_rtu::Inbox;
+use modbus_server::tcp::AduBuffer;
 use modbus_server::{
-    Framing, PolledProcess, ProcessError, Service, ServiceError, rtu, rtu_over_tcp, tcp,
+    ConnectionWorker, Forward, Framing, PolledProcess, ProcessError, Service, ServiceError, rtu,
+    rtu_over_tcp, tcp,
 };
 use std::alloc::{AllocError, Global};
 use std::fmt::Debug;
 
 /// Answers so many registers, all of them 0x0020, and counts its calls.
 #[derive(Drop)]
-struct SameWords {
+pub struct SameWords {
     count: usize,
     calls: u64,
+}
+
+impl SameWords {
+    pub fn new(count: u16) -> SameWords {
+        SameWords {
+            count: usize::from(count),
+            calls: 0,
+        }
+    }
 }
 
 impl Service for SameWords {
@@ -134,7 +146,32 @@ fn served_until(
     )
 }
 
-/// `serve`, `polled_serve` or `serve_until`; a framing; how many registers the service answers; how many reads may give bytes, or how often
+/// One connection as work, which a signal stops after so many looks.
+fn worked<I: Framing>(
+    alloc: Global,
+    service: &mut SameWords,
+    looks: u64,
+    outside: Outside,
+) -> Result<Option<String>, AllocError> {
+    let mut link = outside.into_link();
+    let ended = ConnectionWorker::<I, _, _, _, _>::new(
+        alloc,
+        &mut link,
+        Forward(service),
+        |_error: ProcessError| {},
+        MemoryStop::new(looks),
+    )
+    .work();
+    told(
+        alloc,
+        &ended,
+        link.sink().bytes(),
+        link.source().given(),
+        service,
+    )
+}
+
+/// `serve`, `polled_serve`, `serve_until` or `work`; a framing; how many registers the service answers; how many reads may give bytes, or how often
 /// the signal is looked at before it is set; and the outside.
 pub fn answer(alloc: Global, call: &str, words: &[&str]) -> Result<Option<String>, AllocError> {
     let [framing, count, turns, words @ ..] = words else {
@@ -146,15 +183,14 @@ pub fn answer(alloc: Global, call: &str, words: &[&str]) -> Result<Option<String
     let Some(outside) = read_outside(alloc, words)? else {
         return Ok(None);
     };
-    let mut service = SameWords {
-        count: usize::from(count),
-        calls: 0,
-    };
+    let mut service = SameWords::new(count);
     let turns = u64::from(turns);
     match call {
         "serve" => served(alloc, framing, &mut service, turns, outside),
         "polled_serve" => served_by_polls(alloc, framing, &mut service, turns, outside),
         "serve_until" if *framing == "rtu" => served_until(alloc, &mut service, turns, outside),
+        "work" if *framing == "rtu" => worked::<Inbox>(alloc, &mut service, turns, outside),
+        "work" if *framing == "tcp" => worked::<AduBuffer>(alloc, &mut service, turns, outside),
         _ => Ok(None),
     }
 }

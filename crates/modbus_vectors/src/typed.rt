@@ -1,4 +1,4 @@
-//! Typed calls through a box, over a caller's client that answers one response.
+//! Typed calls of any client, and through a box over a caller's client that answers one response.
 
 use crate::text::bytes;
 use bytes::Bytes;
@@ -55,7 +55,7 @@ impl Client for Once {
 }
 
 /// Makes the typed call of a request that reads. What it reads is given as a response again.
-fn read<C: Client>(client: &mut C, request: &Request<'_>) -> Answer<Response> {
+fn read<C: SyncReader>(client: &mut C, request: &Request<'_>) -> Answer<Response> {
     Ok(match request {
         Request::ReadCoils(at, count) => client
             .read_coils(*at, *count)?
@@ -83,7 +83,7 @@ fn read<C: Client>(client: &mut C, request: &Request<'_>) -> Answer<Response> {
 }
 
 /// Makes the typed call of a request that writes.
-fn write<C: Client>(client: &mut C, request: &Request<'_>) -> Answer<()> {
+fn write<C: SyncWriter>(client: &mut C, request: &Request<'_>) -> Answer<()> {
     match request {
         Request::WriteSingleCoil(at, state) => client.write_single_coil(*at, *state),
         Request::WriteSingleRegister(at, word) => client.write_single_register(*at, *word),
@@ -100,18 +100,33 @@ fn write<C: Client>(client: &mut C, request: &Request<'_>) -> Answer<()> {
     }
 }
 
+/// The text of the answer of the typed call of a request.
+pub fn asked<C: SyncClient>(
+    alloc: Global,
+    client: &mut C,
+    request: &Request<'_>,
+) -> Result<String, AllocError> {
+    if matches!(
+        request.function_code().value(),
+        0x05 | 0x06 | 0x0F | 0x10 | 0x16
+    ) {
+        return format!(in alloc; "{:?}", write(client, request));
+    }
+    format!(in alloc; "{:?}", read(client, request))
+}
+
 /// `typed`, the PDU of a request, and the PDU of what the client answers: a response or an exception; `-` for a fault of its link.
 pub fn answer(alloc: Global, call: &str, words: &[&str]) -> Result<Option<String>, AllocError> {
-    let &[asked, answered] = words else {
+    let &[request, answered] = words else {
         return Ok(None);
     };
     if call != "typed" {
         return Ok(None);
     }
-    let (Some(asked), Some(answered)) = (bytes(alloc, asked)?, bytes(alloc, answered)?) else {
+    let (Some(pdu), Some(answered)) = (bytes(alloc, request)?, bytes(alloc, answered)?) else {
         return Ok(None);
     };
-    let Ok(request) = decode_request(alloc, asked.as_slice()) else {
+    let Ok(request) = decode_request(alloc, pdu.as_slice()) else {
         return Ok(None);
     };
     let answer = if answered.is_empty() {
@@ -132,13 +147,5 @@ pub fn answer(alloc: Global, call: &str, words: &[&str]) -> Result<Option<String
     };
     let client: Box<dyn Client> = Box::new(alloc, once)?;
     let mut context = Context::from(client);
-    let text = if matches!(
-        request.function_code().value(),
-        0x05 | 0x06 | 0x0F | 0x10 | 0x16
-    ) {
-        format!(in alloc; "{:?}", write(&mut context, &request))?
-    } else {
-        format!(in alloc; "{:?}", read(&mut context, &request))?
-    };
-    Ok(Some(text))
+    Ok(Some(asked(alloc, &mut context, &request)?))
 }
