@@ -2,11 +2,12 @@
 
 use modbus_frame::{ExceptionCode, Response, SlaveRequest, Words};
 use modbus_link::{
-    Acceptor, Ends, Failed, FlagStop, InlineSpawner, Link, MemoryAcceptor, MemoryLink, MemorySink,
-    MemorySource, MemoryStop, Sink, Source, Spawner, Stop, TcpAcceptor, TcpLink, Worker,
+    Acceptor, Ends, Failed, FlagStop, Link, MemoryAcceptor, MemoryLink, MemorySink, MemorySource,
+    MemoryStop, Sink, Source, Spawner, Stop, TcpAcceptor, TcpLink, Worker,
 };
 use modbus_server::{
-    ProcessError, ServeError, Service, ServiceError, Terminated, rtu_over_tcp, serve_in_scope, tcp,
+    ProcessError, ServeError, Service, ServiceError, Terminated, rtu_over_tcp, serve_acceptor,
+    serve_in_scope, tcp,
 };
 use std::alloc::{AllocError, Global};
 use std::io::{Read, Result as IoResult, Write};
@@ -72,167 +73,39 @@ fn peer() -> SocketAddr {
     SocketAddr::from(([127, 0, 0, 1], 502))
 }
 
-/// What a hook does with a connection.
-#[derive(Clone, Copy)]
-enum Plan {
-    Takes,
-    Rejects,
-    Refuses,
-}
-
-/// Of two links the hook does with the first as planned, and takes the second; the signal is set after so many looks.
+/// A worker that is run serves its link once, and tells its hook the very error of that, once.
 #[test]
-fn each_link_that_the_hook_takes_is_served(rt: HostRuntime) -> Result<(), Fail> {
+fn a_worker_tells_its_error_once(rt: HostRuntime) -> Result<(), Fail> {
     let alloc = rt.alloc();
-    let none = [].as_slice();
-    for (plan, after, end, near_written, far_written) in [
-        (
-            Plan::Takes,
-            9,
-            Err(ServeError::AcceptFault),
-            ONE.as_slice(),
-            ONE.as_slice(),
-        ),
-        (
-            Plan::Rejects,
-            9,
-            Err(ServeError::AcceptFault),
-            none,
-            ONE.as_slice(),
-        ),
-        (Plan::Refuses, 9, Err(ServeError::Connect(7u8)), none, none),
-        (
-            Plan::Takes,
-            1,
-            Ok(Terminated::Aborted),
-            ONE.as_slice(),
-            none,
-        ),
-        (Plan::Takes, 0, Ok(Terminated::Aborted), none, none),
-    ] {
-        let mut near = link_of(alloc, &READ_ONE)?;
-        let mut far = link_of(alloc, &READ_ONE)?;
-        {
-            let mut links = Vec::new(alloc);
-            links.push((&mut near, peer()))?;
-            links.push((&mut far, peer()))?;
-            let mut server = rtu_over_tcp::Server::new(MemoryAcceptor::new(links));
-            let mut next = plan;
-            let answer = server.serve_until(
-                &rt,
-                alloc,
-                &mut |link, _address| {
-                    let now = next;
-                    next = Plan::Takes;
-                    match now {
-                        Plan::Takes => Ok(Some((Zero, link))),
-                        Plan::Rejects => Ok(None),
-                        Plan::Refuses => Err(7u8),
-                    }
-                },
-                |_error: ProcessError| {},
-                &mut InlineSpawner::new(),
-                &mut MemoryStop::new(after),
-            );
-            assert_eq!(rt; answer, end);
-        }
-        assert_eq!(rt; near.sink().bytes(), near_written);
-        assert_eq!(rt; far.sink().bytes(), far_written);
-    }
-    Ok(())
-}
-
-#[test]
-fn a_listener_without_a_signal_serves_until_no_link_is_left(rt: HostRuntime) -> Result<(), Fail> {
-    let alloc = rt.alloc();
-    let mut near = link_of(alloc, &READ_ADU)?;
-    let mut broken = link_of(alloc, &NO_LENGTH)?;
-    let mut far = link_of(alloc, &READ_ADU)?;
-    let errors = AtomicU64::new(0);
-    {
-        let mut links = Vec::new(alloc);
-        links.push((&mut near, peer()))?;
-        links.push((&mut broken, peer()))?;
-        links.push((&mut far, peer()))?;
-        let mut server = tcp::Server::new(MemoryAcceptor::new(links));
-        let mut new_service = |_address| -> Result<Option<Zero>, u8> { Ok(Some(Zero)) };
-        let counted = &errors;
-        let answer = server.serve(
-            &rt,
-            alloc,
-            &mut |link, address| tcp::accept_tcp_connection(link, address, &mut new_service),
-            |_error: ProcessError| {
-                counted.fetch_add(1, Ordering::SeqCst);
-            },
-            &mut InlineSpawner::new(),
-        );
-        assert_eq!(rt; answer, Err(ServeError::AcceptFault));
-    }
-    assert_eq!(rt; near.sink().bytes(), REPLY_ADU.as_slice());
-    assert_eq!(rt; broken.sink().bytes(), [].as_slice());
-    assert_eq!(rt; far.sink().bytes(), REPLY_ADU.as_slice());
-    assert_eq!(rt; errors.load(Ordering::SeqCst), 1);
-    Ok(())
-}
-
-#[test]
-fn a_worker_serves_its_link_unless_its_flag_is_raised(rt: HostRuntime) -> Result<(), Fail> {
-    let alloc = rt.alloc();
-    for (is_raised, end, given, written) in [
-        (false, Terminated::Finished, 8, ONE.as_slice()),
-        (true, Terminated::Aborted, 0, &[]),
-    ] {
-        let flag = FlagStop::new(alloc)?;
-        if is_raised {
-            flag.raise();
-        }
-        let mut link = link_of(alloc, &READ_ONE)?;
-        {
-            let mut worker = rtu_over_tcp::ConnectionWorker::new(
-                alloc,
-                &mut link,
-                Zero,
-                |_error: ProcessError| {},
-                flag.share()?,
-            );
-            assert_eq!(rt; worker.work(), Ok(end));
-        }
-        assert_eq!(rt; link.source().given(), given);
-        assert_eq!(rt; link.sink().bytes(), written);
-    }
-    for (input, answer, written) in [
+    for (input, failing_reads, error) in [
         (
             READ_ADU.as_slice(),
-            Ok(Terminated::Finished),
-            REPLY_ADU.as_slice(),
+            [0u64].as_slice(),
+            ProcessError::ReadFault,
         ),
-        (NO_LENGTH.as_slice(), Err(ProcessError::InvalidLength), &[]),
+        (NO_LENGTH.as_slice(), &[], ProcessError::InvalidLength),
     ] {
-        let mut link = link_of(alloc, input)?;
+        let source = MemorySource::new(alloc, input, &[], failing_reads)?;
+        let mut link = MemoryLink::new(source, MemorySink::new(alloc, 64, 64, &[])?, false);
+        let told = AtomicU64::new(0);
         {
-            let mut worker = tcp::ConnectionWorker::new(
+            let told = &told;
+            let worker = tcp::ConnectionWorker::new(
                 alloc,
                 &mut link,
                 Zero,
-                |_error: ProcessError| {},
+                |found: ProcessError| {
+                    let weight = if found == error { 1 } else { 100 };
+                    told.fetch_add(weight, Ordering::SeqCst);
+                },
                 MemoryStop::new(u64::MAX),
             );
-            assert_eq!(rt; worker.work(), answer);
+            worker.run();
         }
-        assert_eq!(rt; link.sink().bytes(), written);
+        assert_eq!(rt; told.load(Ordering::SeqCst), 1);
+        assert!(rt; link.sink().bytes().is_empty());
     }
     Ok(())
-}
-
-#[test]
-fn a_connection_is_what_its_maker_says(rt: HostRuntime) {
-    for made in [Ok(Some(1u8)), Ok(None), Err(7u8)] {
-        let answer = rtu_over_tcp::accept_tcp_connection(b'l', peer(), &mut |_address| made);
-        assert_eq!(rt;
-            answer,
-            made.map(|found| found.map(|service| (service, b'l')))
-        );
-    }
 }
 
 /// A spawner that keeps its workers to be run later, and has room for so many.
@@ -261,10 +134,15 @@ impl<W: Worker + Drop> Spawner<W> for Later<W> {
     }
 }
 
+/// A listener raises the flag of its workers however it ends: one that runs after it serves nothing.
 #[test]
 fn a_worker_that_runs_late_finds_its_flag_raised(rt: HostRuntime) -> Result<(), Fail> {
     let alloc = rt.alloc();
-    for (room, end) in [(2, ServeError::AcceptFault), (1, ServeError::SpawnFault)] {
+    for (room, looks, end) in [
+        (1, 9, Err(ServeError::SpawnFault)),
+        (2, 9, Err(ServeError::AcceptFault)),
+        (2, 1, Ok(Terminated::Aborted)),
+    ] {
         let mut near = link_of(alloc, &READ_ONE)?;
         let mut far = link_of(alloc, &READ_ONE)?;
         {
@@ -278,14 +156,15 @@ fn a_worker_that_runs_late_finds_its_flag_raised(rt: HostRuntime) -> Result<(), 
                 started: 0,
                 faults: 0,
             };
-            let answer = server.serve(
+            let answer = server.serve_until(
                 &rt,
                 alloc,
                 &mut |link, _address| -> Result<Option<(Zero, _)>, u8> { Ok(Some((Zero, link))) },
                 |_error: ProcessError| {},
                 &mut later,
+                &mut MemoryStop::new(looks),
             );
-            assert_eq!(rt; answer, Err(end));
+            assert!(rt; answer == end);
             for worker in later.workers {
                 worker.run();
             }
@@ -293,6 +172,38 @@ fn a_worker_that_runs_late_finds_its_flag_raised(rt: HostRuntime) -> Result<(), 
         assert_eq!(rt; near.source().given(), 0);
         assert_eq!(rt; far.source().given(), 0);
     }
+    Ok(())
+}
+
+/// The call that the program makes raises it too.
+#[test]
+fn a_worker_of_an_acceptor_finds_its_flag_raised(rt: HostRuntime) -> Result<(), Fail> {
+    let alloc = rt.alloc();
+    let mut link = link_of(alloc, &READ_ADU)?;
+    {
+        let mut links = Vec::new(alloc);
+        links.push((&mut link, peer()))?;
+        let mut later = Later {
+            workers: Vec::new(alloc),
+            room: 1,
+            started: 0,
+            faults: 0,
+        };
+        let answer = serve_acceptor::<tcp::AduBuffer, _, _, _, _, _, _, _, _>(
+            &rt,
+            alloc,
+            &mut MemoryAcceptor::new(links),
+            &mut |link, _address| -> Result<Option<(Zero, _)>, u8> { Ok(Some((Zero, link))) },
+            |_error: ProcessError| {},
+            &mut later,
+        );
+        assert!(rt; answer == Err(ServeError::AcceptFault));
+        assert_eq!(rt; later.started, 1);
+        for worker in later.workers {
+            worker.run();
+        }
+    }
+    assert_eq!(rt; link.source().given(), 0);
     Ok(())
 }
 
