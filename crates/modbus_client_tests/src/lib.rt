@@ -5,6 +5,6 @@
 #[cfg(test)]
 mod client;
 #[cfg(test)]
-mod exchange;
+mod context;
 #[cfg(test)]
-mod typed_calls;
+mod exchange;

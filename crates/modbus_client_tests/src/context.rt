@@ -1,0 +1,73 @@
+//! A client behind a box.
+
+use modbus_client::Context;
+use modbus_client::prelude::*;
+use modbus_frame::{Error, Result, ShutdownFault, TransportError};
+use std::test::Fail;
+use std::time::Duration;
+
+/// A client that answers nothing, and keeps what it is told.
+#[derive(Drop)]
+struct Silent {
+    slave: Slave,
+    timeout: Option<Duration>,
+}
+
+impl SlaveContext for Silent {
+    ghost selected = { λ silent. silent.slave.0 };
+
+    fn set_slave(&mut self, slave: Slave) {
+        self.slave = slave;
+    }
+}
+
+impl Client for Silent {
+    ghost answers = { λ _ _ _ _. Unit {0} };
+
+    ghost disconnects = { λ _ _ _. Unit {0} };
+
+    ghost time_limit = { λ silent. silent.timeout };
+
+    ghost limits = { λ _ _ _. Unit {0} };
+
+    fn call(&mut self, _request: Request<'_>) -> Result<Response> {
+        Err(Error::Transport(TransportError::NotConnected))
+    }
+
+    /// Fails for slave 9 alone.
+    fn disconnect(&mut self) -> std::result::Result<(), ShutdownFault> {
+        if self.slave == Slave(9) {
+            return Err(ShutdownFault);
+        }
+        Ok(())
+    }
+
+    fn timeout(&self) -> Option<Duration> {
+        self.timeout
+    }
+
+    fn set_timeout(&mut self, duration: Option<Duration>) {
+        self.timeout = duration;
+    }
+}
+
+#[test]
+fn a_context_forwards_to_its_client(rt: HostRuntime) -> std::result::Result<(), Fail> {
+    let silent = Silent {
+        slave: Slave(0),
+        timeout: None,
+    };
+    let client: Box<dyn Client> = Box::new(rt.alloc(), silent)?;
+    let mut context = Context::from(client);
+    context.set_timeout(Some(Duration::from_secs(2)));
+    assert!(rt; context.timeout() == Some(Duration::from_secs(2)));
+    context.reset_timeout();
+    assert!(rt; context.timeout() == None);
+    assert!(rt; context.disconnect() == Ok(()));
+    context.set_slave(Slave(9));
+    assert!(rt; context.disconnect() == Err(ShutdownFault));
+    context.set_timeout(Some(Duration::from_secs(3)));
+    let back: Box<dyn Client> = context.into();
+    assert!(rt; back.timeout() == Some(Duration::from_secs(3)));
+    Ok(())
+}
