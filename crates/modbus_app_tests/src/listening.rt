@@ -1,6 +1,7 @@
 //! Connections over memory that share one store.
 
 use modbus_app::{Framing, StoreServices, open_shared, run_listen};
+use modbus_check::check;
 use modbus_link::{InlineSpawner, MemoryAcceptor, MemoryLink, MemorySink, MemorySource};
 use modbus_server::ProcessError;
 use std::alloc::{AllocError, Global};
@@ -56,11 +57,11 @@ fn expect<R: Wait + Abort + Sync>(
             |_error: ProcessError| {},
             &mut errors,
         );
-        assert_eq!(rt; status, 12);
+        check(rt, status, 12);
     }
-    assert_eq!(rt; first.sink().bytes(), near.1);
-    assert_eq!(rt; second.sink().bytes(), far.1);
-    assert_eq!(rt; errors.bytes(), b"modbus: accept fault\n".as_slice());
+    check(rt, first.sink().bytes(), near.1);
+    check(rt, second.sink().bytes(), far.1);
+    check(rt, errors.bytes(), b"modbus: accept fault\n".as_slice());
     Ok(())
 }
 

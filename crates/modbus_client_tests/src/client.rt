@@ -1,34 +1,18 @@
-//! Calls over links in memory.
+//! Clients over links in memory.
 
 mod connections;
-mod rtu_calls;
-mod searches;
-mod tcp_calls;
+mod lent;
 
 use modbus_client::Client;
-use modbus_frame::{Error, Request, Response, Result, Slave, TransportError};
+use modbus_frame::{Error, Request, Response, Result, TransportError};
 use modbus_link::{MemoryLink, MemorySink, MemorySource};
 use std::alloc::{AllocError, Global};
 
-/// A link that gives these bytes, cut at these totals, and takes a few hundred.
-fn link(
-    alloc: Global,
-    bytes: &[u8],
-    stops: &[usize],
-) -> std::result::Result<MemoryLink, AllocError> {
-    let source = MemorySource::new(alloc, bytes, stops, &[])?;
-    let sink = MemorySink::new(alloc, 600, 600, &[])?;
+/// A link that gives nothing, and takes a request.
+fn link(alloc: Global) -> std::result::Result<MemoryLink, AllocError> {
+    let source = MemorySource::new(alloc, b"", &[], &[])?;
+    let sink = MemorySink::new(alloc, 64, 64, &[])?;
     Ok(MemoryLink::new(source, sink, false))
-}
-
-/// An RTU client of a slave over such a link.
-fn rtu_client(
-    alloc: Global,
-    slave: u8,
-    bytes: &[u8],
-    stops: &[usize],
-) -> std::result::Result<modbus_client::rtu::Client<MemoryLink>, AllocError> {
-    Ok(modbus_client::rtu::attach_slave(alloc, link(alloc, bytes, stops)?, Slave(slave)))
 }
 
 /// Whether the answer is this fault.

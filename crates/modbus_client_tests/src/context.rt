@@ -1,5 +1,6 @@
 //! A client behind a box.
 
+use modbus_check::check;
 use modbus_client::Context;
 use modbus_client::prelude::*;
 use modbus_frame::{Error, Result, ShutdownFault, TransportError};
@@ -60,14 +61,14 @@ fn a_context_forwards_to_its_client(rt: HostRuntime) -> std::result::Result<(), 
     let client: Box<dyn Client> = Box::new(rt.alloc(), silent)?;
     let mut context = Context::from(client);
     context.set_timeout(Some(Duration::from_secs(2)));
-    assert!(rt; context.timeout() == Some(Duration::from_secs(2)));
+    check(&rt, context.timeout(), Some(Duration::from_secs(2)));
     context.reset_timeout();
-    assert!(rt; context.timeout() == None);
-    assert!(rt; context.disconnect() == Ok(()));
+    check(&rt, context.timeout(), None);
+    check(&rt, context.disconnect(), Ok(()));
     context.set_slave(Slave(9));
-    assert!(rt; context.disconnect() == Err(ShutdownFault));
+    check(&rt, context.disconnect(), Err(ShutdownFault));
     context.set_timeout(Some(Duration::from_secs(3)));
     let back: Box<dyn Client> = context.into();
-    assert!(rt; back.timeout() == Some(Duration::from_secs(3)));
+    check(&rt, back.timeout(), Some(Duration::from_secs(3)));
     Ok(())
 }

@@ -1,4 +1,5 @@
 //! The adapters over readers and writers, which tell no content.
+use modbus_check::check;
 use modbus_link::{Failed, ReadSource, Sink, Source, WriteSink};
 use std::io::{Error, ErrorKind, Read, Result as IoResult, Write};
 
@@ -6,11 +7,11 @@ use std::io::{Error, ErrorKind, Read, Result as IoResult, Write};
 fn a_reader_is_read_to_its_end(rt: HostRuntime) {
     let mut source = ReadSource::new(b"abc".as_slice());
     let mut room = [0u8; 2];
-    assert_eq!(rt; source.read(&mut room), Ok(2));
-    assert_eq!(rt; room, *b"ab");
-    assert_eq!(rt; source.read(&mut room), Ok(1));
-    assert_eq!(rt; room, *b"cb");
-    assert_eq!(rt; source.read(&mut room), Ok(0));
+    check(&rt, source.read(&mut room), Ok(2));
+    check(&rt, room, *b"ab");
+    check(&rt, source.read(&mut room), Ok(1));
+    check(&rt, room, *b"cb");
+    check(&rt, source.read(&mut room), Ok(0));
 }
 
 #[test]
@@ -18,11 +19,11 @@ fn a_writer_takes_what_fits_and_then_fails(rt: HostRuntime) {
     let mut buffer = [0u8; 3];
     {
         let mut sink = WriteSink::new(buffer.as_mut_slice());
-        assert_eq!(rt; sink.write(b"ab"), Ok(2));
-        assert_eq!(rt; sink.write(b"cd"), Ok(1));
-        assert_eq!(rt; sink.write(b"d"), Err(Failed));
+        check(&rt, sink.write(b"ab"), Ok(2));
+        check(&rt, sink.write(b"cd"), Ok(1));
+        check(&rt, sink.write(b"d"), Err(Failed));
     }
-    assert_eq!(rt; buffer, *b"abc");
+    check(&rt, buffer, *b"abc");
 }
 
 /// What a reader or a writer does at one call.
@@ -92,8 +93,8 @@ fn a_read_that_fails_is_no_end_of_input(rt: HostRuntime) {
         (Err(Failed), 8),
         (Ok(0), 8),
     ] {
-        assert_eq!(rt; source.read(&mut room), result);
-        assert_eq!(rt; room[0], first);
+        check(&rt, source.read(&mut room), result);
+        check(&rt, room[0], first);
     }
 }
 
@@ -141,7 +142,7 @@ fn each_write_is_flushed_and_each_failure_is_one(rt: HostRuntime) {
             flushes,
             flushed: 0,
         };
-        assert_eq!(rt; WriteSink::new(&mut writer).write(b"abc"), result);
-        assert_eq!(rt; writer.flushed, flushed);
+        check(&rt, WriteSink::new(&mut writer).write(b"abc"), result);
+        check(&rt, writer.flushed, flushed);
     }
 }

@@ -1,4 +1,5 @@
 //! The link and the connector in memory.
+use modbus_check::check;
 use modbus_link::{
     Connector, Failed, Link, MemoryConnector, MemoryLink, MemorySink, MemorySource, Sink, Source,
 };
@@ -18,16 +19,20 @@ fn small_link(alloc: Global, shutdown_fails: bool) -> Result<MemoryLink, AllocEr
 fn a_link_has_both_ends_and_a_shutdown(rt: HostRuntime) -> Result<(), Fail> {
     let mut link = small_link(rt.alloc(), false)?;
     let mut room = [0u8; 3];
-    assert_eq!(rt; link.read(&mut room), Ok(2));
-    assert_eq!(rt; link.write(b"xyzw"), Ok(3));
+    check(&rt, link.read(&mut room), Ok(2));
+    check(&rt, link.write(b"xyzw"), Ok(3));
     link.set_timeout(Some(Duration::from_secs(2)));
-    assert!(rt; link.timeout() == Some(Duration::from_secs(2)));
-    assert_eq!(rt; link.shutdown(), Ok(()));
-    assert_eq!(rt; link.source().given(), 2);
-    assert_eq!(rt; link.sink().bytes(), b"xyz".as_slice());
+    check(&rt, link.timeout(), Some(Duration::from_secs(2)));
+    check(&rt, link.shutdown(), Ok(()));
+    check(&rt, link.source().given(), 2);
+    check(&rt, link.sink().bytes(), b"xyz".as_slice());
+    Ok(())
+}
 
+#[test]
+fn a_shutdown_may_fail(rt: HostRuntime) -> Result<(), Fail> {
     let mut broken = small_link(rt.alloc(), true)?;
-    assert_eq!(rt; broken.shutdown(), Err(Failed));
+    check(&rt, broken.shutdown(), Err(Failed));
     Ok(())
 }
 
@@ -43,14 +48,19 @@ fn connect<C: Connector + Drop>(
 fn a_connector_gives_its_link_once(rt: HostRuntime) -> Result<(), Fail> {
     let mut connector = MemoryConnector::new(Some(small_link(rt.alloc(), false)?));
     let mut link = connect(&mut connector, Some(Duration::from_secs(2)))?;
-    assert_eq!(rt; link.read(&mut [0u8; 3]), Ok(2));
+    check(&rt, link.read(&mut [0u8; 3]), Ok(2));
     assert!(rt; link.timeout().is_none());
     for timeout in [None, Some(Duration::from_secs(2))] {
         assert!(rt; connect(&mut connector, timeout).is_err());
     }
-    assert_eq!(rt;
-        connect(MemoryConnector::<u8>::new(None), None),
-        Err(Failed)
-    );
     Ok(())
+}
+
+#[test]
+fn a_connector_may_have_no_link(rt: HostRuntime) {
+    check(
+        &rt,
+        connect(MemoryConnector::<u8>::new(None), None),
+        Err(Failed),
+    );
 }

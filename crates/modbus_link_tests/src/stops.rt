@@ -1,4 +1,5 @@
 //! Signals to stop.
+use modbus_check::check;
 use modbus_link::{FlagStop, MemoryStop, Stop};
 use std::test::Fail;
 
@@ -9,15 +10,15 @@ fn three_looks<X: Stop + Drop>(mut stop: X) -> [bool; 3] {
 
 #[test]
 fn a_flag_is_raised_for_each_of_its_shares(rt: HostRuntime) -> Result<(), Fail> {
-    assert_eq!(rt; three_looks(MemoryStop::new(1)), [false, true, true]);
+    check(&rt, three_looks(MemoryStop::new(1)), [false, true, true]);
     let mut first = FlagStop::new(rt.alloc())?;
     let mut second = first.share()?;
     let other = FlagStop::new(rt.alloc())?;
-    assert_eq!(rt; three_looks(&mut first), [false, false, false]);
+    check(&rt, three_looks(&mut first), [false, false, false]);
     second.raise();
-    assert_eq!(rt; three_looks(&mut first), [true, true, true]);
-    assert_eq!(rt; three_looks(&mut second), [true, true, true]);
-    assert_eq!(rt; three_looks(second.share()?), [true, true, true]);
-    assert_eq!(rt; three_looks(other), [false, false, false]);
+    check(&rt, three_looks(&mut first), [true, true, true]);
+    check(&rt, three_looks(&mut second), [true, true, true]);
+    check(&rt, three_looks(second.share()?), [true, true, true]);
+    check(&rt, three_looks(other), [false, false, false]);
     Ok(())
 }

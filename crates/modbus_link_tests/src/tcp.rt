@@ -1,4 +1,5 @@
 //! Links over TCP, what makes them and what accepts them, over loopback and on one thread: a peer is accepted once it has connected.
+use modbus_check::check;
 use modbus_link::{
     Acceptor, Connector, Failed, FlagStop, Link, MemoryLink, Sink, Source, TcpAcceptor,
     TcpConnector, TcpLink,
@@ -36,21 +37,21 @@ fn bytes_go_both_ways_until_the_peer_closes(rt: HostRuntime) -> Result<(), Fail>
     } = open_pair(&rt)?;
     let mut link = TcpLink::new(stream);
     assert!(rt; handle.nodelay()?);
-    assert_eq!(rt; link.write(b"ask"), Ok(3));
+    check(&rt, link.write(b"ask"), Ok(3));
     let mut asked = [0u8; 3];
     peer.read_exact(&mut asked)?;
-    assert_eq!(rt; asked, *b"ask");
+    check(&rt, asked, *b"ask");
     peer.write_all(b"answer")?;
     let mut room = [0u8; 8];
-    assert_eq!(rt; link.read(&mut room), Ok(6));
-    assert_eq!(rt; room, *b"answer\0\0");
-    assert_eq!(rt; link.write(b""), Ok(0));
+    check(&rt, link.read(&mut room), Ok(6));
+    check(&rt, room, *b"answer\0\0");
+    check(&rt, link.write(b""), Ok(0));
     drop(peer);
-    assert_eq!(rt; link.read(&mut room), Ok(0));
+    check(&rt, link.read(&mut room), Ok(0));
     // The second one finds nobody connected.
-    assert_eq!(rt; link.shutdown(), Ok(()));
-    assert_eq!(rt; link.shutdown(), Ok(()));
-    assert_eq!(rt; link.write(b"ask"), Err(Failed));
+    check(&rt, link.shutdown(), Ok(()));
+    check(&rt, link.shutdown(), Ok(()));
+    check(&rt, link.write(b"ask"), Err(Failed));
     Ok(())
 }
 
@@ -70,11 +71,11 @@ fn a_timeout_is_set_at_the_next_write_both_ways(rt: HostRuntime) -> Result<(), F
     handle.set_read_timeout(before)?;
     handle.set_write_timeout(before)?;
     let mut link = TcpLink::new(stream);
-    assert_eq!(rt; link.write(b"a"), Ok(1));
+    check(&rt, link.write(b"a"), Ok(1));
     for limit in [None, Some(Duration::from_secs(2)), None] {
         link.set_timeout(limit);
         assert!(rt; timeouts(&handle)? == (before, before));
-        assert_eq!(rt; link.write(b"a"), Ok(1));
+        check(&rt, link.write(b"a"), Ok(1));
         assert!(rt; timeouts(&handle)? == (limit, limit));
         before = limit;
     }
@@ -100,8 +101,8 @@ fn a_timeout_that_expires_or_is_refused_is_a_fault(rt: HostRuntime) -> Result<()
     ] {
         link.set_timeout(limit);
         peer.write_all(sent)?;
-        assert_eq!(rt; link.read(&mut room), read);
-        assert_eq!(rt; link.write(b"a"), wrote);
+        check(&rt, link.read(&mut room), read);
+        check(&rt, link.write(b"a"), wrote);
     }
     Ok(())
 }
@@ -114,12 +115,12 @@ fn a_connector_opens_connections_until_nobody_listens(rt: HostRuntime) -> Result
     for timeout in [None, Some(Duration::from_secs(2))] {
         let mut link = (&mut connector).connect(address, timeout)?;
         let (mut peer, _) = listener.accept()?;
-        assert_eq!(rt; link.write(b"ask"), Ok(3));
+        check(&rt, link.write(b"ask"), Ok(3));
         let mut asked = [0u8; 3];
         peer.read_exact(&mut asked)?;
-        assert_eq!(rt; asked, *b"ask");
+        check(&rt, asked, *b"ask");
         peer.write_all(&asked)?;
-        assert_eq!(rt; link.read(&mut asked), Ok(3));
+        check(&rt, link.read(&mut asked), Ok(3));
     }
     // There is somebody, but no time to connect.
     assert!(rt; connector.connect(address, Some(Duration::ZERO)).is_err());
@@ -142,8 +143,8 @@ fn an_acceptor_gives_the_links_of_peers_in_order(rt: HostRuntime) -> Result<(), 
         let (mut link, from) = (&mut acceptor).accept()?;
         assert!(rt; from == peer.local_addr()?);
         let mut room = [0u8; 3];
-        assert_eq!(rt; link.read(&mut room), Ok(3));
-        assert_eq!(rt; room, *text);
+        check(&rt, link.read(&mut room), Ok(3));
+        check(&rt, room, *text);
     }
     // Nobody else has connected, and this listener does not wait.
     assert!(rt; acceptor.accept().is_err());

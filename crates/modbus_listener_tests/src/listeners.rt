@@ -1,5 +1,6 @@
 //! Listeners and the workers of connections, over memory and over TCP, on the caller and in threads of a scope.
 
+use modbus_check::check;
 use modbus_frame::{ExceptionCode, Response, SlaveRequest, Words};
 use modbus_link::{
     Acceptor, Ends, Failed, FlagStop, Link, MemoryAcceptor, MemoryLink, MemorySink, MemorySource,
@@ -12,6 +13,7 @@ use modbus_server::{
 use std::alloc::{AllocError, Global};
 use std::io::{Read, Result as IoResult, Write};
 use std::net::{Net, SocketAddr, TcpListener, TcpStream};
+use std::sync::Wait;
 use std::sync::atomic::{AtomicU64, Ordering};
 use std::test::Fail;
 use std::thread;
@@ -73,38 +75,41 @@ fn peer() -> SocketAddr {
     SocketAddr::from(([127, 0, 0, 1], 502))
 }
 
+/// How often a worker that is run tells its hook this error; another one counts a hundred times. And what was written to its link.
+fn told(
+    alloc: Global,
+    input: &[u8],
+    failing_reads: &[u64],
+    error: ProcessError,
+) -> Result<(u64, usize), AllocError> {
+    let source = MemorySource::new(alloc, input, &[], failing_reads)?;
+    let mut link = MemoryLink::new(source, MemorySink::new(alloc, 64, 64, &[])?, false);
+    let told = AtomicU64::new(0);
+    {
+        let told = &told;
+        let hook = |found: ProcessError| {
+            told.fetch_add(if found == error { 1 } else { 100 }, Ordering::SeqCst);
+        };
+        let stop = MemoryStop::new(u64::MAX);
+        tcp::ConnectionWorker::new(alloc, &mut link, Zero, hook, stop).run();
+    }
+    Ok((told.load(Ordering::SeqCst), link.sink().bytes().len()))
+}
+
 /// A worker that is run serves its link once, and tells its hook the very error of that, once.
 #[test]
 fn a_worker_tells_its_error_once(rt: HostRuntime) -> Result<(), Fail> {
     let alloc = rt.alloc();
-    for (input, failing_reads, error) in [
-        (
-            READ_ADU.as_slice(),
-            [0u64].as_slice(),
-            ProcessError::ReadFault,
-        ),
-        (NO_LENGTH.as_slice(), &[], ProcessError::InvalidLength),
-    ] {
-        let source = MemorySource::new(alloc, input, &[], failing_reads)?;
-        let mut link = MemoryLink::new(source, MemorySink::new(alloc, 64, 64, &[])?, false);
-        let told = AtomicU64::new(0);
-        {
-            let told = &told;
-            let worker = tcp::ConnectionWorker::new(
-                alloc,
-                &mut link,
-                Zero,
-                |found: ProcessError| {
-                    let weight = if found == error { 1 } else { 100 };
-                    told.fetch_add(weight, Ordering::SeqCst);
-                },
-                MemoryStop::new(u64::MAX),
-            );
-            worker.run();
-        }
-        assert_eq!(rt; told.load(Ordering::SeqCst), 1);
-        assert!(rt; link.sink().bytes().is_empty());
-    }
+    check(
+        &rt,
+        told(alloc, &READ_ADU, &[0], ProcessError::ReadFault)?,
+        (1, 0),
+    );
+    check(
+        &rt,
+        told(alloc, &NO_LENGTH, &[], ProcessError::InvalidLength)?,
+        (1, 0),
+    );
     Ok(())
 }
 
@@ -134,6 +139,48 @@ impl<W: Worker + Drop> Spawner<W> for Later<W> {
     }
 }
 
+impl<W: Worker + Drop> Later<W> {
+    fn new(alloc: Global, room: usize) -> Later<W> {
+        Later {
+            workers: Vec::new(alloc),
+            room,
+            started: 0,
+            faults: 0,
+        }
+    }
+}
+
+/// How a listener over two links ended whose workers run after it, and what these read then.
+fn served_late<R: Wait>(
+    rt: &R,
+    alloc: Global,
+    room: usize,
+    looks: u64,
+) -> Result<(Result<Terminated, ServeError<u8>>, usize, usize), AllocError> {
+    let mut near = link_of(alloc, &READ_ONE)?;
+    let mut far = link_of(alloc, &READ_ONE)?;
+    let answer = {
+        let mut links = Vec::new(alloc);
+        links.push((&mut near, peer()))?;
+        links.push((&mut far, peer()))?;
+        let mut server = rtu_over_tcp::Server::new(MemoryAcceptor::new(links));
+        let mut later = Later::new(alloc, room);
+        let answer = server.serve_until(
+            rt,
+            alloc,
+            &mut |link, _address| -> Result<Option<(Zero, _)>, u8> { Ok(Some((Zero, link))) },
+            |_error: ProcessError| {},
+            &mut later,
+            &mut MemoryStop::new(looks),
+        );
+        for worker in later.workers {
+            worker.run();
+        }
+        answer
+    };
+    Ok((answer, near.source().given(), far.source().given()))
+}
+
 /// A listener raises the flag of its workers however it ends: one that runs after it serves nothing.
 #[test]
 fn a_worker_that_runs_late_finds_its_flag_raised(rt: HostRuntime) -> Result<(), Fail> {
@@ -143,67 +190,45 @@ fn a_worker_that_runs_late_finds_its_flag_raised(rt: HostRuntime) -> Result<(), 
         (2, 9, Err(ServeError::AcceptFault)),
         (2, 1, Ok(Terminated::Aborted)),
     ] {
-        let mut near = link_of(alloc, &READ_ONE)?;
-        let mut far = link_of(alloc, &READ_ONE)?;
-        {
-            let mut links = Vec::new(alloc);
-            links.push((&mut near, peer()))?;
-            links.push((&mut far, peer()))?;
-            let mut server = rtu_over_tcp::Server::new(MemoryAcceptor::new(links));
-            let mut later = Later {
-                workers: Vec::new(alloc),
-                room,
-                started: 0,
-                faults: 0,
-            };
-            let answer = server.serve_until(
-                &rt,
-                alloc,
-                &mut |link, _address| -> Result<Option<(Zero, _)>, u8> { Ok(Some((Zero, link))) },
-                |_error: ProcessError| {},
-                &mut later,
-                &mut MemoryStop::new(looks),
-            );
-            assert!(rt; answer == end);
-            for worker in later.workers {
-                worker.run();
-            }
-        }
-        assert_eq!(rt; near.source().given(), 0);
-        assert_eq!(rt; far.source().given(), 0);
+        check(&rt, served_late(&rt, alloc, room, looks)?, (end, 0, 0));
     }
     Ok(())
 }
 
-/// The call that the program makes raises it too.
-#[test]
-fn a_worker_of_an_acceptor_finds_its_flag_raised(rt: HostRuntime) -> Result<(), Fail> {
-    let alloc = rt.alloc();
+/// How a listener without a signal ended whose one worker runs after it, how many were started, and what that one read then.
+fn served_late_by_acceptor<R: Wait>(
+    rt: &R,
+    alloc: Global,
+) -> Result<(Result<(), ServeError<u8>>, u64, usize), AllocError> {
     let mut link = link_of(alloc, &READ_ADU)?;
-    {
+    let (answer, started) = {
         let mut links = Vec::new(alloc);
         links.push((&mut link, peer()))?;
-        let mut later = Later {
-            workers: Vec::new(alloc),
-            room: 1,
-            started: 0,
-            faults: 0,
-        };
+        let mut later = Later::new(alloc, 1);
         let answer = serve_acceptor::<tcp::AduBuffer, _, _, _, _, _, _, _, _>(
-            &rt,
+            rt,
             alloc,
             &mut MemoryAcceptor::new(links),
             &mut |link, _address| -> Result<Option<(Zero, _)>, u8> { Ok(Some((Zero, link))) },
             |_error: ProcessError| {},
             &mut later,
         );
-        assert!(rt; answer == Err(ServeError::AcceptFault));
-        assert_eq!(rt; later.started, 1);
         for worker in later.workers {
             worker.run();
         }
-    }
-    assert_eq!(rt; link.source().given(), 0);
+        (answer, later.started)
+    };
+    Ok((answer, started, link.source().given()))
+}
+
+/// The call that the program makes raises it too.
+#[test]
+fn a_worker_of_an_acceptor_finds_its_flag_raised(rt: HostRuntime) -> Result<(), Fail> {
+    check(
+        &rt,
+        served_late_by_acceptor(&rt, rt.alloc())?,
+        (Err(ServeError::AcceptFault), 1, 0),
+    );
     Ok(())
 }
 
@@ -363,10 +388,10 @@ fn two_connections_at_once(rt: HostRuntime) -> Result<(), Fail> {
                 scope,
             )
         });
-        assert_eq!(rt; answer, Err(ServeError::AcceptFault));
+        check(&rt, answer, Err(ServeError::AcceptFault));
     }
-    assert_eq!(rt; near.sink().bytes(), ONE.as_slice());
-    assert_eq!(rt; far.sink().bytes(), ONE.as_slice());
+    check(&rt, near.sink().bytes(), ONE.as_slice());
+    check(&rt, far.sink().bytes(), ONE.as_slice());
     Ok(())
 }
 
@@ -413,6 +438,6 @@ fn a_connection_over_tcp_has_a_thread(rt: HostRuntime) -> Result<(), Fail> {
             client.join(handle)
         },
     )?;
-    assert_eq!(rt; reply, REPLY_ADU);
+    check(&rt, reply, REPLY_ADU);
     Ok(())
 }

@@ -1,5 +1,6 @@
 //! Eight passes that call a shared store at one time: what each is answered, and where its calls stand in the history.
 
+use modbus_check::check;
 use modbus_frame::{Request, Response, SlaveRequest, Words};
 use modbus_service::Service;
 use modbus_store::{
@@ -169,9 +170,9 @@ fn eight_passes_call_at_one_time(rt: HostRuntime) -> Result<(), Fail> {
     let Some((seen, history)) = calls_of_eight(&rt, alloc) else {
         panic!(rt; "each call was answered, and the threads met")
     };
-    assert_eq!(rt; (seen, history.len()), (400, 400));
+    check(&rt, (seen, history.len()), (400, 400));
     for number in 1..9 {
-        assert_eq!(rt; calls_in_order(alloc, &history, number), Some(CALLS));
+        check(&rt, calls_in_order(alloc, &history, number), Some(CALLS));
     }
     Ok(())
 }

@@ -1,6 +1,7 @@
 //! Calls of clients over links in memory, and of a service without a link.
 
 use crate::outside::{Outside, read_outside};
+use crate::servers::SameWords;
 use crate::text::{bytes, hex, number};
 use crate::typed::asked;
 use modbus_app::{Form, Framing, open};
@@ -206,8 +207,53 @@ fn exchanged(alloc: Global, slave: u8, request: Request<'_>) -> Result<Option<St
     Ok(Some(answered(alloc, exchange(alloc, Slave(slave), request, &mut store))?))
 }
 
-/// `rtu_call` or `tcp_call`, a slave, steps with commas between them, and the outside of the link; or `rtu_polled`, `tcp_polled` (of
-/// transaction 1) or `exchange`, a slave, the PDU of a request, and the outside. A polled call has two turns.
+/// The answer of a service that answers so many registers, and how often it was asked.
+fn exchanged_words(
+    alloc: Global,
+    slave: u8,
+    request: Request<'_>,
+    count: u16,
+) -> Result<Option<String>, AllocError> {
+    let mut service = SameWords::new(count);
+    let answer = answered(alloc, exchange(alloc, Slave(slave), request, &mut service))?;
+    let calls = service.calls;
+    Ok(Some(format!(in alloc; "{answer} asked {calls}")?))
+}
+
+/// `rtu_polled`, `tcp_polled` (of transaction 1), `exchange` or `exchange_words`, a slave, the PDU of a request, and the outside, or how many
+/// registers the service answers. A polled call has two turns.
+fn one_call(
+    alloc: Global,
+    call: &str,
+    slave: u8,
+    pdu: &str,
+    words: &[&str],
+) -> Result<Option<String>, AllocError> {
+    let Some(pdu) = bytes(alloc, pdu)? else {
+        return Ok(None);
+    };
+    let Ok(request) = decode_request(alloc, pdu.as_slice()) else {
+        return Ok(None);
+    };
+    match (call, words) {
+        ("exchange", []) => return exchanged(alloc, slave, request),
+        ("exchange_words", [count]) => match number(count) {
+            Some(count) => return exchanged_words(alloc, slave, request, count),
+            None => return Ok(None),
+        },
+        _ => {}
+    }
+    let Some(outside) = read_outside(alloc, words)? else {
+        return Ok(None);
+    };
+    match call {
+        "rtu_polled" => rtu_polled(alloc, slave, request, outside),
+        "tcp_polled" => tcp_polled(alloc, slave, request, outside),
+        _ => Ok(None),
+    }
+}
+
+/// `rtu_call` or `tcp_call`, a slave, steps with commas between them, and the outside of the link; or what `one_call` has.
 pub fn answer(alloc: Global, call: &str, words: &[&str]) -> Result<Option<String>, AllocError> {
     let [slave, asked, words @ ..] = words else {
         return Ok(None);
@@ -218,24 +264,15 @@ pub fn answer(alloc: Global, call: &str, words: &[&str]) -> Result<Option<String
     let Ok(slave) = u8::try_from(slave) else {
         return Ok(None);
     };
+    if call != "rtu_call" && call != "tcp_call" {
+        return one_call(alloc, call, slave, asked, words);
+    }
     let Some(outside) = read_outside(alloc, words)? else {
         return Ok(None);
     };
-    match call {
-        "rtu_call" => return rtu_calls(alloc, slave, asked, outside.into_link()),
-        "tcp_call" => return tcp_calls(alloc, slave, asked, outside.into_link()),
-        _ => {}
-    }
-    let Some(pdu) = bytes(alloc, asked)? else {
-        return Ok(None);
-    };
-    let Ok(request) = decode_request(alloc, pdu.as_slice()) else {
-        return Ok(None);
-    };
-    match call {
-        "rtu_polled" => rtu_polled(alloc, slave, request, outside),
-        "tcp_polled" => tcp_polled(alloc, slave, request, outside),
-        "exchange" => exchanged(alloc, slave, request),
-        _ => Ok(None),
+    if call == "rtu_call" {
+        rtu_calls(alloc, slave, asked, outside.into_link())
+    } else {
+        tcp_calls(alloc, slave, asked, outside.into_link())
     }
 }

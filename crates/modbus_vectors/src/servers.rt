@@ -3,12 +3,12 @@
 use crate::outside::{Outside, read_outside};
 use crate::text::{hex, number};
 use modbus_frame::{Response, SlaveRequest, Words};
-use modbus_link::{MemoryStop, Polled, PolledMemoryLink};
+use modbus_link::{Both, MemoryStop, Polled, PolledMemoryLink};
 use modbus_rtu::Inbox;
 use modbus_server::tcp::AduBuffer;
 use modbus_server::{
-    ConnectionWorker, Forward, Framing, PolledProcess, ProcessError, Service, ServiceError, rtu,
-    rtu_over_tcp, tcp,
+    Connection, ConnectionWorker, Forward, Framing, PolledProcess, ProcessError, Service,
+    ServiceError, rtu, rtu_over_tcp, tcp,
 };
 use std::alloc::{AllocError, Global};
 use std::fmt::Debug;
@@ -17,7 +17,7 @@ use std::fmt::Debug;
 #[derive(Drop)]
 pub struct SameWords {
     count: usize,
-    calls: u64,
+    pub calls: u64,
 }
 
 impl SameWords {
@@ -75,6 +75,46 @@ fn served(
         _ => return Ok(None),
     };
     told(alloc, &ended, sink.bytes(), source.given(), service)
+}
+
+/// A source and a sink that are lent as one object, and a service that is lent.
+fn served_by_lent(
+    alloc: Global,
+    framing: &str,
+    service: &mut SameWords,
+    turns: u64,
+    outside: Outside,
+) -> Result<Option<String>, AllocError> {
+    let mut source = outside.source;
+    let mut sink = outside.sink;
+    let link = &mut Both::new(&mut source, &mut sink);
+    let ended = match framing {
+        "rtu" => rtu_over_tcp::process_link(alloc, link, &mut Forward(&mut *service), turns),
+        "tcp" => tcp::process_link(alloc, link, &mut Forward(&mut *service), turns),
+        _ => return Ok(None),
+    };
+    told(alloc, &ended, sink.bytes(), source.given(), service)
+}
+
+/// What the steps of a connection answer: at 1 it may read, and at 0 it may not.
+fn stepped<I: Framing>(
+    alloc: Global,
+    service: &mut SameWords,
+    reads: &str,
+    outside: Outside,
+) -> Result<Option<String>, AllocError> {
+    let mut source = outside.source;
+    let mut sink = outside.sink;
+    let mut connection = Connection::<I>::open(alloc)?;
+    let mut steps = Vec::new(alloc);
+    for may_read in reads.as_bytes() {
+        if !connection.is_open() || !connection.to_write().is_empty() {
+            break;
+        }
+        let may_read = *may_read == b'1';
+        steps.push(connection.step(alloc, &mut source, &mut sink, service, may_read))?;
+    }
+    told(alloc, &steps, sink.bytes(), source.given(), service)
 }
 
 /// How many of the next polls are pending, and the answer of the first that is not, among a hundred.
@@ -171,22 +211,31 @@ fn worked<I: Framing>(
     )
 }
 
-/// `serve`, `polled_serve`, `serve_until` or `work`; a framing; how many registers the service answers; how many reads may give bytes, or how often
-/// the signal is looked at before it is set; and the outside.
+/// `serve`, `serve_lent`, `polled_serve`, `serve_until` or `work`; a framing; how many registers the service answers; how many reads may
+/// give bytes, or how often the signal is looked at before it is set; and the outside. `step`, with the steps in place of that number.
 pub fn answer(alloc: Global, call: &str, words: &[&str]) -> Result<Option<String>, AllocError> {
     let [framing, count, turns, words @ ..] = words else {
         return Ok(None);
     };
-    let (Some(count), Some(turns)) = (number(count), number(turns)) else {
+    let Some(count) = number(count) else {
         return Ok(None);
     };
     let Some(outside) = read_outside(alloc, words)? else {
         return Ok(None);
     };
     let mut service = SameWords::new(count);
+    match (call, *framing) {
+        ("step", "rtu") => return stepped::<Inbox>(alloc, &mut service, turns, outside),
+        ("step", "tcp") => return stepped::<AduBuffer>(alloc, &mut service, turns, outside),
+        _ => {}
+    }
+    let Some(turns) = number(turns) else {
+        return Ok(None);
+    };
     let turns = u64::from(turns);
     match call {
         "serve" => served(alloc, framing, &mut service, turns, outside),
+        "serve_lent" => served_by_lent(alloc, framing, &mut service, turns, outside),
         "polled_serve" => served_by_polls(alloc, framing, &mut service, turns, outside),
         "serve_until" if *framing == "rtu" => served_until(alloc, &mut service, turns, outside),
         "work" if *framing == "rtu" => worked::<Inbox>(alloc, &mut service, turns, outside),

@@ -1,10 +1,11 @@
 //! Clients that are connected to a TCP device.
 
 use super::{ask, is_fault, link};
+use modbus_check::check;
 use modbus_client::{Client, tcp};
 use modbus_frame::{ConnectFault, Slave, TransportError};
 use modbus_link::{Connector, Link, MemoryConnector, MemoryLink};
-use std::alloc::Global;
+use std::alloc::{AllocError, Global};
 use std::net::{Ipv4Addr, SocketAddr};
 use std::test::Fail;
 use std::time::Duration;
@@ -43,48 +44,42 @@ fn is_refused(
     }
 }
 
+/// Whether a client that is connected so asks this over a link with this time-out, and its connector has no second link.
+fn asks(
+    alloc: Global,
+    slave: Option<Slave>,
+    timeout: Option<Duration>,
+    request: &[u8],
+) -> Result<bool, AllocError> {
+    let mut connector = MemoryConnector::new(Some(link(alloc)?));
+    let asks = match connected(alloc, &mut connector, slave, timeout) {
+        Ok(mut client) => {
+            let is_limited = client.timeout() == timeout;
+            let is_answered = !is_fault(ask(&mut client), TransportError::BrokenPipe);
+            is_limited && !is_answered && has_sent(client.link(), timeout, request)
+        }
+        Err(ConnectFault) => false,
+    };
+    Ok(asks && is_refused(alloc, &mut connector, slave, timeout))
+}
+
+/// Whether there is a link with this time-out, to which this was written.
+fn has_sent(link: Option<&MemoryLink>, timeout: Option<Duration>, request: &[u8]) -> bool {
+    match link {
+        Some(link) => link.timeout() == timeout && link.sink().bytes() == request,
+        None => false,
+    }
+}
+
 #[test]
 fn a_client_has_the_link_of_its_connector(rt: HostRuntime) -> Result<(), Fail> {
+    let alloc = rt.alloc();
     let two_seconds = Some(Duration::from_secs(2));
-    for (slave, timeout, request) in [
-        (
-            None,
-            None,
-            b"\x00\x00\x00\x00\x00\x06\xFF\x03\x00\x00\x00\x01",
-        ),
-        (
-            None,
-            two_seconds,
-            b"\x00\x00\x00\x00\x00\x06\xFF\x03\x00\x00\x00\x01",
-        ),
-        (
-            Some(Slave(9)),
-            None,
-            b"\x00\x00\x00\x00\x00\x06\x09\x03\x00\x00\x00\x01",
-        ),
-        (
-            Some(Slave(9)),
-            two_seconds,
-            b"\x00\x00\x00\x00\x00\x06\x09\x03\x00\x00\x00\x01",
-        ),
-    ] {
-        let mut connector = MemoryConnector::new(Some(link(rt.alloc(), b"", &[])?));
-        match connected(rt.alloc(), &mut connector, slave, timeout) {
-            Ok(mut client) => {
-                assert!(rt; client.timeout() == timeout);
-                assert!(rt; is_fault(ask(&mut client), TransportError::BrokenPipe));
-                match client.link() {
-                    Some(link) => {
-                        assert!(rt; link.timeout() == timeout);
-                        assert_eq!(rt; link.sink().bytes(), request.as_slice());
-                    }
-                    None => assert!(rt; false, "no link"),
-                }
-            }
-            Err(ConnectFault) => assert!(rt; false, "not connected"),
-        }
-        assert!(rt; is_refused(rt.alloc(), &mut connector, slave, timeout));
-        assert!(rt; is_refused(rt.alloc(), &mut MemoryConnector::new(None), slave, timeout));
-    }
+    let all = b"\x00\x00\x00\x00\x00\x06\xFF\x03\x00\x00\x00\x01";
+    let ninth = b"\x00\x00\x00\x00\x00\x06\x09\x03\x00\x00\x00\x01";
+    check(&rt, asks(alloc, None, None, all)?, true);
+    check(&rt, asks(alloc, None, two_seconds, all)?, true);
+    check(&rt, asks(alloc, Some(Slave(9)), None, ninth)?, true);
+    check(&rt, asks(alloc, Some(Slave(9)), two_seconds, ninth)?, true);
     Ok(())
 }
