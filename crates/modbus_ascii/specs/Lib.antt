@@ -1,0 +1,5 @@
+pub mod Checksum
+pub mod Limits
+pub mod Text
+pub mod Frames
+pub mod Decoder

@@ -1,0 +1,18 @@
+//! Hexadecimal digits (MODBUS over Serial Line V1.02, section 2.5.2).
+ghost use Rattle.std.specs.Prelude.{◌≡◌, ◌<◌, IfSome, IsSome, ◌↔◌, true};
+ghost use Rattle.modbus_ascii.specs.Frames.{is_digit, digit_value};
+
+/// The value of a digit, of either case.
+#[inline(always)]
+pub(crate) fn value_of_digit(character: u8) -> Option<u8>
+    ensures digit { IsSome result ↔ (is_digit character ≡ true) }
+    ensures value { IfSome result (λ value. value ≡ digit_value character) }
+    ensures below { IfSome result (λ value. value < 16) }
+{
+    match character {
+        b'0'..=b'9' => Some(character - b'0'),
+        b'A'..=b'F' => Some(character - b'A' + 10),
+        b'a'..=b'f' => Some(character - b'a' + 10),
+        _ => None,
+    }
+}

@@ -1,0 +1,13 @@
+//! The ASCII transmission mode of a serial line: the LRC, frames in characters, and a server (MODBUS over Serial Line V1.02,
+//! section 2.5.2).
+//!
+//! A frame is a `:`, two hexadecimal digits for each byte of slave address, PDU and LRC, and CR and LF. The definitions say which frames a
+//! whole list of bytes delivers, whatever its pieces; a decoder keeps to them with one look at each byte.
+#![tactic(auto)]
+
+mod checksum;
+mod decoder;
+mod digit;
+
+pub use crate::checksum::lrc;
+pub use crate::decoder::{AsciiDecoder, AsciiFrame, OVERHEAD};
