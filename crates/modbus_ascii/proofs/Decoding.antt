@@ -14,7 +14,7 @@ use Rattle.modbus_ascii.specs.Decoder.{Reading, digits_of, IsUseless, KeepsAs, K
 use Rattle.modbus_ascii.proofs.Ends.{but_last, opened, given, suc-zero, open_end-more, frames-more}
 use Rattle.modbus_ascii.proofs.Digits.{length-text, frame_of-digits, useless-more, useless-other, useless-long}
 
-last-push : (xs : List ℕ) (b : ℕ) → last (xs ++ b ∷ []) ≡ b
+pub last-push : (xs : List ℕ) (b : ℕ) → last (xs ++ b ∷ []) ≡ b
 last-push [] b = refl
 last-push (x ∷ []) b = refl
 last-push (x ∷ y ∷ ys) b = last-push (y ∷ ys) b

@@ -149,7 +149,7 @@ marks x [] h = h
 marks x (y ∷ ys) h = rw h refl
 
 -- a text that is open has no `:` in it
-no-colon : (x : ℕ) (xs : List ℕ) → is_open (x ∷ xs) ≡ true → ((x == colon) ≡ false) × (is_open xs ≡ true)
+pub no-colon : (x : ℕ) (xs : List ℕ) → is_open (x ∷ xs) ≡ true → ((x == colon) ≡ false) × (is_open xs ≡ true)
 unfolding from_end
 no-colon x xs e = by_marks (x == colon) (begins_end (x ∷ xs)) (marks x xs) e
   where
@@ -159,12 +159,12 @@ no-colon x xs e = by_marks (x == colon) (begins_end (x ∷ xs)) (marks x xs) e
     by_marks false false h e = (refl, e)
     by_marks true false h e = cc (h refl)
 
-open-none : (xs : List ℕ) → is_open xs ≡ true → open_end xs ≡ []
+pub open-none : (xs : List ℕ) → is_open xs ≡ true → open_end xs ≡ []
 unfolding open_end
 open-none [] e = refl
 open-none (x ∷ xs) e = let f = no-colon x xs e in rw f.0 (open-none xs f.1)
 
-open-quiet : (xs : List ℕ) → is_open xs ≡ true → frames xs ≡ []
+pub open-quiet : (xs : List ℕ) → is_open xs ≡ true → frames xs ≡ []
 unfolding frames
 open-quiet [] e = refl
 open-quiet (x ∷ xs) e = let f = no-colon x xs e in rw f.0 (open-quiet xs f.1)

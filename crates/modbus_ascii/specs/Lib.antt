@@ -3,3 +3,5 @@ pub mod Limits
 pub mod Text
 pub mod Frames
 pub mod Decoder
+pub mod Encoding
+pub mod Stands

@@ -36,3 +36,11 @@ longest_text = 2 * max_body
 -- the characters of the longest frame: a `:`, its digits, CR and LF
 abbrev pub max_frame : ℕ
 max_frame = 1 + longest_text + 2
+
+-- how many bytes of a `:` that is open are held at most: those of a frame, and one more
+abbrev pub most_open : ℕ
+most_open = max_frame + 1
+
+-- how many bytes are ever held: so many, and those of a read
+abbrev pub most_held : ℕ
+most_held = most_open + max_frame

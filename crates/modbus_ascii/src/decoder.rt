@@ -17,7 +17,7 @@ use std::marker::Model;
 pub const OVERHEAD: usize = 2;
 
 /// The bytes of the longest frame.
-const MAX_BODY: usize = MAX_PDU + OVERHEAD;
+pub(crate) const MAX_BODY: usize = MAX_PDU + OVERHEAD;
 
 /// The character that begins a frame.
 pub(crate) const COLON: u8 = b':';

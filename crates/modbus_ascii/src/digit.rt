@@ -1,5 +1,6 @@
 //! Hexadecimal digits (MODBUS over Serial Line V1.02, section 2.5.2).
 ghost use Rattle.std.specs.Prelude.{◌≡◌, ◌<◌, IfSome, IsSome, ◌↔◌, true};
+ghost use Rattle.modbus_ascii.specs.Encoding.{digit};
 ghost use Rattle.modbus_ascii.specs.Frames.{is_digit, digit_value};
 
 /// The value of a digit, of either case.
@@ -14,5 +15,18 @@ pub(crate) fn value_of_digit(character: u8) -> Option<u8>
         b'A'..=b'F' => Some(character - b'A' + 10),
         b'a'..=b'f' => Some(character - b'a' + 10),
         _ => None,
+    }
+}
+
+/// The character of a digit, with upper-case letters.
+#[inline(always)]
+pub(crate) fn digit_of(value: u8) -> u8
+    requires { value < 16 }
+    ensures { result ≡ digit value }
+{
+    if value < 10 {
+        value + b'0'
+    } else {
+        value - 10 + b'A'
     }
 }

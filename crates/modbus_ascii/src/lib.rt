@@ -8,6 +8,8 @@
 mod checksum;
 mod decoder;
 mod digit;
+mod encoder;
 
 pub use crate::checksum::lrc;
 pub use crate::decoder::{AsciiDecoder, AsciiFrame, OVERHEAD};
+pub use crate::encoder::{encode_request_frame, encode_response_frame};

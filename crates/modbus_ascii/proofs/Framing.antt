@@ -1,0 +1,28 @@
+-- The characters of a frame.
+use Rattle.std.proofs.Common.{◌≡◌, ℕ, ◌+◌, ◌*◌, ◌/◌, ◌%◌, List, [], ◌∷◌, ◌++◌, length, refl, arith, length-append, append_assoc}
+use Rattle.std.specs.List.{flat_map}
+use Rattle.std.proofs.lemmas.Grind.{flat_map-append}
+use Rattle.modbus_ascii.specs.Checksum.{lrc}
+use Rattle.modbus_ascii.specs.Encoding.{digit, text_of, body, frame}
+use Rattle.modbus_ascii.specs.Limits.{carriage_return, line_feed, colon}
+
+pub text_of-append : (xs ys : List ℕ) → text_of (xs ++ ys) ≡ text_of xs ++ text_of ys
+unfolding text_of
+text_of-append xs ys = flat_map-append (λ (byte : ℕ). digit (byte / 16) ∷ digit (byte % 16) ∷ []) xs ys
+
+pub length-text_of : (xs : List ℕ) → length (text_of xs) ≡ 2 * length xs
+unfolding text_of
+length-text_of [] = omega arith
+length-text_of (x ∷ xs) = omega (arith, length-text_of xs)
+
+pub length-frame : (slave : ℕ) (pdu : List ℕ) → length (frame slave pdu) ≡ 2 * (length pdu + 2) + 3
+unfolding frame
+length-frame slave pdu =
+    let sum = lrc (slave ∷ pdu) in
+    omega (arith, length-append (colon ∷ text_of (body slave pdu)) (carriage_return ∷ line_feed ∷ []), length-text_of (body slave pdu), length-append (slave ∷ pdu) (sum ∷ []))
+
+-- the pieces in which a frame is written
+pub frame-pieces : (old one two three four bytes : List ℕ) (sum : ℕ) → one ≡ old ++ colon ∷ [] → two ≡ one ++ text_of bytes → three ≡ two ++ text_of (sum ∷ [])
+    → four ≡ three ++ carriage_return ∷ line_feed ∷ [] → four ≡ old ++ (colon ∷ text_of (bytes ++ sum ∷ []) ++ carriage_return ∷ line_feed ∷ [])
+frame-pieces old one two three four bytes sum a b c d =
+    rw (d, c, b, a, text_of-append bytes (sum ∷ [])) (simp append_assoc)
