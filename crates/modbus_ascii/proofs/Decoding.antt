@@ -31,7 +31,7 @@ other a b h = grind arith
 abbrev ends_at : List ℕ → ℕ → Bool
 ends_at now b = last now == carriage_return && b == line_feed
 
-no-feed : (now : List ℕ) (b : ℕ) → b ≢ line_feed → ends_at now b ≡ false
+pub no-feed : (now : List ℕ) (b : ℕ) → b ≢ line_feed → ends_at now b ≡ false
 no-feed now b h = rw (other b line_feed h) (never (last now == carriage_return))
   where
     never : (c : Bool) → (c && false) ≡ false
@@ -49,13 +49,13 @@ opened-closed b h = rw (other b colon h) refl
 opened-text : (text : List ℕ) (b : ℕ) → b ≢ colon → ends_at (colon ∷ text) b ≡ false → opened (colon ∷ text) b ≡ colon ∷ text ++ b ∷ []
 opened-text text b h mark = rw (other b colon h, suc-zero (length text), mark) refl
 
-opened-ended : (text : List ℕ) → opened (colon ∷ text ++ carriage_return ∷ []) line_feed ≡ []
+pub opened-ended : (text : List ℕ) → opened (colon ∷ text ++ carriage_return ∷ []) line_feed ≡ []
 opened-ended text = rw (suc-zero (length (text ++ carriage_return ∷ [])), last-push (colon ∷ text) carriage_return) refl
 
 pub given-quiet : (now : List ℕ) (b : ℕ) → ends_at now b ≡ false → given now b ≡ []
 given-quiet now b mark = rw mark refl
 
-given-ended : (text : List ℕ) → given (colon ∷ text ++ carriage_return ∷ []) line_feed ≡ frame_of text
+pub given-ended : (text : List ℕ) → given (colon ∷ text ++ carriage_return ∷ []) line_feed ≡ frame_of text
 given-ended text = rw (last-push (colon ∷ text) carriage_return, but_last-push (colon ∷ text) carriage_return) refl
 
 -- ---- what a decoder keeps
@@ -74,7 +74,7 @@ colon-first text d = last-digit colon text (λ e. omega (arith, e)) d
 on-digits : (text : List ℕ) (b : ℕ) → b ≢ colon → list_all is_digit text ≡ true → opened (colon ∷ text) b ≡ colon ∷ text ++ b ∷ []
 on-digits text b h d = opened-text text b h (no-return (colon ∷ text) b (colon-first text d))
 
-on-quiet : (text : List ℕ) (b : ℕ) → b ≢ colon → b ≢ line_feed → opened (colon ∷ text) b ≡ colon ∷ text ++ b ∷ []
+pub on-quiet : (text : List ℕ) (b : ℕ) → b ≢ colon → b ≢ line_feed → opened (colon ∷ text) b ≡ colon ∷ text ++ b ∷ []
 on-quiet text b h feed = opened-text text b h (no-feed (colon ∷ text) b feed)
 
 -- a text that is of no frame goes on

@@ -1,10 +1,13 @@
 -- The characters of a frame.
-use Rattle.std.proofs.Common.{◌≡◌, ℕ, ◌+◌, ◌*◌, ◌/◌, ◌%◌, List, [], ◌∷◌, ◌++◌, length, refl, arith, length-append, append_assoc}
+use Rattle.std.proofs.Common.{◌≡◌, ℕ, ◌+◌, ◌*◌, ◌/◌, ◌%◌, ◌<◌, List, [], ◌∷◌, ◌++◌, length, Result, Err, refl, arith, length-append, append_assoc}
 use Rattle.std.specs.List.{flat_map}
 use Rattle.std.proofs.lemmas.Grind.{flat_map-append}
+use Rattle.modbus_frame.specs.declared.fault.EncodeError.{EncodeError}
+use Rattle.modbus_frame.specs.declared.fault.EncodeError.TheVariants.{NoMemory}
+use Rattle.modbus_pdu.specs.Coding.{Encodes}
 use Rattle.modbus_ascii.specs.Checksum.{lrc}
 use Rattle.modbus_ascii.specs.Encoding.{digit, text_of, body, frame}
-use Rattle.modbus_ascii.specs.Limits.{carriage_return, line_feed, colon}
+use Rattle.modbus_ascii.specs.Limits.{carriage_return, line_feed, colon, max_frame}
 
 pub text_of-append : (xs ys : List ℕ) → text_of (xs ++ ys) ≡ text_of xs ++ text_of ys
 unfolding text_of
@@ -26,3 +29,9 @@ pub frame-pieces : (old one two three four bytes : List ℕ) (sum : ℕ) → one
     → four ≡ three ++ carriage_return ∷ line_feed ∷ [] → four ≡ old ++ (colon ∷ text_of (bytes ++ sum ∷ []) ++ carriage_return ∷ line_feed ∷ [])
 frame-pieces old one two three four bytes sum a b c d =
     rw (d, c, b, a, text_of-append bytes (sum ∷ [])) (simp append_assoc)
+
+-- a reply's buffer has room for each frame
+pub frame_room : (slave spare : ℕ) (pdu old new : List ℕ) (result : Result (Unit {0}) EncodeError) → Encodes (frame slave pdu) pdu old result new
+    → (result ≡ Err NoMemory → spare < length (frame slave pdu)) → result ≡ Err NoMemory → spare < max_frame
+frame_room slave spare pdu old new (Err NoMemory) encodes less e = omega (arith, less e, length-frame slave pdu, encodes.cause)
+frame_room slave spare pdu old new _ encodes less e = cc

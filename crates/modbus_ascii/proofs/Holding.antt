@@ -269,7 +269,7 @@ clash : (x : ℕ) → (x == colon) ≡ false → x ≡ colon → ⊥
 clash x other first = cc (other, ap (λ y. y == colon) first)
 
 -- what is read behind bytes that are all open doesn't change where they begin
-opening-more : (held piece : List ℕ) → IsStillOpen held → length piece ≤ max_frame → opening (held ++ piece) ≡ opening held
+pub opening-more : (held piece : List ℕ) → IsStillOpen held → length piece ≤ max_frame → opening (held ++ piece) ≡ opening held
 opening-more [] piece still few = opening-short piece few
 opening-more (x ∷ held) piece still few = by_kind (opening-kind (x ∷ held)) (opening-kind (x ∷ (held ++ piece))) (open_end-kind (whole (x ∷ held)))
   where

@@ -5,3 +5,5 @@ pub mod Framing
 pub mod Going
 pub mod Holding
 pub mod Scanning
+pub mod Buffering
+pub mod Alone

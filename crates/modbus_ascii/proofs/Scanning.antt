@@ -1,12 +1,14 @@
 -- How the decoder of a connection goes through what is held.
-use Rattle.std.proofs.Common.{◌≡◌, ◌≢◌, ℕ, zero, suc, ◌+◌, ◌-◌, ◌*◌, ◌<◌, ◌≤◌, ◌==◌, min, Bool, true, false, ◌&&◌, if◌then◌else◌, ◌⊎◌, inl, inr, List, [], ◌∷◌, ◌++◌, length, take, drop, get_or, Option, Some, None, refl, sym, ap, ◌∙◌, subst, arith, length-append, length-drop, append-nil, append_assoc}
+use Rattle.std.proofs.Common.{◌≡◌, ◌≢◌, ℕ, zero, suc, ◌+◌, ◌-◌, ◌*◌, ◌<◌, ◌≤◌, ◌==◌, min, Bool, true, false, ◌&&◌, if◌then◌else◌, ◌⊎◌, inl, inr, List, [], ◌∷◌, ◌++◌, length, take, drop, get_or, slice_get, Option, Some, None, refl, sym, ap, ◌∙◌, subst, arith, length-append, length-drop, append-nil, append_assoc}
 use Rattle.std.specs.Option.{option_to_list}
 use Rattle.std.proofs.lemmas.Bool.{cases_lt}
+use Rattle.std.proofs.lemmas.List.{take_more}
+use Rattle.std.proofs.lemmas.Option.{get_or_from_slice_get, slice_get-get_or, slice_get_past}
 use Rattle.modbus_ascii.specs.declared.decoder.Phase.{Phase}
 use Rattle.modbus_ascii.specs.declared.decoder.Phase.TheVariants.{Closed, Digits, Returned, Skipped, SkippedReturn}
 use Rattle.modbus_ascii.specs.Limits.{colon, carriage_return, line_feed, max_body, max_frame, most_open, longest_text}
-use Rattle.modbus_ascii.specs.Text.{open_end, last}
-use Rattle.modbus_ascii.specs.Frames.{frame_of, frames}
+use Rattle.modbus_ascii.specs.Text.{from_end, open_end, last}
+use Rattle.modbus_ascii.specs.Frames.{frame_of, delivered, frames, parts}
 use Rattle.modbus_ascii.specs.Decoder.{Reading, AreDigits, IsUseless, KeepsAs, Keeps, Decodes, ended}
 use Rattle.modbus_ascii.specs.Stands.{kept_of, held_open, opening, whole}
 use Rattle.modbus_ascii.proofs.Ends.{but_last, opened, given, open_end-more, frames-more}
@@ -16,10 +18,10 @@ use Rattle.modbus_ascii.proofs.Going.{Like, length-kept, like-cases, like-last}
 use Rattle.modbus_ascii.proofs.Holding.{OpenKind, open_end-kind}
 
 -- digits that fit, and one that waits
-abbrev pub IsRoomy : List ℕ → Option ℕ → Type 0
-IsRoomy bytes half = length bytes + length (option_to_list half) ≤ max_body
+abbrev pub HasRoom : List ℕ → Option ℕ → Type 0
+HasRoom bytes half = length bytes + length (option_to_list half) ≤ max_body
 
-digits-short : (bytes : List ℕ) (half : Option ℕ) (text : List ℕ) → IsRoomy bytes half → AreDigits bytes half text → length text ≤ longest_text
+digits-short : (bytes : List ℕ) (half : Option ℕ) (text : List ℕ) → HasRoom bytes half → AreDigits bytes half text → length text ≤ longest_text
 digits-short bytes half text room d = omega (arith, length-text bytes half text d)
 
 -- a list that ends at a byte is those before it and the byte
@@ -37,7 +39,7 @@ returned [] many mark = absurd (omega (arith, many))
 returned (y ∷ ys) many mark = (but_last (y ∷ ys), before-last y ys ∙ ap (λ c. but_last (y ∷ ys) ++ c ∷ []) mark, omega (arith, length-front y ys))
 
 -- a decoder keeps the same of two open ends of which the same is held
-keeps-like : (phase : Phase) (bytes : List ℕ) (half : Option ℕ) (a b : List ℕ) → IsRoomy bytes half → most_open ≤ length a → most_open ≤ length b → last a ≡ last b
+keeps-like : (phase : Phase) (bytes : List ℕ) (half : Option ℕ) (a b : List ℕ) → HasRoom bytes half → most_open ≤ length a → most_open ≤ length b → last a ≡ last b
     → OpenKind b → KeepsAs phase bytes half a → KeepsAs phase bytes half b
 keeps-like phase bytes half a b room long longer same (inl none) k = absurd (omega (arith, ap length none))
 keeps-like Closed bytes half a b room long longer same kind k = absurd (omega (arith, ap length k))
@@ -53,7 +55,7 @@ keeps-like SkippedReturn bytes half a b room long longer same (inr (text, is, h)
     (back.0, is ∙ ap (λ t. colon ∷ t) back.1, useless-long back.0 (omega (arith, back.2, many)))
 
 -- what a decoder was fed may be seen as other bytes of which the same is open
-pub decodes-like : (seen other : List ℕ) (reading : Reading) → IsRoomy reading.bytes reading.half → Like (open_end seen) (open_end other) → Decodes seen reading → Decodes other reading
+pub decodes-like : (seen other : List ℕ) (reading : Reading) → HasRoom reading.bytes reading.half → Like (open_end seen) (open_end other) → Decodes seen reading → Decodes other reading
 decodes-like seen other reading room e k = by_cases (like-cases (open_end seen) (open_end other) e)
   where
     by_cases : (open_end seen ≡ open_end other) ⊎ ((most_open ≤ length (open_end seen)) × (most_open ≤ length (open_end other))) → Decodes other reading
@@ -64,7 +66,7 @@ decodes-like seen other reading room e k = by_cases (like-cases (open_end seen) 
 
 -- ---- a byte more
 
-open-one : (seen : List ℕ) → length (held_open (seen ++ colon ∷ [])) ≡ 1
+pub open-one : (seen : List ℕ) → length (held_open (seen ++ colon ∷ [])) ≡ 1
 open-one seen = rw (open_end-more seen colon) refl
 
 open-more : (seen : List ℕ) (b : ℕ) → b ≢ colon → open_end (seen ++ b ∷ []) ≢ [] → open_end (seen ++ b ∷ []) ≡ open_end seen ++ b ∷ []
@@ -109,3 +111,56 @@ frame-closes seen b frame e =
     by_marks true true false false h one = refl
     by_marks true false c n h one = absurd (omega (arith, one))
     by_marks false f c n h one = absurd (omega (arith, one))
+
+-- ---- a decoder, and how far it is
+
+pub colon-open : length (held_open (colon ∷ [])) ≡ 1
+unfolding open_end from_end
+colon-open = refl
+
+pub colon-quiet : frames (colon ∷ []) ≡ []
+unfolding frames delivered from_end
+colon-quiet = refl
+
+pub nothing-open : length (held_open []) ≡ 0
+unfolding open_end
+nothing-open = refl
+
+pub nothing-quiet : frames [] ≡ []
+unfolding frames
+nothing-quiet = refl
+
+-- a byte ends a frame or not
+pub found-more : (seen : List ℕ) (b : ℕ) (found was : Bool) (old new : Reading) → was ≡ false → frames seen ≡ ended was old → frames (seen ++ b ∷ []) ≡ frames seen ++ ended found new
+    → frames (seen ++ b ∷ []) ≡ ended found new
+found-more seen b found was old new none before more =
+    let quiet : frames seen ≡ [] = before ∙ ap (λ w. ended w old) none in
+    more ∙ ap (λ f. f ++ ended found new) quiet
+
+pub closed-more : (seen : List ℕ) (b : ℕ) (found : Bool) (new : Reading) → frames (seen ++ b ∷ []) ≡ frames seen ++ ended found new → found ≡ true → open_end (seen ++ b ∷ []) ≡ []
+closed-more seen b found new more is = frame-closes seen b (parts new.bytes) (more ∙ ap (λ w. frames seen ++ ended w new) is)
+
+apart : (x : ℕ) (o : Option ℕ) → o ≡ Some x → o ≡ None → ⊥
+apart x o p q = cc
+
+-- a byte that is held lies within
+pub held-below : (held : List ℕ) (k byte : ℕ) → Some byte ≡ slice_get held k → k < length held
+held-below held k byte e =
+    elim (cases_lt k (length held)) [
+      | inl below ↦ below
+      | inr above ↦ absurd (apart byte (slice_get held k) (sym e) (slice_get_past held k above))
+    ]
+
+pub held-all : (held : List ℕ) (k : ℕ) → None ≡ slice_get held k → length held ≤ k
+held-all held k e =
+    elim (cases_lt k (length held)) [
+      | inl below ↦ absurd (apart (get_or held k 0) (slice_get held k) (slice_get-get_or held k 0 below) (sym e))
+      | inr above ↦ above
+    ]
+
+-- a held byte more
+pub seen-more : (front held : List ℕ) (k byte : ℕ) → Some byte ≡ slice_get held k → front ++ take (k + 1) held ≡ (front ++ take k held) ++ byte ∷ []
+seen-more front held k byte e =
+    let is : get_or held k 0 ≡ byte = get_or_from_slice_get held k byte 0 (sym e) in
+    let more : take (k + 1) held ≡ take k held ++ byte ∷ [] = take_more held k 0 (held-below held k byte e) ∙ ap (λ b. take k held ++ b ∷ []) is in
+    ap (λ t. front ++ t) more ∙ sym (append_assoc front (take k held) (byte ∷ []))

@@ -1,11 +1,11 @@
 -- What a decoder keeps of the `:` that is open, and what it stands for over all bytes that it was fed.
-use Rattle.std.specs.Prelude.{◌≡◌, ◌≢◌, ℕ, ◌/◌, ◌%◌, Bool, true, false, nat_le, ◌==◌, ◌&&◌, length, sum, List, [], ◌∷◌, ◌++◌, map, Option, Some, None}
+use Rattle.std.specs.Prelude.{◌≡◌, ◌≢◌, ℕ, ◌+◌, ◌/◌, ◌%◌, ◌≤◌, Bool, true, false, nat_le, ◌==◌, ◌&&◌, length, sum, List, [], ◌∷◌, ◌++◌, map, Option, Some, None}
 use Rattle.std.specs.List.{list_all, flat_map}
 use Rattle.std.specs.Option.{option_to_list}
 use Rattle.modbus_ascii.specs.declared.decoder.Phase.{Phase}
 use Rattle.modbus_ascii.specs.declared.decoder.Phase.TheVariants.{Closed, Digits, Returned, Skipped, SkippedReturn}
 use Rattle.modbus_ascii.specs.declared.decoder.AsciiFrame.{AsciiFrame}
-use Rattle.modbus_ascii.specs.Limits.{colon, carriage_return, shortest_body}
+use Rattle.modbus_ascii.specs.Limits.{colon, carriage_return, shortest_body, max_body}
 use Rattle.modbus_ascii.specs.Text.{open_end, last}
 use Rattle.modbus_ascii.specs.Frames.{is_digit, digit_value, parts, frame_of}
 
@@ -38,6 +38,10 @@ KeepsAs SkippedReturn bytes half now = (text : List ℕ) × (now ≡ colon ∷ t
 
 abbrev pub Keeps : Reading → List ℕ → Type 0
 Keeps reading now = KeepsAs reading.phase reading.bytes reading.half now
+
+-- the bytes, with the digit that waits as one more, are no more than a frame has
+abbrev pub IsRoomy : Reading → Type 0
+IsRoomy reading = length reading.bytes + length (option_to_list reading.half) ≤ max_body
 
 -- a decoder that was fed these bytes
 abbrev pub Decodes : List ℕ → Reading → Type 0

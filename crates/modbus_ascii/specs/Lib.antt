@@ -1,5 +1,8 @@
 pub mod Checksum
+pub mod Framed
+pub mod Framing
 pub mod Limits
+pub mod Scan
 pub mod Text
 pub mod Frames
 pub mod Decoder

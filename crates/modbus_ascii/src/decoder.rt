@@ -5,19 +5,14 @@ ghost use Rattle.modbus_ascii.specs.Limits.{colon, carriage_return, line_feed};
 ghost use Rattle.modbus_pdu.specs.Limits.{max_pdu};
 ghost use Rattle.modbus_ascii.specs.Text.{open_end};
 ghost use Rattle.modbus_ascii.specs.Frames.{is_digit, digit_value, parts, frames};
-ghost use Rattle.modbus_ascii.specs.Decoder.{Decodes, ended, given_frames, made_frame};
+ghost use Rattle.modbus_ascii.specs.Decoder.{Decodes, IsRoomy, ended, given_frames, made_frame};
 
 use crate::digit::value_of_digit;
+use crate::limits::{MAX_BODY, OVERHEAD};
 use arrayvec::ArrayVec;
 use modbus_frame::SlaveId;
 use modbus_pdu::MAX_PDU;
 use std::marker::Model;
-
-/// The bytes of a frame besides its PDU: a slave address and an LRC.
-pub const OVERHEAD: usize = 2;
-
-/// The bytes of the longest frame.
-pub(crate) const MAX_BODY: usize = MAX_PDU + OVERHEAD;
 
 /// The character that begins a frame.
 pub(crate) const COLON: u8 = b':';
@@ -63,7 +58,8 @@ pub struct AsciiDecoder {
 
 /// A contract sees what is kept of the text of the `:` that is open.
 impl Model for AsciiDecoder {
-    ghost use Rattle.std.specs.Prelude.{◌≡◌, ◌%◌, ◌<◌, ◌≤◌, length, IfSome, sum};
+    ghost use Rattle.std.specs.Prelude.{◌≡◌, ◌+◌, ◌%◌, ◌<◌, ◌≤◌, length, IfSome, sum};
+    ghost use Rattle.std.specs.Option.{option_to_list};
     ghost use Rattle.modbus_ascii.specs.Limits.{max_body};
     ghost use Rattle.modbus_ascii.specs.Decoder.{Reading};
 
@@ -75,7 +71,7 @@ impl Model for AsciiDecoder {
       adds : d.total ≡ sum d.bytes.items % 256;
       within : length d.bytes.items ≤ max_body;
       digit : IfSome d.half (λ high. high < 16);
-      room : IfSome d.half (λ high. length d.bytes.items < max_body);
+      room : length d.bytes.items + length (option_to_list d.half) ≤ max_body;
     } };
 }
 
@@ -208,6 +204,13 @@ impl AsciiDecoder {
                 false
             }
         }
+    }
+
+    /// The digits that it keeps are no more than a frame has. It has no code.
+    pub(crate) fn has_room(&self)
+        ensures { IsRoomy self.now }
+    {
+        let _phase = &self.phase;
     }
 
     /// Whether a `:` is open.

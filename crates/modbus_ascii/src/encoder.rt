@@ -12,8 +12,9 @@ ghost use Rattle.modbus_ascii.specs.Encoding.{text_of, frame};
 ghost use Rattle.modbus_ascii.specs.Limits.{colon, carriage_return, line_feed, max_body};
 
 use crate::checksum::lrc;
-use crate::decoder::{CARRIAGE_RETURN, COLON, LINE_FEED, MAX_BODY, OVERHEAD};
+use crate::decoder::{CARRIAGE_RETURN, COLON, LINE_FEED};
 use crate::digit::digit_of;
+use crate::limits::{MARKS, MAX_BODY, OVERHEAD};
 use arrayvec::ArrayVec;
 use bytes::BytesMut;
 use modbus_frame::{EncodeError, ExceptionResponse, Request, Response, SlaveId};
@@ -21,9 +22,6 @@ use modbus_pdu::{
     put_request_pdu, put_response_result_pdu, request_pdu_size, response_result_pdu_size,
 };
 use std::alloc::Global;
-
-/// The characters of a frame besides its digits: a `:`, CR and LF.
-pub(crate) const MARKS: usize = 3;
 
 /// Appends the digits of bytes.
 #[tactic(auto, unfolding(crate::specs::Encoding::text_of))]

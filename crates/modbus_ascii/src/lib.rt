@@ -5,11 +5,17 @@
 //! whole list of bytes delivers, whatever its pieces; a decoder keeps to them with one look at each byte.
 #![tactic(auto)]
 
+pub mod ascii;
+mod buffer;
 mod checksum;
 mod decoder;
 mod digit;
 mod encoder;
+mod limits;
+mod scan;
 
+pub use crate::buffer::AsciiBuffer;
 pub use crate::checksum::lrc;
-pub use crate::decoder::{AsciiDecoder, AsciiFrame, OVERHEAD};
+pub use crate::decoder::{AsciiDecoder, AsciiFrame};
 pub use crate::encoder::{encode_request_frame, encode_response_frame};
+pub use crate::limits::{MAX_FRAME, OVERHEAD};

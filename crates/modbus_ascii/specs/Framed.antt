@@ -1,0 +1,19 @@
+-- Frames one after another.
+use Rattle.std.specs.Prelude.{◌≡◌, ℕ, ◌<◌, ◌≤◌, List, [], ◌∷◌, length}
+use Rattle.std.specs.List.{AllByRecursion, flat_map}
+use Rattle.modbus_pdu.specs.Limits.{max_pdu}
+use Rattle.modbus_ascii.specs.Encoding.{frame}
+
+abbrev pub IsByte : ℕ → Type 0
+IsByte n = n < 256
+
+-- the slave address and a PDU that is not empty and not too long, all of bytes
+pub record IsFramed (message : ℕ × List ℕ) : Type 0 where
+  pub slave : IsByte message.0
+  pub bytes : AllByRecursion IsByte message.1
+  pub some : 0 < length message.1
+  pub fits : length message.1 ≤ max_pdu
+
+-- their frames, one after another
+abbrev pub stream_of : List (ℕ × List ℕ) → List ℕ
+stream_of messages = flat_map (λ message. frame message.0 message.1) messages
