@@ -1,4 +1,5 @@
 pub mod Checksum
+pub mod Codec
 pub mod Framed
 pub mod Framing
 pub mod Limits

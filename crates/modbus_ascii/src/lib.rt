@@ -8,6 +8,7 @@
 pub mod ascii;
 mod buffer;
 mod checksum;
+mod codec;
 mod decoder;
 mod digit;
 mod encoder;
@@ -16,6 +17,7 @@ mod scan;
 
 pub use crate::buffer::AsciiBuffer;
 pub use crate::checksum::lrc;
+pub use crate::codec::{AsciiError, ClientCodec, ServerCodec};
 pub use crate::decoder::{AsciiDecoder, AsciiFrame};
 pub use crate::encoder::{encode_request_frame, encode_response_frame};
 pub use crate::limits::{MAX_FRAME, OVERHEAD};
