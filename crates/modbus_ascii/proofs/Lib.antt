@@ -7,3 +7,4 @@ pub mod Holding
 pub mod Scanning
 pub mod Buffering
 pub mod Alone
+pub mod Asking

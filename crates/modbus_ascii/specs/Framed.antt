@@ -1,7 +1,10 @@
 -- Frames one after another.
 use Rattle.std.specs.Prelude.{◌≡◌, ℕ, ◌<◌, ◌≤◌, List, [], ◌∷◌, length}
 use Rattle.std.specs.List.{AllByRecursion, flat_map}
+use Rattle.modbus_frame.specs.Meaning.{Asked}
+use Rattle.modbus_pdu.specs.Coding.{Fits}
 use Rattle.modbus_pdu.specs.Limits.{max_pdu}
+use Rattle.modbus_pdu.specs.RequestPdu.{request_pdu}
 use Rattle.modbus_ascii.specs.Encoding.{frame}
 
 abbrev pub IsByte : ℕ → Type 0
@@ -17,3 +20,11 @@ pub record IsFramed (message : ℕ × List ℕ) : Type 0 where
 -- their frames, one after another
 abbrev pub stream_of : List (ℕ × List ℕ) → List ℕ
 stream_of messages = flat_map (λ message. frame message.0 message.1) messages
+
+-- A request for a slave, as the slave address and the PDU of its frame.
+abbrev pub message_of : ℕ × Asked → ℕ × List ℕ
+message_of asked = (asked.0, request_pdu asked.1)
+
+-- each number is a byte, and the PDU is not too long for a frame
+abbrev pub IsFramedAsk : ℕ × Asked → Type 0
+IsFramedAsk asked = IsByte asked.0 × AllByRecursion IsByte (request_pdu asked.1) × Fits (request_pdu asked.1)

@@ -12,6 +12,7 @@ mod codec;
 mod decoder;
 mod digit;
 mod encoder;
+pub mod laws;
 mod limits;
 mod scan;
 
