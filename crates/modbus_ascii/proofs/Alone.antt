@@ -1,17 +1,18 @@
 -- Frames one after another deliver exactly what is in them.
-use Rattle.std.proofs.Common.{◌≡◌, ◌≢◌, ℕ, zero, suc, ◌+◌, ◌-◌, ◌*◌, ◌/◌, ◌%◌, ◌<◌, ◌≤◌, ◌==◌, nat_le, nat_lt, Bool, true, false, ◌&&◌, ◌||◌, if◌then◌else◌, ◌⊎◌, inl, inr, List, [], ◌∷◌, ◌++◌, map, length, take, drop, slice_index, None, refl, sym, ap, ◌∙◌, subst, arith, length-append, append-nil, append_assoc}
+use Rattle.std.proofs.Common.{◌≡◌, ◌≢◌, ℕ, ◌+◌, ◌-◌, ◌/◌, ◌%◌, ◌<◌, ◌==◌, nat_le, true, false, List, [], ◌∷◌, ◌++◌, map, length, take, drop, None, refl, sym, ap, ◌∙◌, arith, length-append, append-nil, append_assoc}
 use Rattle.std.specs.Prelude.{sum}
-use Rattle.std.specs.List.{AllByRecursion, list_all, flat_map, fold}
-use Rattle.std.proofs.lemmas.Bool.{cases_lt, and_parts}
+use Rattle.std.specs.List.{AllByRecursion, list_all, fold}
+use Rattle.std.proofs.lemmas.Bool.{and_parts}
 use Rattle.std.proofs.lemmas.List.{take_at}
-use Rattle.modbus_ascii.specs.Limits.{colon, carriage_return, line_feed, max_body, shortest_body}
+use Rattle.modbus_pdu.specs.Laws.{IsByte}
+use Rattle.modbus_ascii.specs.Limits.{colon, carriage_return, line_feed, shortest_body}
 use Rattle.modbus_ascii.specs.Checksum.{lrc}
 use Rattle.modbus_ascii.specs.Text.{begins_end, from_end, is_open, open_end}
-use Rattle.modbus_ascii.specs.Frames.{is_digit, digit_value, parts, frame_of, frames}
+use Rattle.modbus_ascii.specs.Frames.{is_digit, digit_value, frame_of, frames}
 use Rattle.modbus_ascii.specs.Decoder.{Reading, digits_of, AreDigits, made_frame, ended}
 use Rattle.modbus_ascii.specs.declared.decoder.Phase.TheVariants.{Digits}
 use Rattle.modbus_ascii.specs.Encoding.{digit, text_of, body, frame}
-use Rattle.modbus_ascii.specs.Framed.{IsByte, IsFramed, stream_of}
+use Rattle.modbus_ascii.specs.Framed.{IsFramed, stream_of}
 use Rattle.modbus_ascii.specs.Stands.{kept_of}
 use Rattle.modbus_ascii.proofs.Ends.{opened, given, open_end-more, frames-more}
 use Rattle.modbus_ascii.proofs.Digits.{frame_of-digits}

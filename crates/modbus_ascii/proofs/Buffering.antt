@@ -1,5 +1,5 @@
 -- What a connection's bytes hold, and how far its decoder is, as bytes come and go.
-use Rattle.std.proofs.Common.{◌≡◌, ℕ, zero, suc, ◌+◌, ◌-◌, ◌<◌, ◌≤◌, ◌==◌, nat_lt, Bool, true, false, not, ◌&&◌, if◌then◌else◌, ◌⊎◌, inl, inr, List, [], ◌∷◌, ◌++◌, length, take, drop, slice_index, refl, sym, ap, ◌∙◌, subst, arith, length-append, length-drop, append-nil, append_assoc}
+use Rattle.std.proofs.Common.{◌≡◌, ℕ, zero, suc, ◌-◌, ◌<◌, ◌≤◌, ◌==◌, nat_lt, Bool, true, false, not, ◌&&◌, if◌then◌else◌, inl, inr, List, [], ◌∷◌, ◌++◌, length, take, drop, slice_index, refl, sym, ap, ◌∙◌, subst, arith, length-append, length-drop, append-nil, append_assoc}
 use Rattle.std.proofs.lemmas.List.{take-append-le}
 use Rattle.std.proofs.Math.Seq.{take-length}
 use Rattle.modbus_ascii.specs.declared.scan.Scan.{Scan}
@@ -12,7 +12,7 @@ use Rattle.modbus_ascii.specs.Scan.{HasSeen, Scans}
 use Rattle.circular_buffer.specs.Buffer.{Buffer, buffer, keep_last}
 use Rattle.modbus_ascii.proofs.Going.{frames-front}
 use Rattle.modbus_ascii.proofs.Holding.{Opening, opening-kind, left-stays, still-quiet, stands-frame, stands-waiting, opening-more}
-use Rattle.modbus_ascii.proofs.Scanning.{colon-quiet, nothing-quiet, nothing-open, decodes-like}
+use Rattle.modbus_ascii.proofs.Scanning.{colon-quiet, nothing-quiet, decodes-like}
 
 -- all held bytes were fed
 pub fed-all : (held : List ℕ) (scan : Scan) → Scans held scan → scan.fed ≡ length held → HasSeen (whole held) scan

@@ -1,6 +1,5 @@
 -- The characters of a frame.
-use Rattle.std.proofs.Common.{◌≡◌, ℕ, ◌+◌, ◌*◌, ◌/◌, ◌%◌, ◌<◌, List, [], ◌∷◌, ◌++◌, length, Result, Err, refl, arith, length-append, append_assoc}
-use Rattle.std.specs.List.{flat_map}
+use Rattle.std.proofs.Common.{◌≡◌, ℕ, ◌+◌, ◌*◌, ◌/◌, ◌%◌, ◌<◌, List, [], ◌∷◌, ◌++◌, length, Result, Err, arith, length-append, append_assoc}
 use Rattle.std.proofs.lemmas.Grind.{flat_map-append}
 use Rattle.modbus_frame.specs.declared.fault.EncodeError.{EncodeError}
 use Rattle.modbus_frame.specs.declared.fault.EncodeError.TheVariants.{NoMemory}

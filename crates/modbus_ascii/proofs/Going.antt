@@ -1,9 +1,9 @@
 -- What is open in bytes, as far as it is held, tells how they go on.
-use Rattle.std.proofs.Common.{◌≡◌, ◌≢◌, ℕ, zero, suc, ◌+◌, ◌-◌, ◌<◌, ◌≤◌, ◌==◌, Bool, true, false, ◌&&◌, if◌then◌else◌, ◌⊎◌, inl, inr, List, [], ◌∷◌, ◌++◌, length, take, drop, refl, sym, ap, ◌∙◌, subst, arith, length-append, length-drop, append-nil, append_assoc}
+use Rattle.std.proofs.Common.{◌≡◌, ℕ, zero, suc, ◌+◌, ◌-◌, ◌<◌, ◌≤◌, ◌==◌, Bool, true, false, ◌&&◌, if◌then◌else◌, ◌⊎◌, inl, inr, List, [], ◌∷◌, ◌++◌, length, drop, refl, sym, ap, ◌∙◌, arith, length-append, length-drop, append-nil, append_assoc}
 use Rattle.std.proofs.lemmas.Bool.{cases_lt}
-use Rattle.std.proofs.lemmas.List.{drop_all, drop-drop}
+use Rattle.std.proofs.lemmas.List.{drop-drop}
 use Rattle.modbus_ascii.specs.Limits.{colon, carriage_return, line_feed, longest_text, most_open}
-use Rattle.modbus_ascii.specs.Text.{is_open, open_end, last}
+use Rattle.modbus_ascii.specs.Text.{open_end, last}
 use Rattle.modbus_ascii.specs.Frames.{frame_of, frames}
 use Rattle.modbus_ascii.specs.Stands.{kept_of, held_open}
 use Rattle.modbus_ascii.proofs.Ends.{but_last, opened, given, open_end-more, frames-more}

@@ -8,3 +8,4 @@ pub mod Scanning
 pub mod Buffering
 pub mod Alone
 pub mod Asking
+pub mod Causes

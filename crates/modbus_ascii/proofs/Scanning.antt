@@ -1,16 +1,16 @@
 -- How the decoder of a connection goes through what is held.
-use Rattle.std.proofs.Common.{◌≡◌, ◌≢◌, ℕ, zero, suc, ◌+◌, ◌-◌, ◌*◌, ◌<◌, ◌≤◌, ◌==◌, min, Bool, true, false, ◌&&◌, if◌then◌else◌, ◌⊎◌, inl, inr, List, [], ◌∷◌, ◌++◌, length, take, drop, get_or, slice_get, Option, Some, None, refl, sym, ap, ◌∙◌, subst, arith, length-append, length-drop, append-nil, append_assoc}
+use Rattle.std.proofs.Common.{◌≡◌, ◌≢◌, ℕ, ◌+◌, ◌-◌, ◌<◌, ◌≤◌, ◌==◌, min, Bool, true, false, ◌&&◌, if◌then◌else◌, ◌⊎◌, inl, inr, List, [], ◌∷◌, ◌++◌, length, take, drop, get_or, slice_get, Option, Some, None, refl, sym, ap, ◌∙◌, subst, arith, length-append, append_assoc}
 use Rattle.std.specs.Option.{option_to_list}
 use Rattle.std.proofs.lemmas.Bool.{cases_lt}
 use Rattle.std.proofs.lemmas.List.{take_more}
 use Rattle.std.proofs.lemmas.Option.{get_or_from_slice_get, slice_get-get_or, slice_get_past}
 use Rattle.modbus_ascii.specs.declared.decoder.Phase.{Phase}
 use Rattle.modbus_ascii.specs.declared.decoder.Phase.TheVariants.{Closed, Digits, Returned, Skipped, SkippedReturn}
-use Rattle.modbus_ascii.specs.Limits.{colon, carriage_return, line_feed, max_body, max_frame, most_open, longest_text}
+use Rattle.modbus_ascii.specs.Limits.{colon, carriage_return, line_feed, max_body, most_open, longest_text}
 use Rattle.modbus_ascii.specs.Text.{from_end, open_end, last}
 use Rattle.modbus_ascii.specs.Frames.{frame_of, delivered, frames, parts}
-use Rattle.modbus_ascii.specs.Decoder.{Reading, AreDigits, IsUseless, KeepsAs, Keeps, Decodes, ended}
-use Rattle.modbus_ascii.specs.Stands.{kept_of, held_open, opening, whole}
+use Rattle.modbus_ascii.specs.Decoder.{Reading, AreDigits, KeepsAs, Keeps, Decodes, ended}
+use Rattle.modbus_ascii.specs.Stands.{kept_of, held_open}
 use Rattle.modbus_ascii.proofs.Ends.{but_last, opened, given, open_end-more, frames-more}
 use Rattle.modbus_ascii.proofs.Digits.{length-text, useless-long}
 use Rattle.modbus_ascii.proofs.Decoding.{last-push}

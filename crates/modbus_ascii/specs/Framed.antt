@@ -1,14 +1,12 @@
 -- Frames one after another.
-use Rattle.std.specs.Prelude.{◌≡◌, ℕ, ◌<◌, ◌≤◌, List, [], ◌∷◌, length}
+use Rattle.std.specs.Prelude.{ℕ, ◌<◌, ◌≤◌, List, length}
 use Rattle.std.specs.List.{AllByRecursion, flat_map}
 use Rattle.modbus_frame.specs.Meaning.{Asked}
 use Rattle.modbus_pdu.specs.Coding.{Fits}
+use Rattle.modbus_pdu.specs.Laws.{IsByte}
 use Rattle.modbus_pdu.specs.Limits.{max_pdu}
 use Rattle.modbus_pdu.specs.RequestPdu.{request_pdu}
 use Rattle.modbus_ascii.specs.Encoding.{frame}
-
-abbrev pub IsByte : ℕ → Type 0
-IsByte n = n < 256
 
 -- the slave address and a PDU that is not empty and not too long, all of bytes
 pub record IsFramed (message : ℕ × List ℕ) : Type 0 where

@@ -1,5 +1,5 @@
 -- How far the decoder of a connection is in the bytes that are held.
-use Rattle.std.specs.Prelude.{◌≡◌, ℕ, ◌≤◌, Bool, true, List, [], ◌∷◌, ◌++◌, length, take}
+use Rattle.std.specs.Prelude.{◌≡◌, ℕ, ◌≤◌, true, List, [], ◌++◌, length, take}
 use Rattle.modbus_ascii.specs.declared.scan.Scan.{Scan}
 use Rattle.modbus_ascii.specs.Text.{open_end}
 use Rattle.modbus_ascii.specs.Frames.{frames}

@@ -1,5 +1,5 @@
 -- What held bytes stand for over all bytes that a connection was fed.
-use Rattle.std.specs.Prelude.{◌≡◌, ℕ, ◌-◌, ◌≤◌, nat_lt, Bool, not, ◌==◌, ◌&&◌, if◌then◌else◌, List, [], ◌∷◌, ◌++◌, length, take, drop, slice_index}
+use Rattle.std.specs.Prelude.{◌≡◌, ℕ, ◌-◌, ◌≤◌, nat_lt, not, ◌==◌, ◌&&◌, if◌then◌else◌, List, [], ◌∷◌, ◌++◌, length, take, drop, slice_index}
 use Rattle.modbus_ascii.specs.Limits.{colon, max_frame, most_open}
 use Rattle.modbus_ascii.specs.Text.{open_end}
 use Rattle.modbus_ascii.specs.Frames.{frames}

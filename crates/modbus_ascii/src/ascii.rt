@@ -1,7 +1,9 @@
 //! Serving frames in the ASCII transmission mode over any stream of characters, until its input ends (MODBUS over Serial Line V1.02,
 //! section 2.5.2).
+ghost use Rattle.std.specs.Prelude.{IfErr};
 ghost use Rattle.modbus_ascii.specs.Framing.{ascii};
 ghost use Rattle.modbus_server.specs.Complete.{Completes};
+ghost use Rattle.modbus_server.specs.Framing.{IsOfFraming};
 ghost use Rattle.modbus_server.specs.Stepping.{Ran};
 
 use crate::buffer::AsciiBuffer;
@@ -33,8 +35,11 @@ pub fn process_link<L: Source + Sink, V: Answerer>(
     service: &mut V,
     turns: u64,
 ) -> Result<(), ProcessError>
-    ensures ran { Ran ascii V.answering service.old service.new (L.input link.old) (L.input link.new) (L.output link.old) (L.output link.new) turns result }
-    ensures complete { Completes ascii V.answering service.old (L.input link.old) (L.input link.new) (L.output link.old) (L.output link.new) turns result }
+    ensures ran { Ran ascii V.answering service.old service.new (L.input link.old) (L.input link.new)
+        (L.output link.old) (L.output link.new) turns result }
+    ensures complete { Completes ascii V.answering service.old (L.input link.old) (L.input link.new)
+        (L.output link.old) (L.output link.new) turns result }
+    ensures causes { IfErr result (λ error. IsOfFraming error → ⊥) }
 {
     serve_link::<AsciiBuffer, L, V>(alloc, link, service, turns)
 }
@@ -63,8 +68,11 @@ pub fn process<S: Source, K: Sink, V: Answerer>(
     service: &mut V,
     turns: u64,
 ) -> Result<(), ProcessError>
-    ensures ran { Ran ascii V.answering service.old service.new (S.input source.old) (S.input source.new) (K.output sink.old) (K.output sink.new) turns result }
-    ensures complete { Completes ascii V.answering service.old (S.input source.old) (S.input source.new) (K.output sink.old) (K.output sink.new) turns result }
+    ensures ran { Ran ascii V.answering service.old service.new (S.input source.old) (S.input source.new)
+        (K.output sink.old) (K.output sink.new) turns result }
+    ensures complete { Completes ascii V.answering service.old (S.input source.old) (S.input source.new)
+        (K.output sink.old) (K.output sink.new) turns result }
+    ensures causes { IfErr result (λ error. IsOfFraming error → ⊥) }
 {
     serve::<AsciiBuffer, S, K, V>(alloc, source, sink, service, turns)
 }

@@ -47,7 +47,8 @@ impl Model for AsciiBuffer {
 
 /// Whether held bytes begin within a text that is too long.
 fn begins_within(held: &HeapCircularBuffer<u8>) -> bool
-    ensures { result ≡ (nat_lt max_frame (length held.now.items) && not (slice_index held.now.items 0 == colon)) }
+    ensures { result ≡ (nat_lt max_frame (length held.now.items)
+        && not (slice_index held.now.items 0 == colon)) }
 {
     match held.get(0) {
         Some(first) => held.len() > MAX_FRAME && *first != COLON,

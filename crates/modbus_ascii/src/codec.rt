@@ -102,8 +102,10 @@ impl ClientCodec {
     /// then gone.
     pub fn feed(&mut self, alloc: Global, byte: u8) -> Result<Option<rtu::ResponseAdu>, AsciiError>
         ensures reads { (fed : List ℕ) → Decodes fed self.old → Decodes (fed ++ byte ∷ []) self.new }
-        ensures gives { (fed : List ℕ) → Decodes fed self.old → (delivered : List (ℕ × List ℕ)) × (frames (fed ++ byte ∷ []) ≡ frames fed ++ delivered)
-            × AnswersBy response_result_of (λ pdu. Unit {0}) (λ adu. adu.hdr.slave_id) (λ adu. adu.pdu.0) delivered result }
+        ensures gives { (fed : List ℕ) → Decodes fed self.old → (delivered : List (ℕ × List ℕ))
+            × (frames (fed ++ byte ∷ []) ≡ frames fed ++ delivered)
+            × AnswersBy response_result_of (λ pdu. Unit {0}) (λ adu. adu.hdr.slave_id)
+            (λ adu. adu.pdu.0) delivered result }
     {
         if !self.decoder.take(byte) {
             return Ok(None);
@@ -128,7 +130,8 @@ impl ClientCodec {
         adu: rtu::RequestAdu<'_>,
         buf: &mut BytesMut,
     ) -> Result<(), EncodeError>
-        ensures encodes { Encodes (frame adu.entry.hdr.slave_id (request_pdu (meaning adu.entry.pdu.0))) (request_pdu (meaning adu.entry.pdu.0)) buf.old.items result buf.new.items }
+        ensures encodes { let pdu = request_pdu (meaning adu.entry.pdu.0)
+            in Encodes (frame adu.entry.hdr.slave_id pdu) pdu buf.old.items result buf.new.items }
         ensures kept { self.new ≡ self.old }
     {
         encode_request_frame(alloc, adu.hdr.slave_id, &adu.pdu.0, buf)
@@ -156,8 +159,10 @@ impl ServerCodec {
         byte: u8,
     ) -> Result<Option<rtu::RequestAdu<'static>>, AsciiError>
         ensures reads { (fed : List ℕ) → Decodes fed self.old → Decodes (fed ++ byte ∷ []) self.new }
-        ensures gives { (fed : List ℕ) → Decodes fed self.old → (delivered : List (ℕ × List ℕ)) × (frames (fed ++ byte ∷ []) ≡ frames fed ++ delivered)
-            × AnswersBy request_of (λ pdu. IsOkAnd (request_of pdu) CarriesList) (λ adu. adu.hdr.slave_id) (λ adu. meaning adu.pdu.0) delivered result }
+        ensures gives { (fed : List ℕ) → Decodes fed self.old → (delivered : List (ℕ × List ℕ))
+            × (frames (fed ++ byte ∷ []) ≡ frames fed ++ delivered)
+            × AnswersBy request_of (λ pdu. IsOkAnd (request_of pdu) CarriesList)
+            (λ adu. adu.hdr.slave_id) (λ adu. meaning adu.pdu.0) delivered result }
     {
         if !self.decoder.take(byte) {
             return Ok(None);
@@ -183,8 +188,10 @@ impl ServerCodec {
         buf: &mut BytesMut,
     ) -> Result<(), EncodeError>
         requires { ForErr adu.pdu.0 (λ refusal. function_number refusal.function < exception_bit) }
-        ensures encodes { Encodes (frame adu.hdr.slave_id (response_result_pdu adu.pdu.0)) (response_result_pdu adu.pdu.0) buf.old.items result buf.new.items }
-        ensures memory { result ≡ Err EncodeError.NoMemory → buf.old.spare < length (frame adu.hdr.slave_id (response_result_pdu adu.pdu.0)) }
+        ensures encodes { let pdu = response_result_pdu adu.pdu.0
+            in Encodes (frame adu.hdr.slave_id pdu) pdu buf.old.items result buf.new.items }
+        ensures memory { result ≡ Err EncodeError.NoMemory
+            → buf.old.spare < length (frame adu.hdr.slave_id (response_result_pdu adu.pdu.0)) }
         ensures kept { self.new ≡ self.old }
     {
         encode_response_frame(alloc, adu.hdr.slave_id, &adu.pdu.0, buf)

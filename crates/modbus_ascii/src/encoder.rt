@@ -49,7 +49,8 @@ fn copy_body(bytes: &[u8]) -> ArrayVec<u8, MAX_BODY>
 /// Appends the frame of a slave address and a PDU.
 fn put_frame(buf: &mut BytesMut, bytes: &[u8])
     requires { 2 * (length bytes.now + 1) + 3 ≤ buf.old.spare }
-    ensures items { buf.new.items ≡ buf.old.items ++ (colon ∷ text_of (bytes.now ++ check bytes.now ∷ []) ++ carriage_return ∷ line_feed ∷ []) }
+    ensures items { buf.new.items ≡ buf.old.items
+        ++ (colon ∷ text_of (bytes.now ++ check bytes.now ∷ []) ++ carriage_return ∷ line_feed ∷ []) }
     ensures room { length buf.new.items + buf.new.spare ≡ length buf.old.items + buf.old.spare }
 {
     let sum = lrc(bytes);
@@ -63,8 +64,10 @@ fn put_frame(buf: &mut BytesMut, bytes: &[u8])
 fn frame_from(buf: &mut BytesMut, start: usize)
     requires start { start ≤ length buf.old.items }
     requires fits { length buf.old.items ≤ start + max_body }
-    requires room { 2 * (length (drop start buf.old.items) + 1) + 3 ≤ length (drop start buf.old.items) + buf.old.spare }
-    ensures items { buf.new.items ≡ take start buf.old.items ++ (colon ∷ text_of (drop start buf.old.items ++ check (drop start buf.old.items) ∷ []) ++ carriage_return ∷ line_feed ∷ []) }
+    requires room { 2 * (length (drop start buf.old.items) + 1) + 3
+        ≤ length (drop start buf.old.items) + buf.old.spare }
+    ensures items { let bytes = drop start buf.old.items in buf.new.items ≡ take start buf.old.items
+        ++ (colon ∷ text_of (bytes ++ check bytes ∷ []) ++ carriage_return ∷ line_feed ∷ []) }
     ensures room { length buf.new.items + buf.new.spare ≡ length buf.old.items + buf.old.spare }
 {
     let bytes = copy_body(&buf.as_slice()[start..]);
@@ -84,7 +87,8 @@ pub fn encode_request_frame(
     request: &Request<'_>,
     buf: &mut BytesMut,
 ) -> Result<(), EncodeError>
-    ensures { Encodes (frame slave (request_pdu (meaning request.now))) (request_pdu (meaning request.now)) buf.old.items result buf.new.items }
+    ensures { let pdu = request_pdu (meaning request.now)
+        in Encodes (frame slave pdu) pdu buf.old.items result buf.new.items }
 {
     let pdu_len = request_pdu_size(request)?;
     // One growth for the whole frame.
@@ -110,8 +114,10 @@ pub fn encode_response_frame(
     buf: &mut BytesMut,
 ) -> Result<(), EncodeError>
     requires { ForErr answer.now (λ refusal. function_number refusal.function < exception_bit) }
-    ensures encodes { Encodes (frame slave (response_result_pdu answer.now)) (response_result_pdu answer.now) buf.old.items result buf.new.items }
-    ensures memory { result ≡ Err EncodeError.NoMemory → buf.old.spare < length (frame slave (response_result_pdu answer.now)) }
+    ensures encodes { let pdu = response_result_pdu answer.now
+        in Encodes (frame slave pdu) pdu buf.old.items result buf.new.items }
+    ensures memory { result ≡ Err EncodeError.NoMemory
+        → buf.old.spare < length (frame slave (response_result_pdu answer.now)) }
 
     // All in all the buffer has as much room as it had.
     ensures room { length buf.old.items + buf.old.spare ≤ length buf.new.items + buf.new.spare }

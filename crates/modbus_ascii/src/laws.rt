@@ -9,13 +9,16 @@ ghost use Rattle.modbus_ascii.specs.Text.{open_end};
 
 /// What bytes deliver stays, whatever follows; and where no `:` is open at their end, what follows delivers what it delivers alone.
 pub fn frames_go_on()
-    ensures front { (bytes more : List ℕ) → (later : List (ℕ × List ℕ)) × (frames (bytes ++ more) ≡ frames bytes ++ later) }
-    ensures closed { (bytes more : List ℕ) → open_end bytes ≡ [] → frames (bytes ++ more) ≡ frames bytes ++ frames more }
+    ensures front { (bytes more : List ℕ) → (later : List (ℕ × List ℕ))
+        × (frames (bytes ++ more) ≡ frames bytes ++ later) }
+    ensures closed { (bytes more : List ℕ) → open_end bytes ≡ []
+        → frames (bytes ++ more) ≡ frames bytes ++ frames more }
 {}
 
 /// Frames one after another, each of a slave address and of a PDU of 1 to 253 bytes, deliver exactly these, with no `:` open at their end.
 pub fn frames_alone()
-    ensures { (messages : List (ℕ × List ℕ)) → AllByRecursion IsFramed messages → AreOnlyFrames (stream_of messages) messages }
+    ensures { (messages : List (ℕ × List ℕ)) → AllByRecursion IsFramed messages
+        → AreOnlyFrames (stream_of messages) messages }
 {}
 
 /// Frames of requests that fit, one after another, each for some slave, deliver exactly these, with no `:` open at their end.

@@ -44,7 +44,8 @@ impl Scan {
     /// How many bytes are held of the `:` that is open, after the decoder was fed this byte.
     #[inline(always)]
     fn count(&self, byte: u8) -> usize
-        ensures { (seen : List ℕ) → self.now.«open» ≡ length (held_open seen) → Decodes (seen ++ byte ∷ []) self.now.decoder
+        ensures { (seen : List ℕ) → self.now.«open» ≡ length (held_open seen)
+            → Decodes (seen ++ byte ∷ []) self.now.decoder
             → result ≡ length (held_open (seen ++ byte ∷ [])) }
     {
         if byte == COLON {

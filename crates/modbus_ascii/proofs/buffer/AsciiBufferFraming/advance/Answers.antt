@@ -2,7 +2,6 @@ use Rattle.std.proofs.Common.{◌≡◌, ◌-◌, ◌≤◌, ◌++◌, ◌∙◌
 use Rattle.std.specs.Prelude.{List, ℕ}
 use Rattle.circular_buffer.specs.Buffer.{Buffer}
 use Rattle.modbus_ascii.specs.declared.scan.Scan.{Scan}
-use Rattle.modbus_ascii.specs.Limits.{most_held}
 use Rattle.modbus_ascii.specs.Stands.{opening}
 use Rattle.modbus_ascii.specs.Scan.{Scans}
 use Rattle.modbus_ascii.proofs.Buffering.{scan-behind, scan-left}

@@ -1,4 +1,4 @@
-use Rattle.std.proofs.Common.{◌≡◌, ◌++◌, ◌∷◌, ◌∙◌, [], length, ap, sym, subst}
+use Rattle.std.proofs.Common.{◌++◌, ◌∷◌, ◌∙◌, [], length, ap, sym, subst}
 use Rattle.std.specs.Prelude.{List, ℕ}
 use Rattle.modbus_ascii.specs.Stands.{IsStillOpen, StandsFor}
 use Rattle.modbus_ascii.specs.Scan.{Scans}

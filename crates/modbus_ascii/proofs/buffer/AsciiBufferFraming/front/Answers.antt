@@ -1,4 +1,4 @@
-use Rattle.std.proofs.Common.{◌≡◌, ◌-◌, ◌<◌, ◌≤◌, ◌∷◌, ◌++◌, [], length, drop, ap, subst, arith}
+use Rattle.std.proofs.Common.{◌-◌, ◌≤◌, ◌∷◌, ◌++◌, [], length, drop, ap, subst, arith}
 use Rattle.std.specs.Prelude.{List, ℕ}
 use Rattle.modbus_ascii.specs.Stands.{StandsFor, IsNextFrame, AreAllFrames, IsStillOpen}
 use Rattle.modbus_ascii.proofs.Holding.{open-within}

@@ -1,5 +1,3 @@
-use Rattle.std.proofs.Common.{◌≡◌, ◌++◌, ◌∙◌, sym, ap}
-use Rattle.std.specs.Prelude.{List, ℕ, [], ◌∷◌}
 use Rattle.modbus_ascii.proofs.Buffering.{next-frame}
 use Rattle.modbus_ascii.proofs.buffer.AsciiBufferFraming.laws.Goals as goal
 

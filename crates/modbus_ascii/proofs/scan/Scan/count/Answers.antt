@@ -1,4 +1,4 @@
-use Rattle.std.proofs.Common.{◌≡◌, ◌≢◌, ◌∷◌, ◌++◌, ◌∙◌, [], length, sym, ap, arith}
+use Rattle.std.proofs.Common.{◌≢◌, ◌∷◌, ◌++◌, ◌∙◌, [], length, sym, ap, arith}
 use Rattle.modbus_ascii.specs.Limits.{colon}
 use Rattle.modbus_ascii.specs.Stands.{held_open}
 use Rattle.modbus_ascii.proofs.Scanning.{open-one, open-count}

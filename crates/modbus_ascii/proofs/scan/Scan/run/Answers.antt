@@ -1,4 +1,4 @@
-use Rattle.std.proofs.Common.{◌≡◌, ◌<◌, ◌≤◌, ◌++◌, ◌∙◌, length, take, ap, sym, subst, arith, false}
+use Rattle.std.proofs.Common.{◌++◌, ◌∙◌, take, ap, sym, subst, arith}
 use Rattle.std.specs.Prelude.{List, ℕ}
 use Rattle.modbus_ascii.specs.Stands.{opening}
 use Rattle.modbus_ascii.specs.Scan.{HasSeen}

@@ -1,0 +1,3 @@
+//! What no clause says: frames as characters, in and out.
+mod codecs;
+mod served;
