@@ -1,0 +1,5 @@
+pub mod Items
+pub mod Values
+pub mod Rising
+pub mod Plans
+pub mod Planning
