@@ -4,3 +4,6 @@ pub mod Positions
 pub mod Ends
 pub mod Planning
 pub mod Ordered
+pub mod WordsAt
+pub mod Making
+pub mod Served

@@ -1,5 +1,5 @@
 -- The values of items (Modbus Application Protocol V1.1b3, section 4.2).
-use Rattle.std.specs.Prelude.{ℕ, ◌+◌, ◌*◌, ◌^◌, List, [], ◌∷◌, reverse}
+use Rattle.std.specs.Prelude.{ℕ, ◌+◌, ◌*◌, ◌^◌, List, [], ◌∷◌, reverse, ⊤}
 use Rattle.std.specs.Int.{w16, w32, w64, cast_signed}
 use Rattle.modbus_pdu.specs.Writing.{words}
 use Rattle.modbus_poll.specs.declared.item.Order.{Order}
@@ -29,3 +29,8 @@ value (kind.I32 order) found = Signed (cast_signed w32 (number order found))
 value (kind.U64 order) found = Unsigned (number order found)
 value (kind.I64 order) found = Signed (cast_signed w64 (number order found))
 value (kind.Text count) found = Text (words found)
+
+-- the kind of a text, whose bytes want memory
+abbrev pub IsText : Kind → Type 0
+IsText (kind.Text count) = ⊤
+IsText _ = ⊥

@@ -1,17 +1,22 @@
-//! A register map and a read planner: numbers and texts that lie in the holding registers of a device, and few reads that give them.
+//! A register map and a read planner: numbers and texts that lie in the holding registers of a device, few reads that give them, and
+//! polls that make these reads.
 //!
-//! `plan_reads` makes a `Plan` for items in any order, which may overlap and repeat. `value_of` gives the value of an item from the words
-//! of its registers. The standard is the Modbus Application Protocol V1.1b3, which is meant by every section that is named here.
+//! `plan_reads` makes a `Plan` for items in any order, which may overlap and repeat. `poll` makes its reads by any client, `poll_service`
+//! by a service without a transport, each read once, and gives the value of each item; `value_of` gives one from the words of its
+//! registers. The standard is the Modbus Application Protocol V1.1b3, which is meant by every section that is named here.
 #![tactic(auto)]
 
 mod item;
 mod plan;
 mod planner;
+mod polling;
 mod read;
 mod value;
+mod words;
 
 pub use crate::item::{Item, Kind, Order};
 pub use crate::plan::{Plan, PlanError};
 pub use crate::planner::plan_reads;
+pub use crate::polling::{PollError, poll, poll_service};
 pub use crate::read::Read;
 pub use crate::value::{Value, value_of};

@@ -1,8 +1,8 @@
 //! The values of items, from the words of their registers.
-ghost use Rattle.std.specs.Prelude.{◌≡◌, ◌+◌, ◌*◌, ◌^◌, ◌<◌, ◌≤◌, length, IfOk, IfSome, IfNone};
+ghost use Rattle.std.specs.Prelude.{◌≡◌, ◌+◌, ◌*◌, ◌^◌, ◌<◌, ◌≤◌, length, IfOk, OnErr, IfSome, IfNone};
 ghost use Rattle.modbus_pdu.specs.Writing as writing;
 ghost use Rattle.modbus_poll.specs.Items.{width};
-ghost use Rattle.modbus_poll.specs.Values.{number, value};
+ghost use Rattle.modbus_poll.specs.Values.{number, value, IsText};
 
 use crate::item::{Kind, Order};
 use modbus_frame::{Data, Word};
@@ -65,7 +65,8 @@ fn bytes_of(alloc: Global, words: &[Word]) -> Result<Vec<u8>, AllocError>
 /// Want of memory, which comes for a text alone.
 pub fn value_of(alloc: Global, kind: Kind, words: &[Word]) -> Result<Value, AllocError>
     requires { length words.now ≡ width kind }
-    ensures { IfOk result (λ found. found ≡ value kind words.now) }
+    ensures value { IfOk result (λ found. found ≡ value kind words.now) }
+    ensures memory { OnErr result (IsText kind) }
 {
     Ok(match kind {
         Kind::U16 => Value::Unsigned(number(Order::HighFirst, words)),

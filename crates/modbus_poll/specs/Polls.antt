@@ -1,0 +1,140 @@
+-- Polls: reads that are made in order, and what each was answered (Modbus Application Protocol V1.1b3, section 6.3).
+use Rattle.std.specs.Prelude.{◌≡◌, ◌≢◌, ◌⊎◌, ℕ, List, [], ◌∷◌, length, take, slice_get, Some, Result, Ok, Err, ⊤}
+use Rattle.modbus_frame.specs.Answered.{function_answered}
+use Rattle.modbus_frame.specs.Codes.{function_number}
+use Rattle.modbus_frame.specs.Meaning.{Asked, ReadHoldingRegisters}
+use Rattle.modbus_frame.specs.declared.code.FunctionCode.TheVariants as function
+use Rattle.modbus_frame.specs.declared.fault.Error.TheVariants as error
+use Rattle.modbus_frame.specs.declared.response.Response.TheVariants as response
+use Rattle.modbus_pdu.specs.RequestOf.{IsModelled}
+use Rattle.modbus_pdu.specs.ResponseLaws.{IsResponse}
+use Rattle.modbus_service.specs.Answering.{Answering}
+use Rattle.modbus_service.specs.Exchange.{Exchange, Run}
+use Rattle.modbus_service.specs.Outcome.{Outcome, reply}
+use Rattle.modbus_client.specs.Matching.{Answer}
+use Rattle.modbus_client.specs.Typed.{AnswerOf, answer_map, Asks, holding_registers_read}
+use Rattle.modbus_client.specs.Exchange.{ExchangesLocally}
+use Rattle.modbus_client.specs.Back.{ComesBack}
+use Rattle.modbus_poll.specs.declared.item.Item.{Item}
+use Rattle.modbus_poll.specs.declared.read.Read.{Read}
+use Rattle.modbus_poll.specs.declared.value.Value.{Value}
+use Rattle.modbus_poll.specs.declared.polling.PollError.{PollError}
+use Rattle.modbus_poll.specs.declared.polling.PollError.TheVariants.{Call, Exception, Words, NoMemory}
+use Rattle.modbus_poll.specs.Words.{values_among}
+
+-- what a read is answered: its words, the exception of the device, or the fault of the call
+abbrev pub WordsAnswer : Type 0
+WordsAnswer = AnswerOf (List ℕ)
+
+-- what asking one read may do: of a state, the read, its answer and the next state
+abbrev pub Asking : Type 0 → Type 1
+Asking S = S → Read → WordsAnswer → S → Type 0
+
+-- the request of a read
+abbrev pub asked : Read → Asked
+asked read = ReadHoldingRegisters read.address read.count
+
+-- an answer with a response has one of holding registers
+abbrev pub IsOfRegisters : Answer → Type 0
+IsOfRegisters (Ok (Ok given)) = function_answered given ≡ function.ReadHoldingRegisters
+IsOfRegisters _ = ⊤
+
+-- a client was asked a read once, by its typed call
+abbrev pub AsksClient : {S : Type 0} → (S → Asked → Answer → S → Type 0) → Asking S
+AsksClient answers old read answer new =
+    Asks answers old (asked read) (holding_registers_read read.count) answer new
+
+-- the same answer, with the response that has these words
+abbrev pub as_response : WordsAnswer → Answer
+as_response answer = answer_map response.ReadHoldingRegisters answer
+
+-- A service was asked a read once, in an exchange without a transport, and this came back of its response.
+pub record AsksService {S : Type 0} (A : Answering S) (slave : ℕ) (old : S) (read : Read)
+    (answer : WordsAnswer) (new : S) : Type 0 where
+  pub exchanges : ExchangesLocally A old new slave (asked read) (as_response answer)
+  pub comes_back : ComesBack A old new slave (asked read) (as_response answer)
+
+-- The reads were made in order, each once, and each was answered with as many words as it asks for.
+abbrev pub Reads : {S : Type 0} → Asking S → S → List Read → List (List ℕ) → S → Type 0
+Reads asks old [] [] new = new ≡ old
+Reads asks old (read ∷ reads) (words ∷ found) new =
+    (next : _) × asks old read (Ok (Ok words)) next × (length words ≡ read.count)
+    × Reads asks next reads found new
+Reads asks old _ _ new = ⊥
+
+-- The read at this place was answered so, after those before it, each of which gave its words. No other was made.
+pub record AnswersAt {S : Type 0} (asks : Asking S) (old : S) (reads : List Read) (place : ℕ)
+    (answer : WordsAnswer) (new : S) : Type 0 where
+  pub found : List (List ℕ)
+  pub before : S
+  pub earlier : Reads asks old (take place reads) found before
+  pub read : Read
+  pub is : slice_get reads place ≡ Some read
+  pub asked : asks before read answer new
+
+-- a response with another number of words than its read asks for
+pub record AnswersOther {S : Type 0} (asks : Asking S) (old : S) (reads : List Read)
+    (place count : ℕ) (new : S) : Type 0 where
+  pub words : List ℕ
+  pub answers : AnswersAt asks old reads place (Ok (Ok words)) new
+  pub counted : count ≡ length words
+  pub other : count ≢ answers.read.count
+
+-- Memory was refused after so many reads, each of which gave its words, or in the call of the next one.
+pub record LacksMemory {S : Type 0} (asks : Asking S) (old : S) (reads : List Read)
+    (new : S) : Type 0 where
+  pub place : ℕ
+  pub found : List (List ℕ)
+  pub stands : Reads asks old (take place reads) found new
+      ⊎ AnswersAt asks old reads place (Err error.NoMemory) new
+
+-- what stands where a poll gives no values
+abbrev pub Stops : {S : Type 0} → Asking S → S → List Read → PollError → S → Type 0
+Stops asks old reads (Call place fault) new =
+    (fault ≢ error.NoMemory) × AnswersAt asks old reads place (Err fault) new
+Stops asks old reads (Exception place code) new = AnswersAt asks old reads place (Ok (Err code)) new
+Stops asks old reads (Words place count) new = AnswersOther asks old reads place count new
+Stops asks old reads NoMemory new = LacksMemory asks old reads new
+
+-- Each read was made once, in order, and each value is that of its item among the words that they gave.
+pub record GivesValues {S : Type 0} (asks : Asking S) (old : S) (reads : List Read)
+    (items : List Item) (values : List Value) (new : S) : Type 0 where
+  pub found : List (List ℕ)
+  pub made : Reads asks old reads found new
+  pub given : values ≡ values_among reads found items
+
+-- what a poll makes of the answer to the read at this place
+abbrev pub TakesAnswer : ℕ → Read → WordsAnswer → Result (List ℕ) PollError → Type 0
+TakesAnswer place read answer (Ok words) = (answer ≡ Ok (Ok words)) × (length words ≡ read.count)
+TakesAnswer place read answer (Err (Call at fault)) =
+    (at ≡ place) × (answer ≡ Err fault) × (fault ≢ error.NoMemory)
+TakesAnswer place read answer (Err (Exception at code)) = (at ≡ place) × (answer ≡ Ok (Err code))
+TakesAnswer place read answer (Err (Words at count)) =
+    (at ≡ place) × (words : List ℕ) × (answer ≡ Ok (Ok words)) × (count ≡ length words)
+    × (count ≢ read.count)
+TakesAnswer place read answer (Err NoMemory) = answer ≡ Err error.NoMemory
+
+-- A service gave these registers. It is known of a response of a kind that the protocol defines, whose numbers are in the range of their
+-- types, as those of every `Response` of the code are.
+abbrev pub GivesRegisters : Outcome → List ℕ → Type 0
+GivesRegisters (reply given) words =
+    IsResponse given → IsModelled (function_number (function_answered given))
+    → given ≡ response.ReadHoldingRegisters words
+GivesRegisters _ words = ⊥
+
+-- These are requests of the reads to this slave, in order, each with an outcome that gave its words.
+abbrev pub AskReads : ℕ → List Read → List (List ℕ) → List (Exchange ℕ) → Type 0
+AskReads slave [] [] [] = ⊤
+AskReads slave (read ∷ reads) (words ∷ found) (x ∷ xs) =
+    (x.header ≡ slave) × (x.request ≡ asked read) × GivesRegisters x.outcome words
+    × AskReads slave reads found xs
+AskReads slave _ _ _ = ⊥
+
+-- One run of the service over the requests of the reads ends there, and each value is that of its item among the registers that it gave.
+pub record ServesPoll {S : Type 0} (A : Answering S) (slave : ℕ) (old : S) (reads : List Read)
+    (items : List Item) (values : List Value) (new : S) : Type 0 where
+  pub exchanges : List (Exchange ℕ)
+  pub run : Run (λ to. to) A old exchanges new
+  pub found : List (List ℕ)
+  pub asked : AskReads slave reads found exchanges
+  pub given : values ≡ values_among reads found items

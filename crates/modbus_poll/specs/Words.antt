@@ -1,0 +1,31 @@
+-- The words that reads give, and those of an item among them.
+use Rattle.std.specs.Prelude.{◌≡◌, ℕ, ◌-◌, List, [], ◌∷◌, length, take, drop, map, if◌then◌else◌, ⊤}
+use Rattle.modbus_poll.specs.declared.item.Item.{Item}
+use Rattle.modbus_poll.specs.declared.read.Read.{Read}
+use Rattle.modbus_poll.specs.declared.value.Value.{Value}
+use Rattle.modbus_poll.specs.Items.{width, lies_in}
+use Rattle.modbus_poll.specs.Values.{value}
+
+-- each read gave as many words as it has registers
+abbrev pub AreWordsOf : List Read → List (List ℕ) → Type 0
+AreWordsOf [] [] = ⊤
+AreWordsOf (read ∷ reads) (words ∷ found) = (length words ≡ read.count) × AreWordsOf reads found
+AreWordsOf _ _ = ⊥
+
+-- the words of an item that lies in a read, by those that the read gave: those at its place
+abbrev pub words_in : Read → List ℕ → Item → List ℕ
+words_in read words item = take (width item.kind) (drop (item.address - read.address) words)
+
+-- the words of an item: those at its place in the first read in which it lies
+abbrev pub words_of : List Read → List (List ℕ) → Item → List ℕ
+words_of (read ∷ reads) (words ∷ found) item =
+    if lies_in item read then words_in read words item else words_of reads found item
+words_of _ _ item = []
+
+-- the value of an item by what the reads gave
+abbrev pub value_among : List Read → List (List ℕ) → Item → Value
+value_among reads found item = value item.kind (words_of reads found item)
+
+-- the values of items, in their order
+abbrev pub values_among : List Read → List (List ℕ) → List Item → List Value
+values_among reads found items = map (value_among reads found) items

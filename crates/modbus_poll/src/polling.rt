@@ -1,0 +1,215 @@
+//! Polls: the reads of a plan, each of which is made once, and the value of each item.
+ghost use Rattle.std.specs.Prelude.{◌≡◌, ◌≢◌, ℕ, true, IfOk, IfErr};
+ghost use Rattle.modbus_client.specs.Typed.{answer_map};
+ghost use Rattle.modbus_poll.specs.Items.{covers};
+ghost use Rattle.modbus_poll.specs.Polls.{IsOfRegisters, AsksClient, AsksService, TakesAnswer};
+ghost use Rattle.modbus_poll.specs.Polls.{Reads, Stops, GivesValues, ServesPoll};
+
+use crate::item::Item;
+use crate::plan::Plan;
+use crate::read::Read;
+use crate::value::Value;
+use crate::words::values_among;
+use modbus_client::{Reader, exchange};
+use modbus_frame::{Error, ExceptionCode, Request, Response, Slave, Words};
+use modbus_service::Answerer;
+use std::alloc::{AllocError, Global};
+
+/// Why a poll gives no values. A read is told by its place in the plan.
+#[derive(Debug, PartialEq, Eq, Drop, thiserror::Error)]
+pub enum PollError {
+    /// The call of this read failed.
+    #[error("read {read}: {error}")]
+    Call { read: usize, error: Error },
+    /// This read was answered with an exception (V1.1b3, section 7).
+    #[error("read {read}: {code}")]
+    Exception { read: usize, code: ExceptionCode },
+    /// This read was answered with so many words, which is not what it asks for.
+    #[error("read {read}: {found} words")]
+    Words { read: usize, found: usize },
+    /// Memory was refused.
+    #[error("no memory")]
+    NoMemory,
+}
+
+impl From<AllocError> for PollError {
+    ghost use Rattle.modbus_poll.specs.declared.polling.PollError.TheVariants as errors;
+
+    ghost from_gives = { λ _ error. error ≡ errors.NoMemory };
+
+    fn from(_error: AllocError) -> PollError {
+        PollError::NoMemory
+    }
+}
+
+/// What a poll makes of the answer to the read at this place.
+fn take_answer(
+    place: usize,
+    read: &Read,
+    answer: modbus_frame::Result<Words>,
+) -> Result<Words, PollError>
+    ensures { TakesAnswer place read.now answer result }
+{
+    match answer {
+        Ok(Ok(words)) => {
+            let found = words.as_slice().len();
+            if found == usize::from(read.count) {
+                Ok(words)
+            } else {
+                Err(PollError::Words { read: place, found })
+            }
+        }
+        Ok(Err(code)) => Err(PollError::Exception { read: place, code }),
+        Err(Error::NoMemory) => Err(PollError::NoMemory),
+        Err(error) => Err(PollError::Call { read: place, error }),
+    }
+}
+
+/// The answer of an exchange, whose response is one of holding registers, as the words of that.
+fn as_words(answer: modbus_frame::Result<Response>) -> modbus_frame::Result<Words>
+    requires { IsOfRegisters answer }
+    ensures { answer ≡ answer_map Response.ReadHoldingRegisters result }
+{
+    match answer {
+        Ok(Ok(Response::ReadHoldingRegisters(words))) => Ok(Ok(words)),
+        Ok(Ok(_)) => unreachable!(),
+        Ok(Err(code)) => Ok(Err(code)),
+        Err(error) => Err(error),
+    }
+}
+
+/// Asks a client one read.
+fn ask_client<R: Reader>(reader: &mut R, read: &Read) -> modbus_frame::Result<Words>
+    ensures { AsksClient R.Client.answers reader.old read.now result reader.new }
+{
+    match reader.read_holding_registers(read.address, read.count) {
+        Ok(Ok(words)) => Ok(Ok(Words::new(words))),
+        Ok(Err(code)) => Ok(Err(code)),
+        Err(error) => Err(error),
+    }
+}
+
+/// Asks a service, or another answerer, one read.
+fn ask_service<V: Answerer>(
+    alloc: Global,
+    slave: Slave,
+    service: &mut V,
+    read: &Read,
+) -> modbus_frame::Result<Words>
+    ensures { AsksService V.answering slave.0 service.old read.now result service.new }
+{
+    modbus_pdu::requests_have_sizes();
+    let request = Request::ReadHoldingRegisters(read.address, read.count);
+    as_words(exchange(alloc, slave, request, service))
+}
+
+/// Makes reads by a client, in order.
+fn read_by_client<R: Reader>(
+    alloc: Global,
+    reader: &mut R,
+    reads: &[Read],
+) -> Result<Vec<Words>, PollError>
+    ensures made { IfOk result (λ found.
+        Reads (AsksClient R.Client.answers) reader.old reads.now found.items reader.new) }
+    ensures stops { IfErr result (λ error.
+        Stops (AsksClient R.Client.answers) reader.old reads.now error reader.new) }
+{
+    let mut found = Vec::with_capacity(alloc, reads.len())?;
+    for (place, read) in reads.iter().enumerate() {
+        let answer = ask_client(reader, read);
+        let words = take_answer(place, read, answer)?;
+        found.push_reserved(words);
+    }
+    Ok(found)
+}
+
+/// Makes reads by a service, or another answerer, in order.
+fn read_by_service<V: Answerer>(
+    alloc: Global,
+    slave: Slave,
+    service: &mut V,
+    reads: &[Read],
+) -> Result<Vec<Words>, PollError>
+    ensures made { IfOk result (λ found.
+        Reads (AsksService V.answering slave.0) service.old reads.now found.items service.new) }
+    ensures stops { IfErr result (λ error.
+        Stops (AsksService V.answering slave.0) service.old reads.now error service.new) }
+{
+    let mut found = Vec::with_capacity(alloc, reads.len())?;
+    for (place, read) in reads.iter().enumerate() {
+        let answer = ask_service(alloc, slave, service, read);
+        let words = take_answer(place, read, answer)?;
+        found.push_reserved(words);
+    }
+    Ok(found)
+}
+
+/// Polls items by a client: makes each read of the plan once, in order, and gives the values of the items in their order.
+///
+/// The value of an item is that of its words in the first read in which it lies.
+///
+/// # Errors
+/// `Call` and `Exception` where a read was answered so, after all earlier ones gave their words; no later one was made. `Words` never
+/// comes, since the call of a client refuses such a response. `NoMemory` where memory was refused.
+pub fn poll<R: Reader>(
+    alloc: Global,
+    reader: &mut R,
+    items: &[Item],
+    plan: &Plan,
+) -> Result<Vec<Value>, PollError>
+    requires { covers plan.now items.now ≡ true }
+    ensures values { IfOk result (λ values. GivesValues (AsksClient R.Client.answers)
+        reader.old plan.now items.now values.items reader.new) }
+    ensures stops { IfErr result (λ error.
+        Stops (AsksClient R.Client.answers) reader.old plan.now error reader.new) }
+    ensures words { (place count : ℕ) → result ≢ Err (PollError.Words place count) }
+{
+    let found = read_by_client(alloc, reader, plan.reads())?;
+    Ok(values_among(alloc, plan, found.as_slice(), items)?)
+}
+
+/// Polls items by a service, or another answerer.
+fn poll_answerer<V: Answerer>(
+    alloc: Global,
+    slave: Slave,
+    items: &[Item],
+    plan: &Plan,
+    service: &mut V,
+) -> Result<Vec<Value>, PollError>
+    requires { covers plan.now items.now ≡ true }
+    ensures values { IfOk result (λ values. GivesValues (AsksService V.answering slave.0)
+        service.old plan.now items.now values.items service.new) }
+    ensures stops { IfErr result (λ error.
+        Stops (AsksService V.answering slave.0) service.old plan.now error service.new) }
+{
+    let found = read_by_service(alloc, slave, service, plan.reads())?;
+    Ok(values_among(alloc, plan, found.as_slice(), items)?)
+}
+
+/// Polls items by a service, or another answerer, that answers a slave: makes each read of the plan once, in order, as an exchange
+/// without a transport, and gives the values of the items in their order.
+///
+/// The value of an item is that of its words in the first read in which it lies. The service then stands where one run over the requests
+/// of the reads, in order, ends.
+///
+/// # Errors
+/// `Call` and `Exception` where a read was answered so, after all earlier ones gave their words; no later one was made. `Words` exactly
+/// where a response has another number of words than its read asks for. `NoMemory` where memory was refused.
+pub fn poll_service<V: Answerer>(
+    alloc: Global,
+    slave: Slave,
+    items: &[Item],
+    plan: &Plan,
+    service: &mut V,
+) -> Result<Vec<Value>, PollError>
+    requires { covers plan.now items.now ≡ true }
+    ensures values { IfOk result (λ values. GivesValues (AsksService V.answering slave.0)
+        service.old plan.now items.now values.items service.new) }
+    ensures run { IfOk result (λ values. ServesPoll V.answering slave.0
+        service.old plan.now items.now values.items service.new) }
+    ensures stops { IfErr result (λ error.
+        Stops (AsksService V.answering slave.0) service.old plan.now error service.new) }
+{
+    modbus_pdu::requests_have_sizes();
+    poll_answerer(alloc, slave, items, plan, service)
+}
