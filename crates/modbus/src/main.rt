@@ -45,13 +45,13 @@ fn main(rt: HostRuntime) -> ExitCode {
     };
     if let Some((framing, port)) = listening(&words) {
         let notes = (WriteSink::new(rt.stderr()), WriteSink::new(rt.stderr()));
-        let status = port::serve(
+        let (_errors, status) = port::serve(
             &rt,
             rt.alloc(),
             framing,
             port,
             |_error: ProcessError| {},
-            &mut errors,
+            errors,
             notes,
         );
         return ExitCode::from(status);

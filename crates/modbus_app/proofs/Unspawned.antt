@@ -11,7 +11,7 @@ use Rattle.modbus_store.specs.declared.table.PassesOut.{PassesOut}
 use Rattle.modbus_store.specs.Passes.{Pass}
 use Rattle.modbus_app.specs.declared.words.Framing.{Framing}
 use Rattle.modbus_app.specs.declared.words.Framing.TheVariants.{Rtu, Tcp}
-use Rattle.modbus_app.specs.Listen.{parts_with, hook_with, Listened, ListenedOver}
+use Rattle.modbus_app.specs.Listen.{parts_with, hook_with, Listened, Accepting, ListenedOver}
 
 module _ {A P K V H : Type 0} (pass_of : V → Pass) (accepted : A → Result (K × SocketAddr) Failed → A → Type 0)
     (starts : P → WorkerState K V H ℕ → Result (Unit {0}) Failed → P → Type 0) (on_error : H) where
@@ -50,7 +50,7 @@ module _ {A P K V H : Type 0} (pass_of : V → Pass) (accepted : A → Result (K
 
   pub listened : (counts : Counts A P) (old new : Listener A Pass P) (said now : Output) (status : ℕ) → Listened parts counts on_error old new said now status
       → (Rose (counts.spawn_faults old.spawner) (counts.spawn_faults new.spawner) → ⊥)
-      → ListenedOver pass_of accepted counts.accept_faults on_error (old.acceptor, old.hook) (new.acceptor, new.hook) said now status
+      → ListenedOver pass_of (record { accepts = accepted; faults = counts.accept_faults }) on_error (old.acceptor, old.hook) (new.acceptor, new.hook) said now status
   listened counts old new said now status l never = record {
     error = l.error;
     is = l.is;

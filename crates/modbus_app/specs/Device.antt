@@ -10,9 +10,11 @@ use Rattle.modbus_server.specs.Stepping.{Ran}
 use Rattle.modbus_store.specs.Tables.{Tables}
 use Rattle.modbus_store.specs.Opening.{zeros_of}
 use Rattle.modbus_store.specs.Step.{device}
+use Rattle.modbus_store.specs.Views.{Opening}
 use Rattle.modbus_app.specs.declared.words.Framing.{Framing}
 use Rattle.modbus_app.specs.declared.words.Framing.TheVariants.{Rtu, Tcp}
 use Rattle.modbus_app.specs.declared.words.Form.{Form}
+use Rattle.modbus_app.specs.Words.{default_size}
 
 -- a table of so many entries, each made of its address
 unfoldable pub entries_by : {A : Type 0} → (ℕ → A) → ℕ → List A
@@ -44,6 +46,13 @@ broadcasts_of Tcp = false
 abbrev pub opening : Form → Tables
 opening form = if form.seeded then seeded_tables form.size (broadcasts_of form.framing)
     else zeros_of (record { coils = form.size; discrete_inputs = form.size; holding_registers = form.size; input_registers = form.size }) (broadcasts_of form.framing)
+
+-- the device that all connections to a listener share, as it begins: no record of its calls is kept
+abbrev pub shared_opening : Framing → Opening
+shared_opening framing = record {
+  tables = opening (record { framing = framing; size = default_size; seeded = false });
+  recorded = false;
+}
 
 -- how the requests of a framing stand in the bytes of a connection
 abbrev pub messages_of : Framing → Messages

@@ -8,3 +8,4 @@ pub mod Memory
 pub mod Watched
 pub mod Patient
 pub mod Turning
+pub mod Port

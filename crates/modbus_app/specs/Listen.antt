@@ -44,14 +44,29 @@ pub record Listened {A P K V H : Type 0} (parts : Parts A Pass P K K V PassesOut
   pub serves : ServesLinks parts counts on_error old new error
   pub tells : Reports said told (listener_line_of error)
 
+-- an acceptor, by what an accept leads to, and how often it failed
+pub record Accepting (A K : Type 0) : Type 1 where
+  pub accepts : A → Result (K × SocketAddr) Failed → A → Type 0
+  pub faults : A → ℕ
+
+abbrev pub accepting : {A K : Type 0} → (A → Result (K × SocketAddr) Failed → A → Type 0) → (A → ℕ) → Accepting A K
+accepting accepts faults = record { accepts = accepts; faults = faults }
+
+-- such an acceptor and such a hook, with nothing said of what starts workers
+abbrev pub parts_over : {A K V H : Type 0} → (V → Pass) → Accepting A K → Parts A Pass (Unit {0}) K K V PassesOut H
+parts_over pass_of by = unspawned by.accepts (hook_with pass_of)
+
+abbrev pub without : {A : Type 0} → A × Pass → Listener A Pass (Unit {0})
+without it = without_spawner it.0 it.1
+
 -- The same, over a spawner that never fails and of which nothing is said: the acceptor and the pass are told before and after.
-pub record ListenedOver {A K V H : Type 0} (pass_of : V → Pass) (accepted : A → Result (K × SocketAddr) Failed → A → Type 0) (faults : A → ℕ) (on_error : H)
+pub record ListenedOver {A K V H : Type 0} (pass_of : V → Pass) (by : Accepting A K) (on_error : H)
     (old new : A × Pass) (said told : Output) (status : ℕ) : Type 0 where
   pub error : ServeError PassesOut
   pub is : status ≡ listener_status_of error
   pub tells : Reports said told (listener_line_of error)
-  pub accepts : Accepts (unspawned accepted (hook_with pass_of)) never_set on_error (without_spawner old.0 old.1) tt (without_spawner new.0 new.1) tt (Err error)
-  pub accept_fault : error ≡ AcceptFault → Rose (faults old.0) (faults new.0)
+  pub accepts : Accepts (parts_over pass_of by) never_set on_error (without old) tt (without new) tt (Err error)
+  pub accept_fault : error ≡ AcceptFault → Rose (by.faults old.0) (by.faults new.0)
   pub spawns : error ≢ SpawnFault
   pub pass : new.1 ≡ record old.1 { drawn = new.1.drawn }
   pub passes_out : (none_left : PassesOut) → error ≡ Connect none_left → new.1.drawn ≡ 2 ^ 32

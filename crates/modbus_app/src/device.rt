@@ -1,8 +1,8 @@
 //! The device that the program serves.
-ghost use Rattle.std.specs.Prelude.{◌≡◌, ◌≤◌, false, IfOk};
+ghost use Rattle.std.specs.Prelude.{◌≡◌, ◌≤◌, IfOk};
 ghost use Rattle.modbus_store.specs.Passes.{opened};
-ghost use Rattle.modbus_app.specs.Words.{default_size, most_entries};
-ghost use Rattle.modbus_app.specs.Device.{entries_by, third, odd, same, down, seeded_tables, broadcasts_of, opening};
+ghost use Rattle.modbus_app.specs.Words.{most_entries};
+ghost use Rattle.modbus_app.specs.Device.{entries_by, third, odd, same, down, seeded_tables, broadcasts_of, opening, shared_opening};
 
 use crate::words::{DEFAULT_SIZE, Form, Framing};
 use modbus_frame::{Coil, Word};
@@ -112,7 +112,7 @@ pub fn open(alloc: Global, form: Form) -> Result<RegisterStore, StoreError>
 /// The device that all connections to a listener share, as it begins, and its first pass. No record of its calls is kept, so it does not
 /// grow.
 pub fn open_shared(alloc: Global, framing: Framing) -> Result<(StoreTable, StorePass), StoreError>
-    ensures table { IfOk result (λ r. r.0.opening ≡ record { tables = opening (record { framing = framing; size = default_size; seeded = false }); recorded = false }) }
+    ensures table { IfOk result (λ r. r.0.opening ≡ shared_opening framing) }
     ensures pass { IfOk result (λ r. r.1 ≡ opened r.0.table r.0.opening) }
 {
     let form = Form {

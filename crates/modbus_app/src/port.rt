@@ -1,8 +1,12 @@
 //! Listening on a port, with a thread of a scope for each connection.
-ghost use Rattle.std.specs.Prelude.{◌≡◌};
+ghost use Rattle.std.specs.Prelude.{◌≡◌, [], ◌∷◌};
+ghost use Rattle.std.specs.Net.Addr.{IsV4And, ipv4_octets};
+ghost use Rattle.std.specs.Net.Socket.{socket_ip, IsPlainSocket};
 ghost use Rattle.modbus_server.specs.declared.error.ProcessError.TheVariants.{NoMemory};
-ghost use Rattle.modbus_app.specs.Listen.{ListenedOver};
-ghost use Rattle.modbus_app.specs.Status.{line_of, bind_line, Reports};
+ghost use Rattle.modbus_app.specs.Device.{shared_opening};
+ghost use Rattle.modbus_app.specs.Listen.{accepting, ListenedOver};
+ghost use Rattle.modbus_app.specs.Port.{IsRefused, ServesPort, ListensAt};
+ghost use Rattle.modbus_app.specs.Status.{line_of, Reports};
 
 use crate::device::open_shared;
 use crate::listen::run_listen;
@@ -17,7 +21,7 @@ use modbus_link::{
 };
 use modbus_server::{Answerer, ConnectionWorker, ProcessError, rtu_over_tcp, tcp};
 use std::alloc::Global;
-use std::io::{ErrorKind, Result as IoResult};
+use std::io::{Error, ErrorKind, Result as IoResult};
 use std::marker::Model;
 use std::net::{Net, SocketAddr, TcpListener, TcpStream};
 use std::sync::Wait;
@@ -177,8 +181,8 @@ where
     E: Sink,
     N: Sink + Drop,
     requires error_hook { H.IsAlwaysCallable on_process_error }
-    ensures { ListenedOver S.pass_of A.accepts A.faults on_process_error (acceptor.old, S.pass services.old) (acceptor.new, S.pass services.new)
-        (E.output errors.old) (E.output errors.new) result }
+    ensures { ListenedOver S.pass_of (accepting A.accepts A.faults) on_process_error
+        (acceptor.old, S.pass services.old) (acceptor.new, S.pass services.new) (E.output errors.old) (E.output errors.new) result }
 {
     let spawners = Spawners {
         rtu: ScopeSpawner::new(
@@ -205,7 +209,82 @@ where
     )
 }
 
-/// Tells want of memory.
+/// What a listener serves with: what gives its links, what gives their services, and where it tells why it ends.
+#[derive(Drop)]
+struct Listening<A, S, E> {
+    acceptor: A,
+    services: S,
+    errors: E,
+}
+
+/// Serves as `listen_in_scope` does, in a scope of its own, over a device of this framing, and gives back what it served with. `ended` is
+/// set once it does not go on; then it waits for its threads.
+fn serve_in_threads<R, A, S, H, E, N>(
+    rt: &R,
+    alloc: Global,
+    framing: Framing,
+    listening: Listening<A, S, E>,
+    on_process_error: H,
+    notes: N,
+    ended: &AtomicBool,
+) -> (Listening<A, S, E>, u8)
+where
+    R: Threads + Wait,
+    A: Acceptor + Drop,
+    A::Link: Link + Send + Drop,
+    S: Services + Drop,
+    S::Service: Send + Drop,
+    H: Fn(ProcessError) + Copy + Send,
+    E: Sink + Drop,
+    N: Sink + Drop,
+    requires error_hook { H.IsAlwaysCallable on_process_error }
+    requires device { (S.pass listening.services).opening ≡ shared_opening framing }
+    ensures { ListenedOver S.pass_of (accepting A.accepts A.faults) on_process_error
+        (listening.acceptor, S.pass listening.services) (result.0.acceptor, S.pass result.0.services)
+        (E.output listening.errors) (E.output result.0.errors) result.1 }
+{
+    thread::scope(
+        thread::scope_env(),
+        rt,
+        |scope| -> (Listening<A, S, E>, u8)
+            requires { H.IsAlwaysCallable on_process_error }
+            ensures { ListenedOver S.pass_of (accepting A.accepts A.faults) on_process_error
+                (listening.acceptor, S.pass listening.services) (result.0.acceptor, S.pass result.0.services)
+                (E.output listening.errors) (E.output result.0.errors) result.1 }
+        {
+            let Listening {
+                acceptor,
+                services,
+                errors,
+            } = listening;
+            let mut acceptor = acceptor;
+            let mut services = services;
+            let mut errors = errors;
+            let status = listen_in_scope(
+                rt,
+                alloc,
+                framing,
+                &mut acceptor,
+                &mut services,
+                on_process_error,
+                &mut errors,
+                notes,
+                scope,
+            );
+            ended.store(true, Ordering::Release);
+            (
+                Listening {
+                    acceptor,
+                    services,
+                    errors,
+                },
+                status,
+            )
+        },
+    )
+}
+
+/// Reports that memory was refused.
 fn no_memory<E: Sink>(errors: &mut E) -> u8
     ensures status { result ≡ 11 }
     ensures tells { Reports (E.output errors.old) (E.output errors.new) (line_of NoMemory) }
@@ -214,85 +293,119 @@ fn no_memory<E: Sink>(errors: &mut E) -> u8
     NO_MEMORY
 }
 
-/// Tells that the system refuses a listener.
-fn bind_fault<E: Sink>(errors: &mut E) -> u8
-    ensures status { result ≡ 15 }
-    ensures tells { Reports (E.output errors.old) (E.output errors.new) bind_line }
+/// Reports that the system refuses a listener, as it may for want of memory.
+fn refused<E: Sink>(error: Error, errors: &mut E) -> u8
+    ensures { IsRefused (E.output errors.old) (E.output errors.new) result }
 {
+    if error.kind() == ErrorKind::OutOfMemory {
+        return no_memory(errors);
+    }
     report(errors, BIND_LINE);
     BIND_FAULT
 }
 
-/// The listener on this port of this machine (127.0.0.1), and another share of it.
+/// The address of this port of this machine, which no other reaches (RFC 1122, section 3.2.1.3).
+fn loopback(port: u16) -> SocketAddr
+    ensures ip { IsV4And (socket_ip result) (λ ip. ipv4_octets ip ≡ 127 ∷ 0 ∷ 0 ∷ 1 ∷ []) }
+    ensures port { IsPlainSocket result port }
+{
+    SocketAddr::from(([127, 0, 0, 1], port))
+}
+
+/// The listener on this port of this machine, and another share of it.
 fn bind<R>(rt: &R, port: u16) -> IoResult<(TcpListener, TcpListener)>
 where
     R: Net<Listener = TcpListener, Stream = TcpStream>,
 {
-    let listener = TcpListener::bind(rt, SocketAddr::from(([127, 0, 0, 1], port)))?;
+    let listener = TcpListener::bind(rt, loopback(port))?;
     let share = listener.try_clone()?;
     Ok((listener, share))
 }
 
+/// Serves all links of this listener, in this framing, over a device of it.
+fn serve_bound<R, H, E, N>(
+    rt: &R,
+    alloc: Global,
+    framing: Framing,
+    listener: (TcpListener, TcpListener),
+    on_process_error: H,
+    errors: E,
+    notes: (N, N),
+) -> (E, u8)
+where
+    R: Threads + Wait + Clock + Sync,
+    H: Fn(ProcessError) + Copy + Send,
+    E: Sink + Drop,
+    N: Sink + Drop,
+    requires error_hook { H.IsAlwaysCallable on_process_error }
+    ensures { ServesPort framing on_process_error (E.output errors) (E.output result.0) result.1 }
+{
+    let mut errors = errors;
+    let Ok((table, pass)) = open_shared(alloc, framing) else {
+        let status = no_memory(&mut errors);
+        return (errors, status);
+    };
+    let (listener, share) = listener;
+    let ended = AtomicBool::new(false);
+    let accepting = WatchedAcceptor::new(TcpAcceptor::new(listener), &ended);
+    let keeper = PortKeeper::new(rt, share, notes.0);
+    let listening = Listening {
+        acceptor: PatientAcceptor::new(accepting, keeper, RETRIES),
+        services: StoreServices::new(rt, &table, pass),
+        errors,
+    };
+    let (listening, status) = serve_in_threads(
+        rt,
+        alloc,
+        framing,
+        listening,
+        on_process_error,
+        notes.1,
+        &ended,
+    );
+    (listening.errors, status)
+}
+
 /// Serves all connections to a port of this machine (127.0.0.1), each in a thread, over one device of four tables of 1024 entries that
-/// hold 0 at first. The error of a single connection ends that connection alone, and is handed to `on_process_error`.
+/// hold 0 at first; over RTU a broadcast has no answer. The error of a single connection ends that connection alone, and is handed to
+/// `on_process_error`.
 ///
 /// A peer that there is no file descriptor or no thread for is turned away, and the first of several in a row is told on `notes`, the
 /// descriptors on the first of them. After a fault of accepting it waits for 100 milliseconds and tries again, 300 times in a row. A
 /// connection that moves no byte for ten minutes is let go. Once the call does not go on, each of its connections ends within a second.
 ///
-/// The status is one of `run_listen`, or 15 where the system refuses the listener. Each has its line on `errors`.
+/// It gives `errors` back, with the line of the status: 11, 12 or 14 as `run_listen`, or 15 where the system refuses the listener.
 pub fn serve<R, H, E, N>(
     rt: &R,
     alloc: Global,
     framing: Framing,
     port: u16,
     on_process_error: H,
-    errors: &mut E,
+    errors: E,
     notes: (N, N),
-) -> u8
+) -> (E, u8)
 where
     R: Threads + Wait + Clock + Net<Listener = TcpListener, Stream = TcpStream> + Sync,
     H: Fn(ProcessError) + Copy + Send,
-    E: Sink,
+    E: Sink + Drop,
     N: Sink + Drop,
     requires error_hook { H.IsAlwaysCallable on_process_error }
+    ensures { ListensAt framing on_process_error (E.output errors) (E.output result.0) result.1 }
 {
-    let (listener, share) = match bind(rt, port) {
-        Ok(listener) => listener,
-        Err(error) if error.kind() == ErrorKind::OutOfMemory => return no_memory(errors),
-        Err(_) => return bind_fault(errors),
-    };
-    let Ok((table, pass)) = open_shared(alloc, framing) else {
-        return no_memory(errors);
-    };
-    let ended = AtomicBool::new(false);
-    let accepting = WatchedAcceptor::new(TcpAcceptor::new(listener), &ended);
-    let mut acceptor = PatientAcceptor::new(
-        accepting,
-        PortKeeper::new(rt, share, notes.0),
-        RETRIES,
-    );
-    let mut services = StoreServices::new(rt, &table, pass);
-    let notes = notes.1;
-    thread::scope(
-        thread::scope_env(),
-        rt,
-        |scope| -> u8
-            requires { H.IsAlwaysCallable on_process_error }
-        {
-            let status = listen_in_scope(
-                rt,
-                alloc,
-                framing,
-                &mut acceptor,
-                &mut services,
-                on_process_error,
-                errors,
-                notes,
-                scope,
-            );
-            ended.store(true, Ordering::Release);
-            status
-        },
-    )
+    match bind(rt, port) {
+        Ok(listener) => serve_bound(
+            rt,
+            alloc,
+            framing,
+            listener,
+            on_process_error,
+            errors,
+            notes,
+        ),
+        Err(error) => {
+            let mut errors = errors;
+            let status = refused(error, &mut errors);
+            (errors, status)
+        }
+    }
 }

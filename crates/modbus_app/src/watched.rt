@@ -1,10 +1,8 @@
 //! Links of a listener whose workers are to end with it, and what accepts them.
-ghost use Rattle.std.specs.Prelude.{◌≡◌, ◌<◌, ◌≤◌, length, Some, IfOk, OnErr};
+ghost use Rattle.std.specs.Prelude.{◌≡◌, ◌<◌, ◌≤◌, length, IfOk, OnErr};
 ghost use Rattle.std.specs.Io.{ReadsAtMost, WritesAtMost};
 ghost use Rattle.modbus_link.specs.Outside.{Rose, untold_input, untold_output};
-ghost use Rattle.modbus_link.specs.Tcp.{tcp_at_start};
-ghost use Rattle.modbus_link.specs.Listens.{tally_at_start, tally_after};
-ghost use Rattle.modbus_app.specs.Watched.{IsWatched};
+ghost use Rattle.modbus_app.specs.Watched.{IsWatched, AcceptsWatched};
 
 use modbus_link::{Acceptor, Ends, Failed, Link, Sink, Source, TcpAcceptor, TcpLink};
 use std::marker::Model;
@@ -158,7 +156,7 @@ impl<'f> Acceptor for WatchedAcceptor<'f> {
 
     ghost given = { λ it. it.given };
 
-    ghost accepts = { λ old result new. IfOk result (λ accepted. IsWatched tcp_at_start accepted.0) × (new ≡ tally_after result old) };
+    ghost accepts = { AcceptsWatched };
 
     /// Waits for the next peer.
     ///

@@ -1,0 +1,63 @@
+-- How a program that listens on a port ends.
+use Rattle.std.specs.Prelude.{◌≡◌, ◌⊎◌, ℕ}
+use Rattle.modbus_link.specs.Listens.{Tally, tally_at_start}
+use Rattle.modbus_link.specs.Outside.{Output}
+use Rattle.modbus_link.specs.Tcp.{TcpState}
+use Rattle.modbus_server.specs.declared.error.ProcessError.TheVariants.{NoMemory}
+use Rattle.modbus_store.specs.Passes.{Shared, Pass, opened}
+use Rattle.modbus_app.specs.declared.words.Framing.{Framing}
+use Rattle.modbus_app.specs.Device.{shared_opening}
+use Rattle.modbus_app.specs.Listen.{Accepting, ListenedOver}
+use Rattle.modbus_app.specs.Patient.{PatientState, IsPatient}
+use Rattle.modbus_app.specs.Status.{line_of, bind_line, Reports}
+use Rattle.modbus_app.specs.Watched.{AcceptsWatched}
+
+-- what accepts the links of a port: watched links over TCP, patiently; nothing is said of what keeps it going
+abbrev pub Port : Type 0
+Port = PatientState Tally (Unit {0})
+
+abbrev pub port_accepting : Accepting Port TcpState
+port_accepting = record {
+  accepts = IsPatient (record { accepts = AcceptsWatched; admits = λ _ _ _. Unit {0}; waits = λ _ _. Unit {0} });
+  faults = λ port. port.tally.faults;
+}
+
+-- one that has given nothing, and tries again 300 times
+abbrev pub port_at_start : Port
+port_at_start = record {
+  pair = record { acceptor = tally_at_start; keeper = tt };
+  retries = 300;
+  tally = tally_at_start;
+}
+
+-- such a port, and the first pass of a shared store
+abbrev pub begun : Shared → Port × Pass
+begun store = (port_at_start, opened store.table store.opening)
+
+-- the services of a shared store are told by their passes
+abbrev pub own_pass : Pass → Pass
+own_pass pass = pass
+
+-- The links of a port were served over one shared store, which began as the device of this framing.
+pub record ServesDevice {H : Type 0} (framing : Framing) (on_error : H) (said told : Output) (status : ℕ)
+    : Type 0 where
+  pub store : Shared
+  pub opens : store.opening ≡ shared_opening framing
+  pub after : Port × Pass
+  pub listened : ListenedOver own_pass port_accepting on_error (begun store) after said told status
+
+-- memory was wanting, and its line was told
+abbrev pub IsWanting : Output → Output → ℕ → Type 0
+IsWanting said told status = (status ≡ 11) × Reports said told (line_of NoMemory)
+
+-- the system refused a listener, as it may for want of memory, and the line of the status was told
+abbrev pub IsRefused : Output → Output → ℕ → Type 0
+IsRefused said told status = IsWanting said told status ⊎ ((status ≡ 15) × Reports said told bind_line)
+
+-- a listener of a port ended: memory was wanting for the device, or it served its links
+abbrev pub ServesPort : {H : Type 0} → Framing → H → Output → Output → ℕ → Type 0
+ServesPort framing on_error said told status = IsWanting said told status ⊎ ServesDevice framing on_error said told status
+
+-- a program that listens ended: the system refused the listener, or it served
+abbrev pub ListensAt : {H : Type 0} → Framing → H → Output → Output → ℕ → Type 0
+ListensAt framing on_error said told status = IsRefused said told status ⊎ ServesPort framing on_error said told status
