@@ -3,10 +3,10 @@
 
 usage: bench/instructions.py
 
-It serves 1,000 and 100,000 requests over standard input and output under callgrind, and prints the difference a request: for RTU frames and
-for Modbus TCP, and the ten functions that cost most. Then it does the same for `make`, which makes its requests itself, and for RTU frames that
-read, and that write, one register. Last it serves frames of kinds that carry no list (05, 06) under memcheck, and prints the allocations a
-request. The requests are those of bench/rtu.py, from a fixed seed. It is no test; it needs Python 3.9 and valgrind.
+It serves 1,000 and 100,000 requests over standard input and output under callgrind, and prints the difference a request: for RTU frames,
+for Modbus TCP and for ASCII frames, and the ten functions that cost most. Then it does the same for `make`, which makes its requests
+itself, and for RTU frames that read, and that write, one register. Last it serves frames of kinds that carry no list (05, 06) under
+memcheck, and prints the allocations a request. The requests are those of bench/rtu.py, from a fixed seed. It is no test; it needs Python 3.9 and valgrind.
 
 BENCH_PROGRAM names another program to measure in place of the built one.
 """
@@ -32,6 +32,15 @@ def adus(count):
         pdu = rtu.request(rng)
         header = rtu.word(transaction % 65536) + rtu.word(0) + rtu.word(len(pdu) + 1) + bytes((UNIT,))
         yield header + pdu
+
+
+def texts(count):
+    """So many frames of the ASCII transmission mode for slave 1, one after another."""
+    rng = random.Random(rtu.SEED)
+    for _ in range(count):
+        body = b"\x01" + rtu.request(rng)
+        body += bytes((-sum(body) % 256,))
+        yield b":" + body.hex().upper().encode() + b"\r\n"
 
 
 def single_writes(count):
@@ -117,6 +126,7 @@ def main():
         sys.exit("bench: build the program first: ./prove")
     costs("rtu", fed("rtu", rtu.frames))
     costs("tcp", fed("tcp", adus))
+    costs("ascii", fed("ascii", texts))
     costs("make", made)
     costs("rtu, reads of one register", fed("rtu", one_register(0x03)), rows=0)
     costs("rtu, writes of one register", fed("rtu", one_register(0x06)), rows=0)

@@ -29,20 +29,20 @@ pub same_count : (a b : ℕ) (found : Option Task) → Some (Make a) ≡ found �
 same_count a b found e f = ap (count_or a) (e ∙ f)
 
 module _ (form : Form) (opened now : Tables) (start : opened ≡ opening form) (from to : Input) (sunk sinks : Output) where
-  serves : (result : Result (Unit {0}) ProcessError) → Ran (messages_of form.framing) device opened now from to sunk sinks (2 ^ 64 - 1) result → Serves form from to sunk sinks result
-  serves result ran = record { now = now; ran = subst (λ t. Ran (messages_of form.framing) device t now from to sunk sinks (2 ^ 64 - 1) result) start ran }
+  serves : (result : Result (Unit {0}) ProcessError) → Ran (messages_of form.mode) device opened now from to sunk sinks (2 ^ 64 - 1) result → Serves form from to sunk sinks result
+  serves result ran = record { now = now; ran = subst (λ t. Ran (messages_of form.mode) device t now from to sunk sinks (2 ^ 64 - 1) result) start ran }
 
-  pub ends : (said told : Output) (status : ℕ) (result : Result (Unit {0}) ProcessError) → Ran (messages_of form.framing) device opened now from to sunk sinks (2 ^ 64 - 1) result
+  pub ends : (said told : Output) (status : ℕ) (result : Result (Unit {0}) ProcessError) → Ran (messages_of form.mode) device opened now from to sunk sinks (2 ^ 64 - 1) result
       → ending_of result ≡ Some status → TellsResult said told result → Ends form from to sunk sinks said told status
   ends said told status result ran is tells = record { result = result; is = is; served = inl (serves result ran); tells = tells }
 
   -- where all was served, all that was left was read, and what was appended is the output
-  pub answers : Ran (messages_of form.framing) device opened now from to sunk sinks (2 ^ 64 - 1) (Ok tt) → IsTrue from.told → IsTrue sunk.told
+  pub answers : Ran (messages_of form.mode) device opened now from to sunk sinks (2 ^ 64 - 1) (Ok tt) → IsTrue from.told → IsTrue sunk.told
       → EndsServing form from.left (totals (cuts_made from to)) (bytes_appended sunk sinks) (Ok tt) × (to.left ≡ [])
   answers ran told told' =
       let ended : to.left ≡ [] = ran.ended told in
       let read : from.left ≡ ran.fed = sym (bytes_read-all from to (ran.passes.source.content told) ended) ∙ ran.passes.read told in
-      let F : Framing = messages_of form.framing in (
+      let F : Framing = messages_of form.mode in (
         (
           now,
           subst (λ t. EndsAs F device from.left (totals (cuts_made from to)) t now (bytes_appended sunk sinks) (Ok tt)) start

@@ -5,6 +5,7 @@ use Rattle.modbus_server.specs.declared.error.ProcessError.{ProcessError}
 use Rattle.modbus_server.specs.Framing.{Framing as Messages}
 use Rattle.modbus_server.specs.Rtu.{rtu}
 use Rattle.modbus_server.specs.Tcp.{tcp}
+use Rattle.modbus_ascii.specs.Framing.{ascii}
 use Rattle.modbus_server.specs.Serving.{EndsAs}
 use Rattle.modbus_server.specs.Stepping.{Ran}
 use Rattle.modbus_store.specs.Tables.{Tables}
@@ -12,7 +13,9 @@ use Rattle.modbus_store.specs.Opening.{zeros_of}
 use Rattle.modbus_store.specs.Step.{device}
 use Rattle.modbus_store.specs.Views.{Opening}
 use Rattle.modbus_app.specs.declared.words.Framing.{Framing}
-use Rattle.modbus_app.specs.declared.words.Framing.TheVariants.{Rtu, Tcp}
+use Rattle.modbus_app.specs.declared.words.Framing.TheVariants as framing
+use Rattle.modbus_app.specs.declared.words.Mode.{Mode}
+use Rattle.modbus_app.specs.declared.words.Mode.TheVariants.{Rtu, Ascii, Tcp}
 use Rattle.modbus_app.specs.declared.words.Form.{Form}
 use Rattle.modbus_app.specs.Words.{default_size}
 
@@ -38,32 +41,39 @@ abbrev pub seeded_tables : ℕ → Bool → Tables
 seeded_tables size broadcast = record { coils = entries_by third size; discrete_inputs = entries_by odd size; holding_registers = entries_by same size; input_registers = entries_by down size; broadcast = broadcast }
 
 -- on a serial line a request to slave 0 is a broadcast, which has its effect and no answer; over TCP it is answered like any other
-abbrev pub broadcasts_of : Framing → Bool
+abbrev pub broadcasts_of : Mode → Bool
 broadcasts_of Rtu = true
+broadcasts_of Ascii = true
 broadcasts_of Tcp = false
 
 -- four tables of the form's size
 abbrev pub opening : Form → Tables
-opening form = if form.seeded then seeded_tables form.size (broadcasts_of form.framing)
-    else zeros_of (record { coils = form.size; discrete_inputs = form.size; holding_registers = form.size; input_registers = form.size }) (broadcasts_of form.framing)
+opening form = if form.seeded then seeded_tables form.size (broadcasts_of form.mode)
+    else zeros_of (record { coils = form.size; discrete_inputs = form.size; holding_registers = form.size; input_registers = form.size }) (broadcasts_of form.mode)
+
+-- the mode of a connection to a listener
+abbrev pub mode_of : Framing → Mode
+mode_of framing.Rtu = Rtu
+mode_of framing.Tcp = Tcp
 
 -- the device that all connections to a listener share, as it begins: no record of its calls is kept
 abbrev pub shared_opening : Framing → Opening
-shared_opening framing = record {
-  tables = opening (record { framing = framing; size = default_size; seeded = false });
+shared_opening by = record {
+  tables = opening (record { mode = mode_of by; size = default_size; seeded = false });
   recorded = false;
 }
 
--- how the requests of a framing stand in the bytes of a connection
-abbrev pub messages_of : Framing → Messages
+-- how the requests of a mode stand in the bytes of a connection
+abbrev pub messages_of : Mode → Messages
 messages_of Rtu = rtu
+messages_of Ascii = ascii
 messages_of Tcp = tcp
 
 -- how serving the device ended, over all that was read and written; its tables are then those after one run over the requests
 abbrev pub EndsServing : Form → List ℕ → List ℕ → List ℕ → Result (Unit {0}) ProcessError → Type 0
-EndsServing form bytes cuts written result = (now : Tables) × EndsAs (messages_of form.framing) device bytes cuts (opening form) now written result
+EndsServing form bytes cuts written result = (now : Tables) × EndsAs (messages_of form.mode) device bytes cuts (opening form) now written result
 
 -- serving the device, over a source and a sink, with no limit of turns but that of a counter of 64 bits
 pub record Serves (form : Form) (from to : Input) (sunk sinks : Output) (result : Result (Unit {0}) ProcessError) : Type 0 where
   pub now : Tables
-  pub ran : Ran (messages_of form.framing) device (opening form) now from to sunk sinks (2 ^ 64 - 1) result
+  pub ran : Ran (messages_of form.mode) device (opening form) now from to sunk sinks (2 ^ 64 - 1) result

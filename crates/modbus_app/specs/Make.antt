@@ -12,7 +12,7 @@ use Rattle.modbus_server.specs.declared.error.ProcessError.{ProcessError}
 use Rattle.modbus_server.specs.declared.error.ProcessError.TheVariants.{WriteFault, NoMemory}
 use Rattle.modbus_store.specs.Tables.{Tables}
 use Rattle.modbus_store.specs.Step.{store_step}
-use Rattle.modbus_app.specs.declared.words.Framing.TheVariants.{Rtu}
+use Rattle.modbus_app.specs.declared.words.Mode.TheVariants.{Rtu}
 use Rattle.modbus_app.specs.Device.{opening}
 use Rattle.modbus_app.specs.Words.{default_size}
 
@@ -56,7 +56,7 @@ answered tables (request ∷ requests) =
 
 -- the device of the word `rtu`, as it begins
 abbrev pub made_tables : Tables
-made_tables = opening (record { framing = Rtu; size = default_size; seeded = false })
+made_tables = opening (record { mode = Rtu; size = default_size; seeded = false })
 
 -- the frames of all replies
 abbrev pub replies_made : ℕ → List ℕ

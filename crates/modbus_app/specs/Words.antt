@@ -4,6 +4,8 @@ use Rattle.std.specs.Str.{bytes_eq}
 use Rattle.std.specs.declared.alloc.Global.{Global}
 use Rattle.modbus_app.specs.declared.words.Framing.{Framing}
 use Rattle.modbus_app.specs.declared.words.Framing.TheVariants.{Rtu, Tcp}
+use Rattle.modbus_app.specs.declared.words.Mode.{Mode}
+use Rattle.modbus_app.specs.declared.words.Mode.TheVariants as mode
 use Rattle.modbus_app.specs.declared.words.Task.{Task}
 use Rattle.modbus_app.specs.declared.words.Task.TheVariants.{Serve, Make, Listen}
 
@@ -50,9 +52,9 @@ abbrev pub port_named : List ℕ → Option ℕ
 port_named text = number_within 5 0 65535 text
 
 -- a task, where its number is there
-abbrev pub served : Framing → Option ℕ → Bool → Option Task
-served framing (Some size) seeded = Some (Serve (record { framing = framing; size = size; seeded = seeded }))
-served framing None seeded = None
+abbrev pub served : Mode → Option ℕ → Bool → Option Task
+served m (Some size) seeded = Some (Serve (record { mode = m; size = size; seeded = seeded }))
+served m None seeded = None
 
 abbrev pub made : Option ℕ → Option Task
 made (Some count) = Some (Make count)
@@ -62,21 +64,24 @@ abbrev pub listened_to : Framing → Option ℕ → Option Task
 listened_to framing (Some port) = Some (Listen framing port)
 listened_to framing None = None
 
--- what the words ask for: `rtu`, `rtu size`, `rtu size seeded`, `tcp`, `tcp size`, `make n`, `listen-rtu port` or `listen-tcp port`
+-- what the words ask for: `rtu`, `rtu size`, `rtu size seeded`, `tcp`, `tcp size`, `ascii`, `ascii size`, `make n`, `listen-rtu port` or
+-- `listen-tcp port`
 abbrev pub task_of : List (List ℕ) → Option Task
 task_of (word ∷ []) =
-    if bytes_eq word (codes "rtu") then served Rtu (Some default_size) false else
-    if bytes_eq word (codes "tcp") then served Tcp (Some default_size) false else
+    if bytes_eq word (codes "rtu") then served mode.Rtu (Some default_size) false else
+    if bytes_eq word (codes "ascii") then served mode.Ascii (Some default_size) false else
+    if bytes_eq word (codes "tcp") then served mode.Tcp (Some default_size) false else
     None
 task_of (word ∷ argument ∷ []) =
-    if bytes_eq word (codes "rtu") then served Rtu (size_named argument) false else
-    if bytes_eq word (codes "tcp") then served Tcp (size_named argument) false else
+    if bytes_eq word (codes "rtu") then served mode.Rtu (size_named argument) false else
+    if bytes_eq word (codes "ascii") then served mode.Ascii (size_named argument) false else
+    if bytes_eq word (codes "tcp") then served mode.Tcp (size_named argument) false else
     if bytes_eq word (codes "make") then made (count_named argument) else
     if bytes_eq word (codes "listen-rtu") then listened_to Rtu (port_named argument) else
     if bytes_eq word (codes "listen-tcp") then listened_to Tcp (port_named argument) else
     None
 task_of (word ∷ size ∷ last ∷ []) =
-    if bytes_eq word (codes "rtu") && bytes_eq last (codes "seeded") then served Rtu (size_named size) true else None
+    if bytes_eq word (codes "rtu") && bytes_eq last (codes "seeded") then served mode.Rtu (size_named size) true else None
 task_of _ = None
 
 abbrev pub asked : List (String Global) → Option Task

@@ -2,9 +2,9 @@
 ghost use Rattle.std.specs.Prelude.{◌≡◌, ◌≤◌, IfOk};
 ghost use Rattle.modbus_store.specs.Passes.{opened};
 ghost use Rattle.modbus_app.specs.Words.{most_entries};
-ghost use Rattle.modbus_app.specs.Device.{entries_by, third, odd, same, down, seeded_tables, broadcasts_of, opening, shared_opening};
+ghost use Rattle.modbus_app.specs.Device.{entries_by, third, odd, same, down, seeded_tables, broadcasts_of, opening, mode_of, shared_opening};
 
-use crate::words::{DEFAULT_SIZE, Form, Framing};
+use crate::words::{DEFAULT_SIZE, Form, Framing, Mode};
 use modbus_frame::{Coil, Word};
 use modbus_store::{RegisterStore, Sizes, StoreError, StorePass, StoreTable};
 use std::alloc::{AllocError, Global};
@@ -82,12 +82,12 @@ fn seeded(alloc: Global, size: u32, broadcast: bool) -> Result<RegisterStore, St
 }
 
 /// Whether slave 0 stands for all devices: on a serial line, where nobody answers, and not over TCP.
-fn has_broadcasts(framing: Framing) -> bool
-    ensures { result ≡ broadcasts_of framing }
+fn has_broadcasts(mode: Mode) -> bool
+    ensures { result ≡ broadcasts_of mode }
 {
-    match framing {
-        Framing::Rtu => true,
-        Framing::Tcp => false,
+    match mode {
+        Mode::Rtu | Mode::Ascii => true,
+        Mode::Tcp => false,
     }
 }
 
@@ -96,7 +96,7 @@ pub fn open(alloc: Global, form: Form) -> Result<RegisterStore, StoreError>
     requires { form.size ≤ most_entries }
     ensures { IfOk result (λ store. store ≡ opening form) }
 {
-    let broadcast = has_broadcasts(form.framing);
+    let broadcast = has_broadcasts(form.mode);
     if form.seeded {
         return seeded(alloc, form.size, broadcast);
     }
@@ -109,6 +109,16 @@ pub fn open(alloc: Global, form: Form) -> Result<RegisterStore, StoreError>
     RegisterStore::new(alloc, sizes, broadcast)
 }
 
+/// The mode of the connections to a listener.
+fn mode_of(framing: Framing) -> Mode
+    ensures { result ≡ mode_of framing }
+{
+    match framing {
+        Framing::Rtu => Mode::Rtu,
+        Framing::Tcp => Mode::Tcp,
+    }
+}
+
 /// The device that all connections to a listener share, as it begins, and its first pass. No record of its calls is kept, so it does not
 /// grow.
 pub fn open_shared(alloc: Global, framing: Framing) -> Result<(StoreTable, StorePass), StoreError>
@@ -116,7 +126,7 @@ pub fn open_shared(alloc: Global, framing: Framing) -> Result<(StoreTable, Store
     ensures pass { IfOk result (λ r. r.1 ≡ opened r.0.table r.0.opening) }
 {
     let form = Form {
-        framing,
+        mode: mode_of(framing),
         size: DEFAULT_SIZE,
         seeded: false,
     };

@@ -22,4 +22,4 @@ pub use crate::program::run;
 pub use crate::services::{Services, StoreServices};
 pub use crate::status::{NO_MEMORY, report_fault};
 pub use crate::turning::TurningSpawner;
-pub use crate::words::{Form, Framing, Task, listening, read_words};
+pub use crate::words::{Form, Framing, Mode, Task, listening, read_words};

@@ -9,7 +9,7 @@ ghost use Rattle.modbus_app.specs.Words.{most_requests};
 ghost use Rattle.modbus_app.specs.Make.{next_number, request_by, line_made, made_for, replies_made, summary_of, SumsUp};
 
 use crate::device::open;
-use crate::words::{DEFAULT_SIZE, Form, Framing};
+use crate::words::{DEFAULT_SIZE, Form, Mode};
 use arrayvec::ArrayString;
 use bytes::BytesMut;
 use itoa::Buffer;
@@ -27,7 +27,7 @@ const REQUEST_SIZE: usize = 8;
 
 /// The device that answers: that of the word `rtu`.
 const DEVICE: Form = Form {
-    framing: Framing::Rtu,
+    mode: Mode::Rtu,
     size: DEFAULT_SIZE,
     seeded: false,
 };

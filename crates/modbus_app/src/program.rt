@@ -16,31 +16,33 @@ ghost use Rattle.modbus_app.specs.Ending.{IsUsageFault, Ends, Makes};
 use crate::device::open;
 use crate::make::make;
 use crate::status::{NO_MEMORY, USAGE, USAGE_LINE, report, report_fault, status};
-use crate::words::{Form, Framing, Task, read_words};
+use crate::words::{Form, Mode, Task, read_words};
+use modbus_ascii::ascii;
 use modbus_link::{Sink, Source};
 use modbus_server::{ProcessError, rtu_over_tcp, tcp};
 use modbus_store::RegisterStore;
 use std::alloc::Global;
 
-/// Serves a device by frames or by ADUs, with no limit of turns but that of a `u64`.
+/// Serves a device by frames of a serial line or by ADUs, with no limit of turns but that of a `u64`.
 fn serve<S: Source, K: Sink>(
     alloc: Global,
-    framing: Framing,
+    mode: Mode,
     store: &mut RegisterStore,
     source: &mut S,
     sink: &mut K,
 ) -> Result<(), ProcessError>
-    ensures ran { Ran (messages_of framing) device store.old store.new (S.input source.old) (S.input source.new) (K.output sink.old) (K.output sink.new) (2 ^ 64 - 1) result }
+    ensures ran { Ran (messages_of mode) device store.old store.new (S.input source.old) (S.input source.new) (K.output sink.old) (K.output sink.new) (2 ^ 64 - 1) result }
     ensures fits { (size : ℕ) → result ≢ Err (ResponseTooLong size) }
-    ensures complete { IsTrue (S.input source.old).told → IsCleanLine (messages_of framing) (S.input source.old).left → length (S.input source.old).left < 2 ^ 64 - 1
+    ensures complete { IsTrue (S.input source.old).told → IsCleanLine (messages_of mode) (S.input source.old).left → length (S.input source.old).left < 2 ^ 64 - 1
         → (Rose (S.input source.old).faults (S.input source.new).faults → ⊥)
         → (Rose (K.output sink.old).faults (K.output sink.new).faults → ⊥)
         → (result ≡ Ok tt) ⊎ (result ≡ Err ProcessError.NoMemory) }
 {
     modbus_store::laws::answers_fit();
-    match framing {
-        Framing::Rtu => rtu_over_tcp::process(alloc, source, sink, store, u64::MAX),
-        Framing::Tcp => tcp::process(alloc, source, sink, store, u64::MAX),
+    match mode {
+        Mode::Rtu => rtu_over_tcp::process(alloc, source, sink, store, u64::MAX),
+        Mode::Ascii => ascii::process(alloc, source, sink, store, u64::MAX),
+        Mode::Tcp => tcp::process(alloc, source, sink, store, u64::MAX),
     }
 }
 
@@ -59,7 +61,7 @@ fn serve_form<S: Source, K: Sink, E: Sink>(
         (bytes_appended (K.output sink.old) (K.output sink.new)) (Ok tt) × ((S.input source.new).left ≡ []) }
     ensures ends { Ends form (S.input source.old) (S.input source.new) (K.output sink.old) (K.output sink.new) (E.output errors.old) (E.output errors.new) result }
     ensures complete { IsTrue (S.input source.old).told
-        → IsCleanLine (messages_of form.framing) (S.input source.old).left → length (S.input source.old).left < 2 ^ 64 - 1
+        → IsCleanLine (messages_of form.mode) (S.input source.old).left → length (S.input source.old).left < 2 ^ 64 - 1
         → (Rose (S.input source.old).faults (S.input source.new).faults → ⊥)
         → (Rose (K.output sink.old).faults (K.output sink.new).faults → ⊥)
         → (result ≡ 0) ⊎ (result ≡ 11) }
@@ -68,7 +70,7 @@ fn serve_form<S: Source, K: Sink, E: Sink>(
         report_fault(errors, ProcessError::NoMemory);
         return NO_MEMORY;
     };
-    match serve(alloc, form.framing, &mut store, source, sink) {
+    match serve(alloc, form.mode, &mut store, source, sink) {
         Ok(()) => 0,
         Err(error) => {
             report_fault(errors, error);
@@ -95,8 +97,8 @@ fn sum_up<K: Sink, E: Sink>(alloc: Global, count: u32, sink: &mut K, errors: &mu
 /// Runs the program with the words after its name, and answers its status.
 ///
 /// With the words `rtu`, `rtu size` or `rtu size seeded` it serves RTU frames, with a device of four tables of so many entries (1024
-/// where no size is given), which hold 0 at first or a pattern; a broadcast has its effect and no answer. With `tcp` or `tcp size` it
-/// serves ADUs with an MBAP header in the same way, and unit 0 is answered like any other.
+/// where no size is given), which hold 0 at first or a pattern; a broadcast has its effect and no answer. With `ascii` or `ascii size` it
+/// serves ASCII frames in the same way. With `tcp` or `tcp size` it serves ADUs with an MBAP header, and unit 0 is answered like any other.
 ///
 /// With `make n` it makes n requests, serves them over memory with a device of its own, and writes a summary of the replies: how many
 /// requests, how many bytes, and the sum of these bytes. The input is not read, and there are the statuses 0, 4 and 11 alone.
@@ -126,7 +128,7 @@ pub fn run<S: Source, K: Sink, E: Sink>(
     ensures refused { IsUsage (asked words.now)
         → IsUsageFault (S.input source.old) (S.input source.new) (K.output sink.old) (K.output sink.new) (E.output errors.old) (E.output errors.new) }
 
-    // Status 0: the input ended with no uncovered offset open, or with nothing left after its ADUs. What was appended is exactly the
+    // Status 0: the input ended with no uncovered offset open, with no `:` open, or with nothing left after its ADUs. What was appended is exactly the
     // replies, framed for each request's slave or under its header, that one run of the device gives to the leftmost frames, or to the
     // ADUs, of the whole input in order.
     ensures ok { (form : Form) → asked words.now ≡ Some (Serve form) → result ≡ 0 → IsTrue (S.input source.old).told → IsTrue (K.output sink.old).told
@@ -139,7 +141,7 @@ pub fn run<S: Source, K: Sink, E: Sink>(
 
     // A clean line is served to its end.
     ensures complete { (form : Form) → asked words.now ≡ Some (Serve form) → IsTrue (S.input source.old).told
-        → IsCleanLine (messages_of form.framing) (S.input source.old).left → length (S.input source.old).left < 2 ^ 64 - 1
+        → IsCleanLine (messages_of form.mode) (S.input source.old).left → length (S.input source.old).left < 2 ^ 64 - 1
         → (Rose (S.input source.old).faults (S.input source.new).faults → ⊥)
         → (Rose (K.output sink.old).faults (K.output sink.new).faults → ⊥)
         → (result ≡ 0) ⊎ (result ≡ 11) }

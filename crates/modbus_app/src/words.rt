@@ -59,7 +59,7 @@ fn port_number(word: &str) -> Option<u16>
     }
 }
 
-/// What frames the requests.
+/// What frames the requests of the connections to a listener.
 #[derive(Clone, Copy, Debug, PartialEq, Eq)]
 pub enum Framing {
     /// RTU frames.
@@ -68,11 +68,22 @@ pub enum Framing {
     Tcp,
 }
 
-/// A device that the program serves: which framing, how many entries each table has, and whether they are seeded.
+/// What frames the requests that come over the standard streams.
+#[derive(Clone, Copy, Debug, PartialEq, Eq)]
+pub enum Mode {
+    /// RTU frames.
+    Rtu,
+    /// Frames of the ASCII transmission mode (MODBUS over Serial Line V1.02, section 2.5.2).
+    Ascii,
+    /// ADUs with an MBAP header.
+    Tcp,
+}
+
+/// A device that the program serves: which mode, how many entries each table has, and whether they are seeded.
 #[derive(Clone, Copy, Debug, PartialEq, Eq)]
 pub struct Form {
     /// What frames the requests.
-    pub framing: Framing,
+    pub mode: Mode,
     /// The entries of each table.
     pub size: u32,
     /// Whether the tables begin with a pattern, and not with zeros.
@@ -93,15 +104,15 @@ pub enum Task {
 /// The entries of a table where no size is given.
 pub const DEFAULT_SIZE: u32 = 1024;
 
-/// Serving in a framing, where there is a size.
-fn serve(framing: Framing, size: Option<u32>, seeded: bool) -> Option<Task>
+/// Serving in a mode, where there is a size.
+fn serve(mode: Mode, size: Option<u32>, seeded: bool) -> Option<Task>
     requires { IfSome size (λ size. size ≤ most_entries) }
-    ensures exact { result ≡ served framing size seeded }
+    ensures exact { result ≡ served mode size seeded }
     ensures limits { IfSome result IsWithinLimits }
 {
     match size {
         Some(size) => Some(Task::Serve(Form {
-            framing,
+            mode,
             size,
             seeded,
         })),
@@ -137,10 +148,13 @@ fn one_word(word: &str) -> Option<Task>
     ensures limits { IfSome result IsWithinLimits }
 {
     if word == "rtu" {
-        return serve(Framing::Rtu, Some(DEFAULT_SIZE), false);
+        return serve(Mode::Rtu, Some(DEFAULT_SIZE), false);
+    }
+    if word == "ascii" {
+        return serve(Mode::Ascii, Some(DEFAULT_SIZE), false);
     }
     if word == "tcp" {
-        return serve(Framing::Tcp, Some(DEFAULT_SIZE), false);
+        return serve(Mode::Tcp, Some(DEFAULT_SIZE), false);
     }
     None
 }
@@ -150,10 +164,13 @@ fn two_words(word: &str, argument: &str) -> Option<Task>
     ensures limits { IfSome result IsWithinLimits }
 {
     if word == "rtu" {
-        return serve(Framing::Rtu, table_size(argument), false);
+        return serve(Mode::Rtu, table_size(argument), false);
+    }
+    if word == "ascii" {
+        return serve(Mode::Ascii, table_size(argument), false);
     }
     if word == "tcp" {
-        return serve(Framing::Tcp, table_size(argument), false);
+        return serve(Mode::Tcp, table_size(argument), false);
     }
     if word == "make" {
         return make(request_count(argument));
@@ -174,11 +191,11 @@ fn three_words(word: &str, size: &str, last: &str) -> Option<Task>
     if word != "rtu" || last != "seeded" {
         return None;
     }
-    serve(Framing::Rtu, table_size(size), true)
+    serve(Mode::Rtu, table_size(size), true)
 }
 
-/// What the words ask for: `rtu`, `rtu size`, `rtu size seeded`, `tcp` or `tcp size` to serve, `make n` to make requests, `listen-rtu port`
-/// or `listen-tcp port` to listen; `None` where they are no such form. It takes no memory.
+/// What the words ask for: `rtu`, `rtu size`, `rtu size seeded`, `tcp`, `tcp size`, `ascii` or `ascii size` to serve, `make n` to make
+/// requests, `listen-rtu port` or `listen-tcp port` to listen; `None` where they are no such form. It takes no memory.
 pub fn read_words(words: &[String]) -> Option<Task>
     ensures exact { result ≡ asked words.now }
     ensures limits { IfSome result IsWithinLimits }

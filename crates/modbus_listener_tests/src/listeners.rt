@@ -16,7 +16,7 @@ use std::net::{Net, SocketAddr, TcpListener, TcpStream};
 use std::sync::Wait;
 use std::sync::atomic::{AtomicU64, Ordering};
 use std::test::Fail;
-use std::thread;
+use std::thread::{self, Threads};
 use std::time::Duration;
 
 /// A read of one register from address 0 of slave 1.
@@ -252,6 +252,19 @@ enum Gate {
     Opens(FlagStop),
 }
 
+impl Gate {
+    /// Whether it could go on: it raised its flag, or saw it raised.
+    fn goes_on(&mut self) -> bool {
+        match self {
+            Gate::Opens(flag) => {
+                flag.raise();
+                true
+            }
+            Gate::Waits(flag) => is_seen(flag),
+        }
+    }
+}
+
 impl Service for Gate {
     ghost answers = { λ old slave request outcome new. Unit {0} };
 
@@ -262,16 +275,10 @@ impl Service for Gate {
         alloc: Global,
         _request: SlaveRequest<'_>,
     ) -> Result<Option<Response>, ServiceError> {
-        let reply = zero_in_reply(alloc)?;
-        match self {
-            Gate::Opens(flag) => flag.raise(),
-            Gate::Waits(flag) => {
-                if !is_seen(flag) {
-                    return Err(ServiceError::Exception(ExceptionCode::ServerDeviceFailure));
-                }
-            }
+        if !self.goes_on() {
+            return Err(ServiceError::Exception(ExceptionCode::ServerDeviceFailure));
         }
-        Ok(reply)
+        zero_in_reply(alloc)
     }
 }
 
@@ -340,45 +347,66 @@ impl<A: Acceptor> Acceptor for Patient<A> {
     }
 }
 
-#[test]
-fn two_connections_at_once(rt: HostRuntime) -> Result<(), Fail> {
-    let alloc = rt.alloc();
-    let mut near = link_of(alloc, &READ_ONE)?;
-    let mut far = link_of(alloc, &READ_ONE)?;
+/// What two connections serve with, the one that waits first, and the flags of their ends.
+#[derive(Drop)]
+struct Meeting {
+    services: Vec<Gate>,
+    first: FlagStop,
+    second: FlagStop,
+}
+
+fn open_meeting(alloc: Global) -> Result<Meeting, AllocError> {
     let gate = FlagStop::new(alloc)?;
-    let first = FlagStop::new(alloc)?;
-    let second = FlagStop::new(alloc)?;
     let mut services = Vec::new(alloc);
     services.push(Gate::Opens(gate.share()?))?;
     services.push(Gate::Waits(gate))?;
-    let near_ended = first.share()?;
-    let far_ended = second.share()?;
-    {
-        let mut links = Vec::new(alloc);
-        links.push((
-            Watched {
-                link: &mut near,
-                ended: near_ended,
-            },
-            peer(),
-        ))?;
-        links.push((
-            Watched {
-                link: &mut far,
-                ended: far_ended,
-            },
-            peer(),
-        ))?;
-        let acceptor = Patient {
-            acceptor: MemoryAcceptor::new(links),
-            first,
-            second,
-        };
-        let handle = &rt;
-        let answer = thread::scope(thread::scope_env(), handle, move |scope| {
+    Ok(Meeting {
+        services,
+        first: FlagStop::new(alloc)?,
+        second: FlagStop::new(alloc)?,
+    })
+}
+
+/// An acceptor of two links, each of which raises a flag at its end.
+fn watching<'l>(
+    alloc: Global,
+    near: &'l mut MemoryLink,
+    far: &'l mut MemoryLink,
+    first: FlagStop,
+    second: FlagStop,
+) -> Result<Patient<MemoryAcceptor<Watched<&'l mut MemoryLink>>>, AllocError> {
+    let mut links = Vec::new(alloc);
+    let ended = first.share()?;
+    links.push((Watched { link: near, ended }, peer()))?;
+    let ended = second.share()?;
+    links.push((Watched { link: far, ended }, peer()))?;
+    Ok(Patient {
+        acceptor: MemoryAcceptor::new(links),
+        first,
+        second,
+    })
+}
+
+/// The answer of a listener over two links, each with a thread, of which one waits for the other one's request.
+fn served_at_once<R: Threads + Wait>(
+    rt: &R,
+    alloc: Global,
+    near: &mut MemoryLink,
+    far: &mut MemoryLink,
+) -> Result<Result<(), ServeError<u8>>, AllocError> {
+    let Meeting {
+        mut services,
+        first,
+        second,
+    } = open_meeting(alloc)?;
+    let acceptor = watching(alloc, near, far, first, second)?;
+    Ok(thread::scope(
+        thread::scope_env(),
+        rt,
+        move |scope| -> Result<(), ServeError<u8>> {
             let mut server = rtu_over_tcp::Server::new(acceptor);
             serve_in_scope(
-                handle,
+                rt,
                 alloc,
                 &mut server,
                 &mut |link, _address| -> Result<Option<(Gate, _)>, u8> {
@@ -387,9 +415,17 @@ fn two_connections_at_once(rt: HostRuntime) -> Result<(), Fail> {
                 |_error: ProcessError| {},
                 scope,
             )
-        });
-        check(&rt, answer, Err(ServeError::AcceptFault));
-    }
+        },
+    ))
+}
+
+#[test]
+fn two_connections_at_once(rt: HostRuntime) -> Result<(), Fail> {
+    let alloc = rt.alloc();
+    let mut near = link_of(alloc, &READ_ONE)?;
+    let mut far = link_of(alloc, &READ_ONE)?;
+    let answer = served_at_once(&rt, alloc, &mut near, &mut far)?;
+    check(&rt, answer, Err(ServeError::AcceptFault));
     check(&rt, near.sink().bytes(), ONE.as_slice());
     check(&rt, far.sink().bytes(), ONE.as_slice());
     Ok(())

@@ -4,7 +4,7 @@ use crate::outside::{Outside, read_outside};
 use crate::servers::SameWords;
 use crate::text::{bytes, hex, number};
 use crate::typed::asked;
-use modbus_app::{Form, Framing, open};
+use modbus_app::{Form, Mode, open};
 use modbus_client::{Client, PolledCall, Protocol, exchange, rtu, tcp};
 use modbus_frame::{Error, Request, Response, Result as Answer, Slave, SlaveContext};
 use modbus_link::{MemoryLink, Polled, PolledMemoryLink};
@@ -197,7 +197,7 @@ fn tcp_polled(
 /// The answer of a seeded store of eight entries a table, which takes part in broadcasts.
 fn exchanged(alloc: Global, slave: u8, request: Request<'_>) -> Result<Option<String>, AllocError> {
     let form = Form {
-        framing: Framing::Rtu,
+        mode: Mode::Rtu,
         size: 8,
         seeded: true,
     };

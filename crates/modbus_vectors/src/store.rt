@@ -1,7 +1,7 @@
 //! Requests to a register store.
 
 use crate::text::{bytes, number};
-use modbus_app::{Form, Framing, open};
+use modbus_app::{Form, Mode, open};
 use modbus_frame::SlaveRequest;
 use modbus_pdu::decode_request;
 use modbus_store::{RegisterStore, Sizes, StoreError};
@@ -48,14 +48,14 @@ fn store_of(alloc: Global, form: Form) -> Result<RegisterStore, StoreError> {
     RegisterStore::new(alloc, sizes, false)
 }
 
-/// `store rtu 8 seeded 1 0300010001`: a store of a framing, a size and contents, and the requests to it.
+/// `store rtu 8 seeded 1 0300010001`: a store of a mode, a size and contents, and the requests to it.
 pub fn answer(alloc: Global, call: &str, words: &[&str]) -> Result<Option<String>, AllocError> {
-    let [framing, size, contents, requests @ ..] = words else {
+    let [mode, size, contents, requests @ ..] = words else {
         return Ok(None);
     };
-    let framing = match *framing {
-        "rtu" => Framing::Rtu,
-        "tcp" => Framing::Tcp,
+    let mode = match *mode {
+        "rtu" => Mode::Rtu,
+        "tcp" => Mode::Tcp,
         _ => return Ok(None),
     };
     let Ok(size) = size.parse::<u32>() else {
@@ -65,7 +65,7 @@ pub fn answer(alloc: Global, call: &str, words: &[&str]) -> Result<Option<String
         return Ok(None);
     }
     let form = Form {
-        framing,
+        mode,
         size,
         seeded: *contents == "seeded",
     };
