@@ -1,0 +1,4 @@
+pub mod Settled
+pub mod Fresh
+pub mod Kept
+pub mod Vain

@@ -1,0 +1,258 @@
+//! The client.
+ghost use Rattle.std.specs.Prelude.{◌≡◌, ◌↔◌, IsNone, IfSome};
+ghost use Rattle.modbus_link.specs.Line.{meaning_of};
+ghost use Rattle.modbus_frame.specs.Meaning.{meaning};
+ghost use Rattle.modbus_client.specs.Connecting.{connector_of};
+ghost use Rattle.modbus_reconnect.specs.State.{unconnected, meaning_by};
+ghost use Rattle.modbus_reconnect.specs.Standing.{IsReadyIfSome};
+ghost use Rattle.modbus_reconnect.specs.Trying.{Uses, Tried};
+ghost use Rattle.modbus_reconnect.specs.Calling.{Calls, Disconnects, Limits, with_slave, with_turns};
+
+use crate::once::{CallOnce, TryOnce};
+use crate::opening::open;
+use crate::resend::Resend;
+use modbus_client::{Client, LinkClient, Protocol, TURNS};
+use modbus_frame::{
+    Error, Request, Response, Result, ShutdownFault, Slave, SlaveContext, TransportError,
+};
+use modbus_link::{Connector, Failed, Link};
+use std::alloc::Global;
+use std::marker::Model;
+use std::net::SocketAddr;
+use std::time::Duration;
+
+/// A client of the devices at an address, which connects at its first call, and again where its link is in doubt.
+///
+/// A link is in doubt after an answer that is no reply to the request, unless nothing was sent, and after a reply with bytes behind it. It
+/// is then shut down, and the next call, or the next try of this one, connects anew.
+#[derive(Drop)]
+pub struct ReconnectingClient<P: Protocol, C: Connector>
+where
+    C::Link: Link,
+{
+    connector: C,
+    address: SocketAddr,
+    client: Option<LinkClient<P, C::Link>>,
+    slave: Slave,
+    turns: u64,
+    timeout: Option<Duration>,
+    retries: u32,
+    resend: Resend,
+    tries: u64,
+    alloc: Global,
+}
+
+/// A contract sees the connector, the address, the client of the link that is used now, what stands through each new connection, and what
+/// is said of tries. Nothing is owed on a link that is used.
+impl<P: Protocol, C: Connector> Model for ReconnectingClient<P, C>
+where
+    C::Link: Link,
+{
+    ghost use Rattle.modbus_link.specs.Line.{meaning_of};
+    ghost use Rattle.modbus_client.specs.Connecting.{connector_of};
+    ghost use Rattle.modbus_reconnect.specs.State.{ReconnectingState, meaning_by};
+    ghost use Rattle.modbus_reconnect.specs.Standing.{IsReadyIfSome};
+
+    ghost Value = { ReconnectingState C P.Ids C.Link };
+
+    ghost view = { λ it. record {
+      connector = it.connector;
+      address = it.address;
+      client = it.client;
+      settings = record { slave = it.slave.0; turns = it.turns; timeout = it.timeout };
+      retries = it.retries;
+      resend = it.resend;
+      tries = it.tries;
+    } };
+
+    ghost invariant = { λ it. IsReadyIfSome
+        (meaning_by P.protocol P.heading (connector_of C.connects C.faults)
+        (meaning_of C.Link.input C.Link.output C.Link.line))
+        it.address (record { slave = it.slave.0; turns = it.turns; timeout = it.timeout }) it.client };
+}
+
+impl<P: Protocol, C: Connector> ReconnectingClient<P, C>
+where
+    C::Link: Link,
+{
+    /// A client of a slave, or of a unit identifier, at an address. It has not connected yet, makes one try for each call, and takes no
+    /// memory yet.
+    pub fn new(
+        alloc: Global,
+        connector: C,
+        address: SocketAddr,
+        slave: Slave,
+    ) -> ReconnectingClient<P, C>
+        ensures { result ≡ unconnected connector address slave.0 }
+    {
+        ReconnectingClient {
+            connector,
+            address,
+            client: None,
+            slave,
+            turns: TURNS,
+            timeout: None,
+            retries: 0,
+            resend: Resend::Never,
+            tries: 0,
+            alloc,
+        }
+    }
+
+    /// How often a call may try again from then on, and which requests may be sent again for that; 0 and `Never` at first.
+    ///
+    /// A connection that failed is tried again whatever `resend` says, since nothing was sent.
+    pub fn set_retries(&mut self, retries: u32, resend: Resend)
+        ensures { self.new ≡ record self.old { retries = retries; resend = resend } }
+    {
+        self.retries = retries;
+        self.resend = resend;
+    }
+
+    /// How many reads of a try may give bytes from then on; `TURNS` at first.
+    pub fn set_turns(&mut self, turns: u64)
+        ensures { self.new ≡ with_turns turns self.old }
+    {
+        self.turns = turns;
+        if let Some(client) = &mut self.client {
+            client.set_turns(turns);
+        }
+    }
+
+    /// How many tries the last call made; 0 before the first.
+    pub fn tries(&self) -> u64
+        ensures { result ≡ self.now.tries }
+    {
+        self.tries
+    }
+
+    /// The link that is used now; `None` exactly where the next call connects.
+    pub fn link(&self) -> Option<&C::Link>
+        ensures none { IsNone result ↔ (self.now.client ≡ None) }
+        ensures some { IfSome result (λ link.
+            IfSome self.now.client (λ client. link.now ≡ client.link)) }
+    {
+        match &self.client {
+            Some(client) => client.link(),
+            None => None,
+        }
+    }
+
+    /// The client of the link that is there, or of a new one; none where no link can be made.
+    fn take_client(&mut self) -> Option<LinkClient<P, C::Link>>
+        ensures uses { Uses
+            (meaning_by P.protocol P.heading (connector_of C.connects C.faults)
+            (meaning_of C.Link.input C.Link.output C.Link.line))
+            self.old self.old.client result self.new.connector }
+        ensures ready { IsReadyIfSome
+            (meaning_by P.protocol P.heading (connector_of C.connects C.faults)
+            (meaning_of C.Link.input C.Link.output C.Link.line))
+            self.old.address self.old.settings result }
+        ensures rest { self.new ≡ record self.old { connector = self.new.connector; client = None } }
+    {
+        if let Some(client) = self.client.take() {
+            return Some(client);
+        }
+        let opened = open(
+            self.alloc,
+            &mut self.connector,
+            self.address,
+            self.slave,
+            self.turns,
+            self.timeout,
+        );
+        match opened {
+            Ok(client) => Some(client),
+            Err(Failed) => None,
+        }
+    }
+
+    /// The connector.
+    pub fn connector(&self) -> &C
+        ensures { result.now ≡ self.now.connector }
+    {
+        &self.connector
+    }
+}
+
+impl<P: Protocol, C: Connector> TryOnce for ReconnectingClient<P, C>
+where
+    P::Ids: Send,
+    C::Link: Link + Send + Drop,
+{
+    ghost tried = { Tried (meaning_by P.protocol P.heading (connector_of C.connects C.faults)
+        (meaning_of C.Link.input C.Link.output C.Link.line)) };
+
+    fn try_once(&mut self, request: &Request<'_>) -> Result<Response> {
+        let Some(client) = self.take_client() else {
+            return Err(Error::Transport(TransportError::NotConnected));
+        };
+        let (answer, kept) = client.call_once(request);
+        self.client = kept;
+        answer
+    }
+}
+
+impl<P: Protocol, C: Connector> SlaveContext for ReconnectingClient<P, C>
+where
+    C::Link: Link,
+{
+    ghost selected = { λ client. client.settings.slave };
+
+    ghost set_slave_gives = { λ old slave new. new ≡ with_slave slave old };
+
+    fn set_slave(&mut self, slave: Slave) {
+        self.slave = slave;
+        if let Some(client) = &mut self.client {
+            client.set_slave(slave);
+        }
+    }
+}
+
+impl<P: Protocol, C: Connector + Send + Drop> Client for ReconnectingClient<P, C>
+where
+    P::Ids: Send,
+    C::Link: Link + Send + Drop,
+{
+    ghost answers = { Calls (meaning_by P.protocol P.heading (connector_of C.connects C.faults)
+        (meaning_of C.Link.input C.Link.output C.Link.line)) };
+
+    ghost disconnects = { Disconnects (meaning_by P.protocol P.heading (connector_of C.connects C.faults)
+        (meaning_of C.Link.input C.Link.output C.Link.line)) };
+
+    ghost time_limit = { λ client. client.settings.timeout };
+
+    ghost limits = { Limits (meaning_by P.protocol P.heading (connector_of C.connects C.faults)
+        (meaning_of C.Link.input C.Link.output C.Link.line)) };
+
+    fn call(&mut self, request: Request<'_>) -> Result<Response> {
+        'tries: for earlier in 0..self.retries {
+            let answer = self.try_once(&request);
+            if !self.resend.lets_follow(&request, &answer) {
+                self.tries = u64::from(earlier) + 1;
+                return answer;
+            }
+        }
+        let answer = self.try_once(&request);
+        self.tries = u64::from(self.retries) + 1;
+        answer
+    }
+
+    fn disconnect(&mut self) -> std::result::Result<(), ShutdownFault> {
+        match self.client.take() {
+            Some(mut client) => client.disconnect(),
+            None => Ok(()),
+        }
+    }
+
+    fn timeout(&self) -> Option<Duration> {
+        self.timeout
+    }
+
+    fn set_timeout(&mut self, duration: Option<Duration>) {
+        self.timeout = duration;
+        if let Some(client) = &mut self.client {
+            client.set_timeout(duration);
+        }
+    }
+}

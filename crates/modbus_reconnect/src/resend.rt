@@ -1,0 +1,67 @@
+//! Which requests may be sent again.
+ghost use Rattle.std.specs.Prelude.{◌≡◌};
+ghost use Rattle.modbus_frame.specs.Meaning.{meaning};
+ghost use Rattle.modbus_reconnect.specs.Resending.{only_reads, may_resend, is_unconnected, may_follow};
+
+use crate::owing::is_in_doubt;
+use modbus_frame::{Error, Request, Response, Result, TransportError};
+
+/// Which requests may be sent again, where no one can tell whether the device did the first one.
+#[derive(Clone, Copy, Debug, PartialEq, Eq)]
+pub enum Resend {
+    /// None.
+    Never,
+    /// Those that change nothing in the device: reads, and questions for what it is (sections 6.1 to 6.4, 6.13, 6.18, 6.21).
+    Reads,
+    /// All. A device that does a write twice must be as if it had done it once.
+    Always,
+}
+
+/// Whether a request only reads.
+fn only_reads(request: &Request<'_>) -> bool
+    ensures { result ≡ only_reads (meaning request.now) }
+{
+    match request {
+        Request::ReadCoils(_, _)
+        | Request::ReadDiscreteInputs(_, _)
+        | Request::ReadInputRegisters(_, _)
+        | Request::ReadHoldingRegisters(_, _)
+        | Request::ReportServerId
+        | Request::ReadFifoQueue(_)
+        | Request::ReadDeviceIdentification(_, _) => true,
+        Request::WriteSingleCoil(_, _)
+        | Request::WriteMultipleCoils(_, _)
+        | Request::WriteSingleRegister(_, _)
+        | Request::WriteMultipleRegisters(_, _)
+        | Request::MaskWriteRegister(_, _, _)
+        | Request::ReadWriteMultipleRegisters(_, _, _, _)
+        | Request::Custom(_, _) => false,
+    }
+}
+
+/// Whether no link was made.
+fn is_unconnected(answer: &Result<Response>) -> bool
+    ensures { result ≡ is_unconnected answer.now }
+{
+    matches!(answer, Err(Error::Transport(TransportError::NotConnected)))
+}
+
+impl Resend {
+    /// Whether it lets this request be sent again.
+    pub fn allows(self, request: &Request<'_>) -> bool
+        ensures { result ≡ may_resend self (meaning request.now) }
+    {
+        match self {
+            Resend::Never => false,
+            Resend::Reads => only_reads(request),
+            Resend::Always => true,
+        }
+    }
+
+    /// Whether a try of this request with this answer may be followed by another one.
+    pub(crate) fn lets_follow(self, request: &Request<'_>, answer: &Result<Response>) -> bool
+        ensures { result ≡ may_follow self (meaning request.now) answer.now }
+    {
+        is_unconnected(answer) || (is_in_doubt(answer) && self.allows(request))
+    }
+}
