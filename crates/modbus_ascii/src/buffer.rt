@@ -13,8 +13,11 @@ use circular_buffer::HeapCircularBuffer;
 use modbus_frame::{EncodeError, ExceptionResponse, Response, SlaveId};
 use modbus_server::{Framing, Front, ProcessError};
 use std::alloc::{AllocError, Global};
-use std::convert::Infallible;
 use std::marker::Model;
+
+/// The fault of a framing that has none. Bytes that deliver no frame are skipped, so it is never told.
+#[derive(Clone, Copy, Debug, PartialEq, Eq)]
+pub struct NoFault;
 
 /// The bytes that were fed and not used yet: once all frames are taken off, a `:` that is open and its text, or the last bytes of a text
 /// that is too long.
@@ -59,7 +62,7 @@ fn begins_within(held: &HeapCircularBuffer<u8>) -> bool
 impl Framing for AsciiBuffer {
     type Header = SlaveId;
 
-    type Fault = Infallible;
+    type Fault = NoFault;
 
     ghost framing = { ascii };
 
@@ -71,8 +74,8 @@ impl Framing for AsciiBuffer {
 
     ghost free = { λ buffer. most_held - length buffer };
 
-    fn tell(fault: Infallible) -> ProcessError {
-        match fault {}
+    fn tell(_fault: NoFault) -> ProcessError {
+        ProcessError::TooManyRetries
     }
 
     fn slave(header: SlaveId) -> SlaveId {
@@ -111,7 +114,7 @@ impl Framing for AsciiBuffer {
         self.ring.is_empty()
     }
 
-    fn front<'a>(&'a self, _seam: &'a mut [u8]) -> Result<Front<'a, SlaveId>, Infallible> {
+    fn front<'a>(&'a self, _seam: &'a mut [u8]) -> Result<Front<'a, SlaveId>, NoFault> {
         if self.scan.found {
             Ok(Front::Message {
                 header: self.scan.decoder.slave(),
