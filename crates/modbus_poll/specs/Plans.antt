@@ -26,8 +26,8 @@ pub record IsInReach (items : List Item) (address : ℕ) (item : Item) : Type 0 
   pub begins : address ≤ item.address
   pub ends : item_end item ≤ address + max_read_registers
 
--- The read after these: it begins at the least address of the items that lie in none of them, and ends at the greatest end of the
--- items that one read from there on can give.
+-- The read after these: it starts with the lowest register that an item needs and none of them gives, and goes on as far as the items
+-- need that one read from there can give.
 pub record IsNextRead (items : List Item) (earlier : List Read) (read : Read) : Type 0 where
   pub begins : (item : Item) × IsLeft items earlier item × (item.address ≡ read.address)
   pub least : (item : Item) → IsLeft items earlier item → read.address ≤ item.address

@@ -16,7 +16,7 @@ AreWordsOf _ _ = ⊥
 abbrev pub words_in : Read → List ℕ → Item → List ℕ
 words_in read words item = take (width item.kind) (drop (item.address - read.address) words)
 
--- the words of an item: those at its place in the first read in which it lies
+-- the words of an item, as they stand in the read that gives it, the earliest of several
 abbrev pub words_of : List Read → List (List ℕ) → Item → List ℕ
 words_of (read ∷ reads) (words ∷ found) item =
     if lies_in item read then words_in read words item else words_of reads found item

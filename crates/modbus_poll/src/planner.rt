@@ -98,9 +98,9 @@ fn plan_readable(alloc: Global, items: &[Item]) -> Result<Plan, AllocError>
 
 /// Plans few reads that give each of these items, which may stand in any order, overlap and repeat.
 ///
-/// Each read begins at the least address of the items that lie in no earlier read. It ends at the greatest end of the items that begin
-/// there or later and end at most 125 registers after its beginning, the most that one read can give (V1.1b3, section 6.3). It may have
-/// registers between the items, which the device must have.
+/// A read starts with the lowest register that an item needs and no read before it gives. It goes on as far as items need that start no
+/// lower and fit into the 125 registers of one read from there (V1.1b3, section 6.3). It may have registers between the items, which the
+/// device must have.
 ///
 /// For n items it takes as many steps as sorting them does, of the order of n log n.
 ///
