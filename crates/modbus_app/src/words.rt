@@ -111,11 +111,7 @@ fn serve(mode: Mode, size: Option<u32>, seeded: bool) -> Option<Task>
     ensures limits { IfSome result IsWithinLimits }
 {
     match size {
-        Some(size) => Some(Task::Serve(Form {
-            mode,
-            size,
-            seeded,
-        })),
+        Some(size) => Some(Task::Serve(Form { mode, size, seeded })),
         None => None,
     }
 }

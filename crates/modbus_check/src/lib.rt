@@ -1,5 +1,6 @@
 //! What the tests of the other crates compare with. The macro of std is proved wherever it stands, with all that lives there; this once.
 #![tactic(auto)]
+
 use std::fmt::Debug;
 use std::process::Abort;
 
