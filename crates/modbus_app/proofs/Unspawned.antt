@@ -11,7 +11,7 @@ use Rattle.modbus_store.specs.declared.table.PassesOut.{PassesOut}
 use Rattle.modbus_store.specs.Passes.{Pass}
 use Rattle.modbus_app.specs.declared.words.Framing.{Framing}
 use Rattle.modbus_app.specs.declared.words.Framing.TheVariants.{Rtu, Tcp}
-use Rattle.modbus_app.specs.Listen.{parts_with, hook_with, Listened, Accepting, ListenedOver}
+use Rattle.modbus_app.specs.Listen.{parts_with, hook_with, Listened, ListenedOver}
 
 module _ {A P K V H : Type 0} (pass_of : V → Pass) (accepted : A → Result (K × SocketAddr) Failed → A → Type 0)
     (starts : P → WorkerState K V H ℕ → Result (Unit {0}) Failed → P → Type 0) (on_error : H) where

@@ -1,7 +1,7 @@
 //! Connections over memory that share one store.
 
+use crate::check::check;
 use modbus_app::{Framing, StoreServices, open_shared, run_listen};
-use modbus_check::check;
 use modbus_link::{InlineSpawner, MemoryAcceptor, MemoryLink, MemorySink, MemorySource};
 use modbus_server::ProcessError;
 use std::alloc::{AllocError, Global};

@@ -1,6 +1,6 @@
 //! A client behind a box.
 
-use modbus_check::check;
+use crate::check::check;
 use modbus_client::Context;
 use modbus_client::prelude::*;
 use modbus_frame::{Error, Result, ShutdownFault, TransportError};

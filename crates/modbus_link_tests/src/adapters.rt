@@ -1,5 +1,5 @@
 //! The adapters over readers and writers, which tell no content.
-use modbus_check::check;
+use crate::check::check;
 use modbus_link::{Failed, ReadSource, Sink, Source, WriteSink};
 use std::io::{Error, ErrorKind, Read, Result as IoResult, Write};
 

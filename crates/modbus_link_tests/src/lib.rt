@@ -5,6 +5,8 @@
 #[cfg(test)]
 mod adapters;
 #[cfg(test)]
+mod check;
+#[cfg(test)]
 mod memory;
 #[cfg(test)]
 mod polled;

@@ -1,5 +1,5 @@
 //! The link and the connector in memory.
-use modbus_check::check;
+use crate::check::check;
 use modbus_link::{
     Connector, Failed, Link, MemoryConnector, MemoryLink, MemorySink, MemorySource, Sink, Source,
 };

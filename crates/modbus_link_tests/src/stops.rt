@@ -1,5 +1,5 @@
 //! Signals to stop.
-use modbus_check::check;
+use crate::check::check;
 use modbus_link::{FlagStop, MemoryStop, Stop};
 use std::test::Fail;
 

@@ -1,5 +1,5 @@
 //! Links over TCP, what makes them and what accepts them, over loopback and on one thread: a peer is accepted once it has connected.
-use modbus_check::check;
+use crate::check::check;
 use modbus_link::{
     Acceptor, Connector, Failed, FlagStop, Link, MemoryLink, Sink, Source, TcpAcceptor,
     TcpConnector, TcpLink,

@@ -1,6 +1,6 @@
 //! Listeners and the workers of connections, over memory and over TCP, on the caller and in threads of a scope.
 
-use modbus_check::check;
+use crate::check::check;
 use modbus_frame::{ExceptionCode, Response, SlaveRequest, Words};
 use modbus_link::{
     Acceptor, Ends, Failed, FlagStop, Link, MemoryAcceptor, MemoryLink, MemorySink, MemorySource,

@@ -1,6 +1,6 @@
 //! Eight passes that call a shared store at one time: what each is answered, and where its calls stand in the history.
 
-use modbus_check::check;
+use crate::check::check;
 use modbus_frame::{Request, Response, SlaveRequest, Words};
 use modbus_service::Service;
 use modbus_store::{

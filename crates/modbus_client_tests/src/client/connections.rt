@@ -1,7 +1,7 @@
 //! Clients that are connected to a TCP device.
 
 use super::{ask, is_fault, link};
-use modbus_check::check;
+use crate::check::check;
 use modbus_client::{Client, tcp};
 use modbus_frame::{ConnectFault, Slave, TransportError};
 use modbus_link::{Connector, Link, MemoryConnector, MemoryLink};

@@ -1,7 +1,7 @@
 //! A client of a serial line over a link that is lent to it.
 
 use super::link;
-use modbus_check::check;
+use crate::check::check;
 use modbus_client::rtu;
 use modbus_frame::{Request, Slave};
 use std::test::Fail;

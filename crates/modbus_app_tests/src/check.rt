@@ -1,5 +1,4 @@
-//! What the tests of the other crates compare with. The macro of std is proved wherever it stands, with all that lives there; this once.
-#![tactic(auto)]
+//! What the tests compare with. The macro of std is proved wherever it stands, with all that lives there; this once.
 
 use std::fmt::Debug;
 use std::process::Abort;
