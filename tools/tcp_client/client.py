@@ -1,10 +1,10 @@
 #!/usr/bin/python3
-"""Calls a Modbus TCP server on a loopback port with the client of pymodbus 3.0, and prints each call and its answer.
+"""Calls a Modbus server on a loopback port with the client of pymodbus 3.0, and prints each call and its answer.
 
-usage: client.py PORT
+usage: client.py PORT [ascii]
 
-The server has four tables of 1024 entries that hold 0 at first, for each connection its own. The status is 0 only where each answer
-was the one wanted. Numbers above 9 are printed in hexadecimal.
+It sends ADUs of Modbus TCP, or frames of the ASCII transmission mode. The server has four tables of 1024 entries that hold 0 at first, for
+each connection its own. The status is 0 only where each answer was the one wanted. Numbers above 9 are printed in hexadecimal.
 """
 
 import sys
@@ -12,6 +12,8 @@ import sys
 from pymodbus.client import ModbusTcpClient
 from pymodbus.exceptions import ModbusException
 from pymodbus.file_message import ReadFifoQueueRequest
+from pymodbus.framer.ascii_framer import ModbusAsciiFramer
+from pymodbus.framer.socket_framer import ModbusSocketFramer
 
 HOST = "127.0.0.1"
 SECONDS = 10
@@ -52,12 +54,13 @@ def meaning(answer, count):
 
 
 class Connection:
-    """One connection, whose calls are counted: pymodbus gives them the transaction numbers 1, 2 and so on."""
+    """One connection, whose calls are counted: over TCP pymodbus gives them the transaction numbers 1, 2 and so on."""
 
-    def __init__(self, name, port):
+    def __init__(self, name, port, framer):
         self.name = name
+        self.framer = framer
         self.calls = 0
-        self.client = ModbusTcpClient(HOST, port=port, timeout=SECONDS)
+        self.client = ModbusTcpClient(HOST, port=port, timeout=SECONDS, framer=framer)
         assert self.client.connect(), f"no connection to {HOST}:{port}"
 
     def call(self, wanted, name, *args, unit=1, **named):
@@ -70,7 +73,8 @@ class Connection:
         got = meaning(answer, len(wanted))
         print(f"{text} -> {show(got)}", flush=True)
         assert got == wanted, f"wanted {show(wanted)}"
-        assert answer.transaction_id == self.calls, f"transaction {self.calls} was answered as {answer.transaction_id}"
+        if self.framer is ModbusSocketFramer:
+            assert answer.transaction_id == self.calls, f"transaction {self.calls} was answered as {answer.transaction_id}"
         assert answer.unit_id == unit, f"the answer is of unit {answer.unit_id}"
 
     def read_fifo_queue(self, address, unit):
@@ -130,17 +134,18 @@ def exceptions(it):
 
 
 def units(it):
-    """Units 0 and 255 are answered like any other, from the same tables."""
-    it.call([3], "read_holding_registers", 1, 1, unit=0)
+    """Units 0 and 255 are answered like any other, from the same tables; on a serial line 0 is all, and nobody answers."""
+    least = 0 if it.framer is ModbusSocketFramer else 2
+    it.call([3], "read_holding_registers", 1, 1, unit=least)
     it.call([3], "read_holding_registers", 1, 1, unit=255)
-    it.call({"address": 2, "value": 7}, "write_register", 2, 7, unit=0)
+    it.call({"address": 2, "value": 7}, "write_register", 2, 7, unit=least)
     it.call({"address": 3, "value": 8}, "write_register", 3, 8, unit=255)
     it.call([3, 7, 8], "read_holding_registers", 1, 3)
 
 
 def connections(first, port):
     """A second connection, while the first is open, sees zeros; the first doesn't see what it writes."""
-    second = Connection("B", port)
+    second = Connection("B", port, first.framer)
     second.call([0, 0, 0], "read_holding_registers", 1, 3)
     second.call([0] * 10, "read_coils", 0x13, 10)
     second.call({"address": 1, "value": 9}, "write_register", 1, 9)
@@ -149,10 +154,10 @@ def connections(first, port):
 
 
 def main():
-    if len(sys.argv) != 2:
-        sys.exit("usage: client.py PORT")
+    if len(sys.argv) != 2 and sys.argv[2:] != ["ascii"]:
+        sys.exit("usage: client.py PORT [ascii]")
     port = int(sys.argv[1])
-    first = Connection("A", port)
+    first = Connection("A", port, ModbusAsciiFramer if sys.argv[2:] else ModbusSocketFramer)
     for part in (registers, coils, changes, queues, exceptions, units):
         part(first)
     connections(first, port)
