@@ -1,0 +1,47 @@
+//! A program that reads the registers of a device one after another, over links that may be late: `modbus_watch FORM ADDRESS COUNT MILLIS
+//! [RETRIES]`.
+#![tactic(auto)]
+
+mod watch;
+mod words;
+
+use std::env;
+use std::process::ExitCode;
+use watch::watch_device;
+use words::Task;
+
+/// The task that the words after the program name; none where they are no such words.
+fn parse_args(rt: &HostRuntime) -> Option<Task> {
+    let mut words = env::args(rt).ok()?.skip(1);
+    let form = words.next()?.as_str().parse().ok()?;
+    let device = words.next()?.as_str().parse().ok()?;
+    let count = words.next()?.as_str().parse().ok()?;
+    let millis = words.next()?.as_str().parse().ok()?;
+    let retries = match words.next() {
+        None => 0,
+        Some(word) => word.as_str().parse().ok()?,
+    };
+    match words.next() {
+        None => Some(Task {
+            form,
+            device,
+            count,
+            millis,
+            retries,
+        }),
+        Some(_) => None,
+    }
+}
+
+fn main(rt: HostRuntime) -> ExitCode {
+    let Some(task) = parse_args(&rt) else {
+        let _ = eprintln!(rt;
+            "watch: usage: modbus_watch tcp|rtu|once-tcp|once-rtu ADDRESS COUNT MILLIS [RETRIES]"
+        );
+        return ExitCode::from(2);
+    };
+    match watch_device(&rt, task) {
+        Ok(()) => ExitCode::SUCCESS,
+        Err(_) => ExitCode::from(1),
+    }
+}
