@@ -252,19 +252,6 @@ enum Gate {
     Opens(FlagStop),
 }
 
-impl Gate {
-    /// Whether it could go on: it raised its flag, or saw it raised.
-    fn goes_on(&mut self) -> bool {
-        match self {
-            Gate::Opens(flag) => {
-                flag.raise();
-                true
-            }
-            Gate::Waits(flag) => is_seen(flag),
-        }
-    }
-}
-
 impl Service for Gate {
     ghost answers = { λ old slave request outcome new. Unit {0} };
 
@@ -275,10 +262,16 @@ impl Service for Gate {
         alloc: Global,
         _request: SlaveRequest<'_>,
     ) -> Result<Option<Response>, ServiceError> {
-        if !self.goes_on() {
-            return Err(ServiceError::Exception(ExceptionCode::ServerDeviceFailure));
+        let reply = zero_in_reply(alloc)?;
+        match self {
+            Gate::Opens(flag) => flag.raise(),
+            Gate::Waits(flag) => {
+                if !is_seen(flag) {
+                    return Err(ServiceError::Exception(ExceptionCode::ServerDeviceFailure));
+                }
+            }
         }
-        zero_in_reply(alloc)
+        Ok(reply)
     }
 }
 
