@@ -276,6 +276,40 @@ def serve_rtu(device, stream):
     return bytes(replies), OK, most
 
 
+HEXADECIMAL = frozenset(b"0123456789ABCDEFabcdef")
+SHORTEST_TEXT, LONGEST_TEXT = 6, 2 * (LONGEST_PDU + 2)
+
+
+def text_frame(text):
+    """The bytes of a frame in the ASCII transmission mode between its `:` and its CR LF, without the LRC; none where they are no frame."""
+    if len(text) % 2 or not SHORTEST_TEXT <= len(text) <= LONGEST_TEXT or not HEXADECIMAL.issuperset(text):
+        return None
+    body = bytes.fromhex(text.decode())
+    return None if sum(body) % 256 else body[:-1]
+
+
+def serve_ascii(device, stream):
+    """The replies to a stream of characters, and the status behind them."""
+    replies, begin = bytearray(), stream.find(b":")
+    while begin >= 0:
+        again, end = stream.find(b":", begin + 1), stream.find(b"\r\n", begin + 1)
+        if again < 0 and end < 0:
+            return bytes(replies), BYTES_REMAINING
+        if end >= 0 and (again < 0 or end < again):
+            body = text_frame(stream[begin + 1 : end])
+            if body:
+                try:
+                    answer = device.answer(body[1:])
+                except Refused:
+                    return bytes(replies), INVALID_REQUEST
+                if body[0] != 0:
+                    reply = body[:1] + answer
+                    reply += bytes((-sum(reply) % 256,))
+                    replies += b":" + reply.hex().upper().encode() + b"\r\n"
+        begin = again
+    return bytes(replies), OK
+
+
 def serve_tcp(device, stream):
     """The replies to a stream of ADUs, and the status behind them."""
     replies, offset = bytearray(), 0
