@@ -21,15 +21,8 @@ const TAKES: u16 = 0;
 
 const REJECTS: u16 = 1;
 
-/// A connection that waits to be accepted.
-#[derive(Drop)]
-struct Peer {
-    port: u16,
-    link: MemoryLink,
-}
-
 /// A connection as a word says: the port of its peer, and behind a colon its outside, whose words have a plus between them.
-fn read_peer(alloc: Global, word: &str) -> Result<Option<Peer>, AllocError> {
+fn read_peer(alloc: Global, word: &str) -> Result<Option<(u16, MemoryLink)>, AllocError> {
     let Some((port, outside)) = word.split_once(":") else {
         return Ok(None);
     };
@@ -40,21 +33,7 @@ fn read_peer(alloc: Global, word: &str) -> Result<Option<Peer>, AllocError> {
     let (Some(port), Some(outside)) = (number(port), read_outside(alloc, words.as_slice())?) else {
         return Ok(None);
     };
-    Ok(Some(Peer {
-        port,
-        link: outside.into_link(),
-    }))
-}
-
-fn read_peers(alloc: Global, words: &[&str]) -> Result<Option<Vec<Peer>>, AllocError> {
-    let mut peers = Vec::new(alloc);
-    for word in words {
-        let Some(peer) = read_peer(alloc, word)? else {
-            return Ok(None);
-        };
-        peers.push(peer)?;
-    }
-    Ok(Some(peers))
+    Ok(Some((port, outside.into_link())))
 }
 
 /// The address of a peer.
@@ -149,17 +128,14 @@ where
     Some(answer)
 }
 
-/// The text of how a listener ended, and of what each connection was sent.
-fn told(alloc: Global, ended: &Ended, peers: &[Peer]) -> Result<String, AllocError> {
-    let mut text = format!(in alloc; "{ended:?}")?;
-    for peer in peers {
-        text.push_str(" ")?;
-        text.push_str(hex(alloc, peer.link.sink().bytes())?.as_str())?;
-    }
-    Ok(text)
+/// The text of how a listener ended, and of what its two connections were sent.
+fn told(alloc: Global, ended: &Ended, near: &[u8], far: &[u8]) -> Result<String, AllocError> {
+    let near = hex(alloc, near)?;
+    let far = hex(alloc, far)?;
+    format!(in alloc; "{ended:?} {near} {far}")
 }
 
-/// The answer of a listener over some connections, and what each of them was sent.
+/// The answer of a listener over two connections, and what each of them was sent.
 fn listened<I: Framing, R: Wait>(
     rt: &R,
     alloc: Global,
@@ -167,20 +143,24 @@ fn listened<I: Framing, R: Wait>(
     words: &[&str],
     looks: Option<u64>,
 ) -> Result<Option<String>, AllocError> {
-    let Some(mut peers) = read_peers(alloc, words)? else {
+    let [near, far] = words else {
         return Ok(None);
     };
+    let (Some(near), Some(far)) = (read_peer(alloc, near)?, read_peer(alloc, far)?) else {
+        return Ok(None);
+    };
+    let (near_port, mut near) = near;
+    let (far_port, mut far) = far;
     let answer = {
         let mut links = Vec::new(alloc);
-        for peer in peers.iter_mut() {
-            links.push((&mut peer.link, address(peer.port)))?;
-        }
+        links.push((&mut near, address(near_port)))?;
+        links.push((&mut far, address(far_port)))?;
         ended::<I, R, _>(rt, alloc, spawner, MemoryAcceptor::new(links), looks)
     };
-    match answer {
-        Some(answer) => Ok(Some(told(alloc, &answer, peers.as_slice())?)),
-        None => Ok(None),
-    }
+    let Some(answer) = answer else {
+        return Ok(None);
+    };
+    Ok(Some(told(alloc, &answer, near.sink().bytes(), far.sink().bytes())?))
 }
 
 /// `listen`, or `listen_until` and how often the signal is looked at before it is set; a framing; a spawner; and the connections.
