@@ -53,7 +53,7 @@ module _ (form : Form) (opened now : Tables) (start : opened ≡ opening form) (
         ended,
       )
 
--- no device, for want of memory
+-- no device, where memory was refused
 pub unserved : (form : Form) (from : Input) (sunk said told : Output) → Reports said told (line_of NoMemory) → Ends form from from sunk sunk said told 11
 unserved form from sunk said told reports = record { result = Err NoMemory; is = refl; served = inr (refl, refl); tells = reports }
 
@@ -67,7 +67,7 @@ made_whole count from to sunk sinks said told status m done is_told = by_result 
     by_result (Err NoMemory) is sums = let e : 11 ≡ status = cc in absurd (omega (arith, e, done))
     by_result (Err other) is sums = absurd sums
 
--- where the sink had no fault, the status is 0 or that of want of memory
+-- where the sink had no fault, the status is 0 or that of refused memory
 pub made_unless : (count : ℕ) (from to : Input) (sunk sinks said told : Output) (status : ℕ) → Makes count from to sunk sinks said told status → (Rose sunk.faults sinks.faults → ⊥) → (status ≡ 0) ⊎ (status ≡ 11)
 made_unless count from to sunk sinks said told status m calm = by_result m.result m.is m.sums
   where

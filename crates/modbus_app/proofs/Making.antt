@@ -339,7 +339,7 @@ module _ (laws : Laws) (count : ℕ) (most : count ≤ 1000000) (opening now : T
         let (request, ok) = in_middle IsAsked before message later all in
         cc
 
-  -- no answer but Ok and want of memory comes
+  -- no answer comes but Ok and refused memory
   pub only_memory : (error : ProcessError) → Ran rtu device opening now from to sunk sinks (2 ^ 64 - 1) (Err error) → error ≡ NoMemory
   only_memory ReadFault ran = absurd (read_sure (Err ReadFault) ran (ran.read_fault refl))
   only_memory WriteFault ran =

@@ -54,7 +54,7 @@ module _ {A C P K V H : Type 0} (parts : Parts A C P K K V PassesOut H) (pass_of
   accepts old new error (inl (count, last, before, m, (looked, o))) = inl (count, by_pass last, before, many count old last tt before m, (looked, one last new (Err error) o))
   accepts old new error (inr (e, same, signal)) = inr (e, ap by_pass same, signal)
 
--- a hook's error is no want of memory
+-- a hook's error is no refused memory
 abbrev IsRefusal : Result Terminated (ServeError PassesOut) → Type 0
 IsRefusal (Ok done) = ⊥
 IsRefusal (Err AcceptFault) = ⊥

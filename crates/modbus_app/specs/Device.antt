@@ -24,7 +24,7 @@ unfoldable pub entries_by : {A : Type 0} → (ℕ → A) → ℕ → List A
 entries_by entry zero = []
 entries_by entry (suc size) = entries_by entry size ++ (entry size ∷ [])
 
--- coil i is on where i is divisible by 3, discrete input i where i is odd; holding register i holds i, input register i 65535 - i
+-- coils 0, 3, 6, ... are on, and discrete inputs 1, 3, 5, ...; a holding register holds its address i, an input register 65535 - i
 abbrev pub third : ℕ → Bool
 third i = i % 3 == 0
 

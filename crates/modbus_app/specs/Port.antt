@@ -50,7 +50,7 @@ pub record ServesDevice {H : Type 0} (framing : Framing) (on_error : H) (said to
 abbrev pub IsWanting : Output → Output → ℕ → Type 0
 IsWanting said told status = (status ≡ 11) × Reports said told (line_of NoMemory)
 
--- the system refused a listener, as it may for want of memory, and the line of the status was told
+-- the system refused a listener, as it may when out of memory, and the line of the status was told
 abbrev pub IsRefused : Output → Output → ℕ → Type 0
 IsRefused said told status = IsWanting said told status ⊎ ((status ≡ 15) × Reports said told bind_line)
 

@@ -293,7 +293,7 @@ fn no_memory<E: Sink>(errors: &mut E) -> u8
     NO_MEMORY
 }
 
-/// Reports that the system refuses a listener, as it may for want of memory.
+/// Reports that the system refuses a listener, as it may when out of memory.
 fn refused<E: Sink>(error: Error, errors: &mut E) -> u8
     ensures { IsRefused (E.output errors.old) (E.output errors.new) result }
 {

@@ -129,8 +129,8 @@ pub fn run<S: Source, K: Sink, E: Sink>(
         → IsUsageFault (S.input source.old) (S.input source.new) (K.output sink.old) (K.output sink.new) (E.output errors.old) (E.output errors.new) }
 
     // Status 0: the input ended with no uncovered offset open, with no `:` open, or with nothing left after its ADUs. What was appended is exactly the
-    // replies, framed for each request's slave or under its header, that one run of the device gives to the leftmost frames, or to the
-    // ADUs, of the whole input in order.
+    // replies of one run of the device to the leftmost frames, or to the ADUs, of the whole input in order, each framed for its request's
+    // slave or under its header.
     ensures ok { (form : Form) → asked words.now ≡ Some (Serve form) → result ≡ 0 → IsTrue (S.input source.old).told → IsTrue (K.output sink.old).told
         → EndsServing form (S.input source.old).left (totals (cuts_made (S.input source.old) (S.input source.new)))
         (bytes_appended (K.output sink.old) (K.output sink.new)) (Ok tt) × ((S.input source.new).left ≡ []) }

@@ -14,7 +14,7 @@ use modbus_store::PassesOut;
 /// The status of a usage fault.
 pub const USAGE: u8 = 2;
 
-/// The status of want of memory.
+/// The status where memory was refused.
 pub const NO_MEMORY: u8 = 11;
 
 /// The status of a listener whose acceptor failed.

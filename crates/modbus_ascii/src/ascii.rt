@@ -46,12 +46,12 @@ pub fn process_link<L: Source + Sink, V: Answerer>(
 
 /// Serves a source and a sink until the input ends, with at most `turns` reads that give bytes, each with a room of 513 bytes.
 ///
-/// Over a source and a sink that tell their bytes, Ok comes only where the input ended with no `:` open. What was appended is then
-/// exactly the replies, each an ASCII frame for its request's slave, that one run of the service gives to the frames that the `:` of the
-/// whole input deliver, in order, and the service stands where that run ends, however the input was cut. All other bytes are skipped.
+/// Over a source and a sink that tell their bytes, Ok comes only where the input ended with no `:` open. Then one run of the service
+/// took the frames that the `:` of the whole input deliver, in order, and left the service as it is; its replies, each an ASCII frame for
+/// its request's slave, are all that was appended. The cuts of the reads change nothing of this. All other bytes are skipped.
 ///
 /// # Errors
-/// - `ReadFault`, `WriteFault`: only where the source's, the sink's count of faults rose in this call.
+/// - `ReadFault`, `WriteFault`: only where the source, the sink counted a fault in this call.
 /// - `BytesRemaining`: the input ended with a `:` open.
 /// - `InvalidRequest`: the PDU of a frame is refused for this reason.
 /// - `ResponseTooLong`: the service answered a response whose PDU has this many bytes, more than 253.
@@ -59,8 +59,8 @@ pub fn process_link<L: Source + Sink, V: Answerer>(
 /// - `NoMemory`: memory was refused: as the connection was opened, for a request that carries a list, or in the service. A read and a
 ///   reply take none.
 ///
-/// `TooManyRetries`, `InvalidLength` and `InvalidProtocol` never come: bytes have no fault. After an error other than `WriteFault` the
-/// replies to all frames before the failing place were written whole.
+/// `TooManyRetries`, `InvalidLength` and `InvalidProtocol` never come: bytes have no fault. After any error but `WriteFault`, each
+/// reply to a frame before the failing place was written whole.
 pub fn process<S: Source, K: Sink, V: Answerer>(
     alloc: Global,
     source: &mut S,

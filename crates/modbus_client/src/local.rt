@@ -54,8 +54,8 @@ fn lacked_memory(served: &std::result::Result<(), ProcessError>) -> bool
 
 /// Asks a service, or another answerer, a request to a slave, with no transport between them.
 ///
-/// It answers what the call of an RTU client answers whose link gives exactly the bytes that `modbus_server::rtu_over_tcp::process`
-/// appends for the frame of the request, in each read as many as its room holds, and then ends. The service stands where `process`
+/// It answers as a call of an RTU client does whose link gives exactly the bytes that `modbus_server::rtu_over_tcp::process` appends
+/// for the request's frame, fills the room of each read while they last, and then ends. The service stands where `process`
 /// leaves it: it is asked once for a request that its server takes. That is one of any kind but a custom function, whose length may not
 /// be known.
 ///

@@ -1,4 +1,4 @@
--- An answerer that want of memory leaves changed.
+-- An answerer that refused memory leaves changed.
 use Rattle.std.specs.Prelude.{◌≡◌, ◌-◌, ◌+◌, ◌^◌, min}
 use Rattle.modbus_frame.specs.declared.code.ExceptionCode.TheVariants.{ServerDeviceBusy}
 use Rattle.modbus_service.specs.Outcome.{exception}

@@ -8,7 +8,7 @@ use std::alloc::Global;
 
 /// Answers each request with the exception `ServerDeviceBusy`, counts the requests, and keeps a note of each, which takes memory.
 ///
-/// After want of memory the request is counted, as a gateway has then written to its line.
+/// Where memory was refused the request is counted, as a gateway has then written to its line.
 #[derive(Drop)]
 pub struct Counter {
     pub asked: u64,

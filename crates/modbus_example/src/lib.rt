@@ -1,4 +1,4 @@
-//! How another crate stands on modbus_server: a framing of its own, and an answerer that want of memory leaves changed.
+//! How another crate stands on modbus_server: a framing of its own, and an answerer that refused memory leaves changed.
 //!
 //! `Singles` is the least framing that there is, and `Counter` the least answerer that is no `Service`. `serve_singles` serves one by
 //! the other, with the promises of any server.

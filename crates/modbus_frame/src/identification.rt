@@ -49,7 +49,7 @@ impl DeviceIdObject {
 pub type DeviceIdObjects = Items<DeviceIdObject>;
 
 impl Items<DeviceIdObject> {
-    /// An equal list, with memory from `alloc`. Want of memory is the one error.
+    /// An equal list, with memory from `alloc`. Refused memory is the one error.
     pub(crate) fn try_clone(&self, alloc: Global) -> Result<Self, AllocError>
         ensures { IfOk result (λ copy. copy ≡ self.now) }
     {
@@ -78,7 +78,7 @@ pub struct ReadDeviceIdentificationResponse {
 }
 
 impl ReadDeviceIdentificationResponse {
-    /// An equal response, with memory from `alloc`. Want of memory is the one error.
+    /// An equal response, with memory from `alloc`. Refused memory is the one error.
     pub fn try_clone(&self, alloc: Global) -> Result<Self, AllocError>
         ensures { IfOk result (λ copy. copy ≡ self.now) }
     {

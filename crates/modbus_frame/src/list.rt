@@ -67,7 +67,7 @@ impl<T> Items<T> {
 }
 
 impl<T: Copy> Items<T> {
-    /// An equal list, with memory from `alloc`. Want of memory is the one error.
+    /// An equal list, with memory from `alloc`. Refused memory is the one error.
     pub(crate) fn try_clone(&self, alloc: Global) -> Result<Self, AllocError>
         ensures { IfOk result (λ copy. copy ≡ self.now) }
     {

@@ -87,7 +87,7 @@ impl<'a> Request<'a> {
         }
     }
 
-    /// The request with lists of its own, of the same meaning. Want of memory is the one error.
+    /// The request with lists of its own, of the same meaning. Refused memory is the one error.
     pub fn into_owned(self, alloc: Global) -> Result<Request<'static>, AllocError>
         ensures { IfOk result (λ owned. meaning owned ≡ meaning self.entry) }
     {
@@ -135,7 +135,7 @@ impl<'a> Request<'a> {
         })
     }
 
-    /// A request of the same meaning, which borrows what this one borrows. Want of memory is the one error.
+    /// A request of the same meaning, which borrows what this one borrows. Refused memory is the one error.
     pub fn try_clone(&self, alloc: Global) -> Result<Self, AllocError>
         ensures { IfOk result (λ copy. meaning copy ≡ meaning self.now) }
     {
@@ -191,7 +191,7 @@ pub struct SlaveRequest<'a> {
 }
 
 impl<'a> SlaveRequest<'a> {
-    /// The request with lists of its own, of the same slave and meaning. Want of memory is the one error.
+    /// The request with lists of its own, of the same slave and meaning. Refused memory is the one error.
     pub fn into_owned(self, alloc: Global) -> Result<SlaveRequest<'static>, AllocError>
         ensures slave { IfOk result (λ owned. owned.slave ≡ self.entry.slave) }
         ensures request { IfOk result (λ owned. meaning owned.request ≡ meaning self.entry.request) }
@@ -202,7 +202,7 @@ impl<'a> SlaveRequest<'a> {
         })
     }
 
-    /// A request of the same slave and meaning, which borrows what this one borrows. Want of memory is the one error.
+    /// A request of the same slave and meaning, which borrows what this one borrows. Refused memory is the one error.
     pub fn try_clone(&self, alloc: Global) -> Result<Self, AllocError>
         ensures slave { IfOk result (λ copy. copy.slave ≡ self.now.slave) }
         ensures request { IfOk result (λ copy. meaning copy.request ≡ meaning self.now.request) }

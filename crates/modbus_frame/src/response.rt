@@ -69,7 +69,7 @@ impl Response {
         }
     }
 
-    /// An equal response. Want of memory is the one error.
+    /// An equal response. Refused memory is the one error.
     pub fn try_clone(&self, alloc: Global) -> Result<Self, AllocError>
         ensures { IfOk result (λ copy. copy ≡ self.now) }
     {

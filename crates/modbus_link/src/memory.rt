@@ -57,8 +57,7 @@ impl Model for MemorySource {
 }
 
 impl MemorySource {
-    /// A source that gives `input`. No read of it passes a total in `stops`, and a read fails exactly where its number, from
-    /// 0, is in `fails`.
+    /// A source that gives `input`. No read of it passes a total in `stops`. Of its reads, counted from 0, just those in `fails` fail.
     ///
     /// # Errors
     /// `AllocError` where memory is refused.

@@ -16,7 +16,7 @@ pub trait Stop {
     // what a look may lead to: the answer, and the signal after it
     ghost looks: { Self → Bool → Self → Type 0 } = { λ old answer new. Unit {0} };
 
-    /// Whether to stop: true only where the signal's count of stops rose in this call.
+    /// Whether to stop: true only where the signal counted a stop in this call.
     fn is_set(&mut self) -> bool
         ensures later { stops self.old ≤ stops self.new }
         ensures cause { IsTrue result → Rose (stops self.old) (stops self.new) }

@@ -13,7 +13,7 @@ abbrev pub ◌>>=◌ : {A B : Type 0} → Result A Reason → (A → Result B Re
 (Ok x) >>= f = f x
 (Err e) >>= f = Err e
 
--- The bytes are refused for this reason; want of memory may come at any of them.
+-- The bytes are refused for this reason; memory may be refused at any of them.
 abbrev pub Fails : {Y : Type 0} → PduError → Result Y Reason → Type 0
 Fails error.NoMemory read = Unit {0}
 Fails (error.Refused reason) read = read ≡ Err reason

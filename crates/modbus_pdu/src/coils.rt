@@ -45,7 +45,7 @@ pub fn packed_coils_size(coils: &[Coil]) -> usize
 /// The first `count` coils of packed bytes, where coil i is bit `i % 8` of byte `i / 8`
 /// (V1.1b3, section 6.1).
 ///
-/// Further bits and bytes are ignored. The one error is want of memory.
+/// Further bits and bytes are ignored. The one error is refused memory.
 pub fn decode_packed_coils(alloc: Global, bytes: &[u8], count: u16) -> Result<Coils, AllocError>
     requires { count ≤ 8 * length bytes.now }
     ensures { IfOk result (λ coils. coils ≡ coils_of bytes.now count) }
@@ -89,7 +89,7 @@ fn read_byte(coils: &mut [Coil], byte: u8)
 /// Appends the coils packed, where coil i is bit `i % 8` of byte `i / 8` and unused bits are 0
 /// (V1.1b3, section 6.11), and answers how many bytes these are.
 ///
-/// The one error is want of memory, which leaves the bytes of the buffer as they were and comes
+/// The one error is refused memory, which leaves the bytes of the buffer as they were and comes
 /// only where the buffer had no room for all of them.
 #[tactic(auto, using(crate::proofs::Sizes::sizes))]
 pub fn encode_packed_coils(

@@ -37,7 +37,7 @@ pub fn decode_exception(pdu: &[u8]) -> Result<ExceptionResponse, Reason>
 
 /// Appends the PDU of an exception, two bytes (section 7).
 ///
-/// The one error is want of memory, which leaves the bytes of the buffer as they were and comes only where the buffer had no room
+/// The one error is refused memory, which leaves the bytes of the buffer as they were and comes only where the buffer had no room
 /// for both. What memory it takes is of the buffer's own allocator.
 pub fn encode_exception_response_pdu(
     _alloc: Global,

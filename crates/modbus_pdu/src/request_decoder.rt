@@ -35,7 +35,7 @@ use std::borrow::CowSlice;
 /// - `InvalidReadCode`: this read code is not one of 1 to 4;
 /// - `InvalidFunction`: this function code is `EXCEPTION_BIT` or above.
 ///
-/// Want of memory comes only where the PDU is a request that carries a list. The function code of a request is
+/// Memory is refused only where the PDU is a request that carries a list. The function code of a request is
 /// below `EXCEPTION_BIT`.
 #[inline(always)]
 #[tactic(auto, using(crate::proofs::First::no_byte, crate::proofs::First::by_first))]

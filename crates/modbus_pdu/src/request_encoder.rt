@@ -31,7 +31,7 @@ pub fn request_pdu_size(request: &Request<'_>) -> Result<usize, TooLong>
 /// Appends the PDU of a request whose size is at most `MAX_PDU` bytes (V1.1b3, sections 6.1 to 6.6, 6.11
 /// to 6.13, 6.16 to 6.18 and 6.21).
 ///
-/// The one error is want of memory, which leaves the bytes of the buffer as they were and comes
+/// The one error is refused memory, which leaves the bytes of the buffer as they were and comes
 /// only where the buffer had no room for the whole PDU.
 pub fn encode_request_pdu(
     _alloc: Global,

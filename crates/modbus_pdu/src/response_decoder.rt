@@ -299,7 +299,7 @@ fn answered(alloc: Global, code: u8, pdu: &Bytes, cursor: Cursor<'_>) -> Result<
 /// The response of a PDU (section 6), or the first reason that refuses it.
 ///
 /// Function codes that have no kind of their own give `Custom`, also those of `EXCEPTION_BIT` and above.
-/// `NoMemory` comes only for want of memory, and only where the PDU is a response that carries a list
+/// `NoMemory` comes only where memory is refused, and only where the PDU is a response that carries a list
 /// or bytes of its own.
 #[tactic(auto, unfolding(crate::specs::ResponseOf::response_of))]
 pub fn decode_response(alloc: Global, pdu: Bytes) -> Result<Response, PduError>
@@ -314,7 +314,7 @@ pub fn decode_response(alloc: Global, pdu: Bytes) -> Result<Response, PduError>
 /// What a server's PDU stands for: a response, or from the function code `EXCEPTION_BIT` on an exception
 /// (section 7). Else the first reason that refuses it.
 ///
-/// An empty PDU is `UnexpectedEnd`. `NoMemory` comes only for want of memory, and only where the PDU
+/// An empty PDU is `UnexpectedEnd`. `NoMemory` comes only where memory is refused, and only where the PDU
 /// is a response that carries a list or bytes of its own.
 #[tactic(auto, unfolding(crate::specs::ResponseOf::response_result_of))]
 pub fn decode_response_pdu(alloc: Global, pdu: Bytes) -> Result<ResponsePdu, PduError>

@@ -269,7 +269,7 @@ fn put_response(buf: &mut BytesMut, response: &Response)
 
 /// Appends the PDU of a response that fits, for which `response_pdu_size` is `Ok` (section 6).
 ///
-/// The one error is want of memory, which leaves the bytes of the buffer as they were and comes only where the buffer had no room
+/// The one error is refused memory, which leaves the bytes of the buffer as they were and comes only where the buffer had no room
 /// for the whole PDU. What memory it takes is of the buffer's own allocator.
 #[inline(always)]
 pub fn encode_response_pdu(
@@ -290,7 +290,7 @@ pub fn encode_response_pdu(
 /// Appends the PDU of a response or an exception that fits, for which `response_result_pdu_size` is
 /// `Ok` (sections 6 and 7). The function of an exception is below `EXCEPTION_BIT`.
 ///
-/// The one error is want of memory, which leaves the bytes of the buffer as they were and comes only where the buffer had no room
+/// The one error is refused memory, which leaves the bytes of the buffer as they were and comes only where the buffer had no room
 /// for the whole PDU. What memory it takes is of the buffer's own allocator.
 #[inline(always)]
 pub fn encode_response_result_pdu(

@@ -62,7 +62,7 @@ fn bytes_of(alloc: Global, words: &[Word]) -> Result<Vec<u8>, AllocError>
 /// The value of an item of this kind that lies in these words, one of each register (V1.1b3, section 4.2).
 ///
 /// # Errors
-/// Want of memory, which comes for a text alone.
+/// Refused memory, which comes for a text alone.
 pub fn value_of(alloc: Global, kind: Kind, words: &[Word]) -> Result<Value, AllocError>
     requires { length words.now ≡ width kind }
     ensures value { IfOk result (λ found. found ≡ value kind words.now) }

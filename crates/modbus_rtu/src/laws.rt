@@ -102,8 +102,8 @@ pub fn frames_alone()
     ensures { (messages : List (ℕ × List ℕ)) → AllByRecursion HasHead messages → IsWholeReading (stream_of messages) messages }
 {}
 
-/// Frames of requests of modelled kinds, one after another, each for some slave, have exactly these as leftmost frames, with the stop at
-/// the end, and they are a quiet line: each offset is that of a frame or lies in one. No PDU is longer than `MAX_PDU`, since a longer one
+/// Frames of requests of modelled kinds, one after another, each for some slave, are the leftmost frames, and the stop is the end. They
+/// are a quiet line: each offset is that of a frame or lies in one. No PDU is longer than `MAX_PDU`, since a longer one
 /// has no head.
 pub fn request_frames()
     ensures heads { (asked : ℕ × Asked) → IsFramedAsk asked.1 → HasHead (message_of asked) }

@@ -237,7 +237,7 @@ module _ (F : Framing) {S X : Type 0} (A : Answering S) (stops : X → ℕ) (loo
             looked = all_looked _ refl;
           }
 
-  -- no connection was opened for want of memory
+  -- no connection was opened, as memory was refused
   pub ran_none : (start : S) (a : Input) (k : Output) (turns : ℕ) (signal : X) → F.StandsFor [] [] [] [] → RanUntil F A stops looks start start a a k k turns signal signal (Err NoMemory)
   ran_none start a k turns signal stands = record {
     ran = record {

@@ -162,7 +162,7 @@ module _ (F : Framing) where
     next_takes message old new made bytes cuts taken (Err (fault.TooLong size)) h is_next e = cc
     next_takes message old new made bytes cuts taken (Err fault.NoMemory) h is_next e = (message, is_next, h)
 
--- what a connection tells of want of memory is that of the answer
+-- what a connection tells of refused memory is that of the answer
 pub told_memory : {E : Type 0} (result : Result Answer AnswerError) → next_of {E = E} result ≡ Err NoMemory → result ≡ Err fault.NoMemory
 told_memory (Ok Framed) e = cc
 told_memory (Ok Quiet) e = cc

@@ -85,7 +85,7 @@ module _ (F : Framing) {S : Type 0} (A : Answering S) where
   other_than told P a b d e f h (next.TooLong size) own = f size
   other_than told P a b d e f h next.NoMemory own = h
 
-  -- want of memory that is told is want of memory
+  -- refused memory that is told is refused memory
   abbrev of_step : ProcessError → Result Step ProcessError
   of_step error = Err error
 
@@ -103,7 +103,7 @@ module _ (F : Framing) {S : Type 0} (A : Answering S) where
   ForAll held now P = (bytes cuts written : List ℕ) (opening : S) (exchanges : List (Exchange F)) → Stands F A bytes cuts held opening now written [] exchanges
       → P bytes cuts written opening exchanges
 
-  -- what a step says of want of memory
+  -- what a step says of refused memory
   abbrev Memory : List ℕ → S → S → Result Step ProcessError → Type 0
   Memory held before after result = result ≡ Err NoMemory → (bytes cuts : List ℕ) (taken : List (Message F)) → F.StandsFor bytes cuts held taken
       → NextTakesMemory F A bytes cuts taken before after ⊎ (F.ReadsTakeMemory × (after ≡ before))

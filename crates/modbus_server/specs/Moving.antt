@@ -44,7 +44,7 @@ EndsInput (Ok Ended) left = left ≡ []
 EndsInput (Err BytesRemaining) left = left ≡ []
 EndsInput _ left = Unit {0}
 
--- one read was made, or none for want of memory
+-- one read was made, or none where memory was refused
 pub record Reads (F : Framing) (from to : Input) (old new : State) (result : Result Step ProcessError) : Type 0 where
   pub fed : List ℕ
   pub made : List (ℕ × ℕ)

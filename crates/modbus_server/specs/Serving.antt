@@ -112,7 +112,7 @@ WantsMemory F A bytes cuts held taken old new =
     NextTakesMemory F A bytes cuts taken old new ⊎ ((F.ReadsTakeMemory × F.IsAll bytes cuts held taken × (new ≡ old)) ⊎ ((bytes ≡ []) × (taken ≡ []) × (new ≡ old)))
 
 -- Memory was wanting: the service answered the first messages, and their replies were written whole. It stands where they left it, or
--- where its own want of memory for the next message did. No fault and no refusal comes before what memory was wanting for.
+-- where memory refused to it for the next message did. No fault and no refusal comes before what memory was wanting for.
 pub record Wanting (F : Framing) {S : Type 0} (A : Answering S) (bytes cuts : List ℕ) (opening now : S) (written : List ℕ) : Type 0 where
   pub held : List ℕ
   pub exchanges : List (Exchange F)

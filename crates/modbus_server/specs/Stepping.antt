@@ -42,7 +42,7 @@ StepsAs F A bytes cuts held opening now written waiting exchanges (Ok Ended) =
     (s : Stands F A bytes cuts held opening now written waiting exchanges) × F.IsAll bytes cuts held s.taken × (held ≡ [])
 StepsAs F A bytes cuts held opening now written waiting exchanges (Err error) = FailsAs F A bytes cuts opening now written exchanges error
 
--- A step reads, or is hungry, only after all messages of the bytes that it had. Its want of memory stands in for no fault or refusal.
+-- A step reads, or is hungry, only after all messages of the bytes that it had. Memory refused to it stands in for no fault or refusal.
 abbrev pub ReadsLast : (F : Framing) → List ℕ → List ℕ → List (Exchange F) → Result Step ProcessError → Type 0
 ReadsLast F bytes cuts exchanges (Ok MoreRead) = AreAllAnswered F bytes cuts exchanges
 ReadsLast F bytes cuts exchanges (Ok Hungry) = AreAllAnswered F bytes cuts exchanges

@@ -36,7 +36,7 @@ pub fn failing_place<V: Answerer>()
 }
 
 /// The failing place is one: two kinds of fault are not both the first, and none is first where there is none. So a call whose
-/// bytes have a failing place names it, unless a fault of the source or sink or want of memory came before.
+/// bytes have a failing place names it, unless a fault of the source or sink or refused memory came before.
 pub fn one_failing_place()
     ensures one { (bytes cuts frames : List ℕ) (all : List (Exchange rtu)) (stop place at : ℕ) (fault other : Halt) → IsLeftmost bytes frames stop
         → HasFault bytes cuts frames all place fault → HasFault bytes cuts frames all at other
@@ -60,8 +60,8 @@ pub fn failing_adu<V: Answerer>()
     modbus_tcp::laws::adus_come_first();
 }
 
-/// What fails first in a stream of ADUs is one, so a call whose bytes have it names it, unless a fault of the source or sink or want
-/// of memory came before.
+/// What fails first in a stream of ADUs is one, so a call whose bytes have it names it, unless a fault of the source or sink or
+/// refused memory came before.
 pub fn one_failing_adu()
     ensures one { (adus : List (Header × List ℕ)) (kind : Rest) (all : List (Exchange tcp)) (place at : ℕ) (fault other : Halt)
         → HasAduFault adus kind all place fault → HasAduFault adus kind all at other

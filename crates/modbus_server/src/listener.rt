@@ -245,9 +245,9 @@ impl<I: Framing, A: Acceptor> Server<I, A> {
     /// in a read is not woken.
     ///
     /// # Errors
-    /// - `AcceptFault`: only where the acceptor's count of faults rose in this call.
+    /// - `AcceptFault`: only where the acceptor counted a fault in this call.
     /// - `Connect`: exactly where `on_connected` answered this error.
-    /// - `SpawnFault`: only where the spawner's count of faults rose in this call; the link was dropped.
+    /// - `SpawnFault`: only where the spawner counted a fault in this call; the link was dropped.
     /// - `NoMemory`: memory was refused.
     pub fn serve_until<R, V, L, E, C, H, P, X>(
         &mut self,

@@ -35,12 +35,12 @@ pub fn process_link<L: Source + Sink, V: Answerer>(
 
 /// Serves a source and a sink until the input ends, with at most `turns` reads that give bytes.
 ///
-/// Over a source and a sink that tell their bytes, Ok comes only where the input ended with no uncovered offset open. What was
-/// appended is then exactly the replies, framed for each request's slave, that one run of the service gives to the leftmost frames
-/// of the whole input in order, and the service stands where that run ends, however the input was cut.
+/// Over a source and a sink that tell their bytes, Ok comes only where the input ended with no uncovered offset open. Then one
+/// run of the service took the leftmost frames of the whole input, in order, and left the service as it is; its replies, each framed for
+/// its request's slave, are all that was appended. The cuts of the reads change nothing of this.
 ///
 /// # Errors
-/// - `ReadFault`, `WriteFault`: only where the source's, the sink's count of faults rose in this call.
+/// - `ReadFault`, `WriteFault`: only where the source, the sink counted a fault in this call.
 /// - `TooManyRetries`: twenty consecutive offsets that came with one read have no frame.
 /// - `BytesRemaining`: the input ended within a frame.
 /// - `InvalidRequest`: the PDU of a frame is refused for this reason.
@@ -49,7 +49,7 @@ pub fn process_link<L: Source + Sink, V: Answerer>(
 /// - `NoMemory`: memory was refused: as the connection was opened, for a request that carries a list, or in the service. A read and a
 ///   reply take none.
 ///
-/// After an error other than `WriteFault` the replies to all frames before the failing place were written whole.
+/// After any error but `WriteFault`, each reply to a frame before the failing place was written whole.
 pub fn process<S: Source, K: Sink, V: Answerer>(
     alloc: Global,
     source: &mut S,

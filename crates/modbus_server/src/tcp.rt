@@ -156,12 +156,12 @@ pub fn process_link<L: Source + Sink, V: Answerer>(
 /// Serves a source and a sink until the input ends, with at most `turns` reads that give bytes, each with a room of 268 bytes.
 ///
 /// Over a source and a sink that tell their bytes, Ok comes only where the input ended and is ADUs, one after another, with nothing
-/// left. What was appended is then exactly the replies, each an ADU with its request's transaction and unit identifier, that one run
-/// of the service gives to the ADUs of the whole input in order, and the service stands where that run ends, however the input was
-/// cut. Unit 0 is asked like any other: whether it is answered is the service's choice.
+/// left. Then one run of the service took these ADUs, in order, and left the service as it is; its replies, each an ADU with its
+/// request's transaction and unit identifier, are all that was appended. The cuts of the reads change nothing of this. Unit 0 is asked
+/// like any other: whether it is answered is the service's choice.
 ///
 /// # Errors
-/// - `ReadFault`, `WriteFault`: only where the source's, the sink's count of faults rose in this call.
+/// - `ReadFault`, `WriteFault`: only where the source, the sink counted a fault in this call.
 /// - `InvalidLength`: the next header tells a length of 0, and its 7 bytes are there.
 /// - `InvalidProtocol`: the next whole ADU is of this protocol, which is not 0.
 /// - `BytesRemaining`: the input ended within an ADU.
@@ -171,7 +171,7 @@ pub fn process_link<L: Source + Sink, V: Answerer>(
 /// - `NoMemory`: memory was refused: as the connection was opened, for a read, for a request that carries a list, or in the service. A
 ///   reply takes none.
 ///
-/// After an error other than `WriteFault` the replies to all ADUs before the failing place were written whole.
+/// After any error but `WriteFault`, each reply to an ADU before the failing place was written whole.
 pub fn process<S: Source, K: Sink, V: Answerer>(
     alloc: Global,
     source: &mut S,

@@ -10,7 +10,7 @@ use Rattle.modbus_service.specs.Outcome.{Outcome, silence, reply, exception}
 pub record Answering (S : Type 0) : Type 1 where
   -- of a state, a slave, a request, an outcome and the next state: it may give this outcome
   pub gives : S → ℕ → Asked → Outcome → S → Type 0
-  -- of a state, a slave, a request and the next state: want of memory may leave it so
+  -- of a state, a slave, a request and the next state: refused memory may leave it so
   pub wants : S → ℕ → Asked → S → Type 0
 
 -- what one call does
@@ -20,6 +20,6 @@ Keeps A old slave request (Ok (Some response)) new = A.gives old slave request (
 Keeps A old slave request (Err (Exception code)) new = A.gives old slave request (exception code) new
 Keeps A old slave request (Err NoMemory) new = A.wants old slave request new
 
--- An answerer of this relation that want of memory leaves as it was. Memory is wanting only where it may be taken.
+-- An answerer of this relation that refused memory leaves as it was. Memory is wanting only where it may be taken.
 abbrev pub steady : {S : Type 0} → (S → ℕ → Asked → Outcome → S → Type 0) → (S → ℕ → Asked → Type 0) → Answering S
 steady answers takes_memory = record { gives = answers; wants = λ old slave request new. (new ≡ old) × takes_memory old slave request }

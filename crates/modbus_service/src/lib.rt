@@ -1,7 +1,7 @@
 //! Services: what answers the requests of a server, and what a run of one is.
 //!
 //! A service says by a relation what it answers and where it then stands, and every promise of a server is one about runs of its
-//! service. `Service` is for what is as it was after want of memory, as a device with tables is; `Answerer` is for the rest, as a
+//! service. `Service` is for what refused memory leaves as it was, as a device with tables is; `Answerer` is for the rest, as a
 //! gateway that has written to a line.
 #![tactic(auto)]
 

@@ -33,9 +33,9 @@ impl From<AllocError> for ServiceError {
     }
 }
 
-/// What answers the requests of a server, whatever want of memory leaves.
+/// What answers the requests of a server, however refused memory leaves it.
 ///
-/// An implementation states by relations which outcomes it may give and in which states want of memory may leave it. Each `Service`
+/// An implementation states by relations which outcomes it may give and in which states refused memory may leave it. Each `Service`
 /// is one.
 pub trait Answerer {
     ghost answering: { Answering Self };
@@ -43,7 +43,7 @@ pub trait Answerer {
     /// Answers a request; `None` where there is nothing to answer, as to a broadcast.
     ///
     /// # Errors
-    /// An exception, or want of memory; what that leaves is one of the states that the implementation tells.
+    /// An exception, or refused memory; what that leaves is one of the states that the implementation tells.
     fn ask(
         &mut self,
         alloc: Global,
@@ -52,7 +52,7 @@ pub trait Answerer {
         ensures { Keeps answering self.old request.entry.slave (meaning request.entry.request) result self.new };
 }
 
-/// What answers the requests of a server, and is as it was after want of memory.
+/// What answers the requests of a server, and is as it was where memory was refused.
 ///
 /// An implementation states its relation of state, slave, request, outcome and next state, and when a call may take memory.
 pub trait Service {
@@ -63,7 +63,7 @@ pub trait Service {
     /// Answers a request; `None` where there is nothing to answer, as to a broadcast.
     ///
     /// # Errors
-    /// An exception, or want of memory, which comes only where a call may take memory; after that the service is as it was.
+    /// An exception, or refused memory, which comes only where a call may take memory; after that the service is as it was.
     fn call(
         &mut self,
         alloc: Global,

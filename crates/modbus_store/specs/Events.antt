@@ -60,7 +60,7 @@ pub record LeavesHistory (o : Opening) (history : List Call) (id : ℕ) (me : Mi
   pub splits : (n : ℕ) → me.0.live ≡ true → me.0.number ≡ Some n → Splits (KeptWith o history) id me.0 me.0 (copied me.0)
   pub joins : (other : ℕ) (w : View) → w.stage ≡ resting → Joins (KeptWith o history) id me.0 other w (glued me.0 w) spent
 
--- After want of memory the pass added no call: wherever the rule holds with the seat of this pass as it then is, the history has of its
+-- Where memory was refused the pass added no call: wherever the rule holds with the seat of this pass as it then is, the history has of its
 -- number the calls that the pass had made before, and no other.
 abbrev pub AddsNoCall : {T : Type 0} → Result T ServiceError → Pass → Pass → Type 0
 AddsNoCall (Err NoMemory) old new = (s : State (Option Stored) View) (h : IsOrderly old.opening s) (j : ℕ) (v : View) → Knows s j v

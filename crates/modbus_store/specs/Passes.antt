@@ -49,7 +49,7 @@ pub record Calls (old : Pass) (slave : ℕ) (asked : Asked) (outcome : Outcome) 
   pub legal : IsLegal new.opening.tables new.seen
   pub rest : new ≡ record old { seen = new.seen; mine = new.mine }
 
--- a pass as what answers requests: want of memory, which may come at each call, leaves it as it was
+-- a pass as what answers requests: refused memory, which may come at each call, leaves it as it was
 abbrev pub MayWant : Pass → ℕ → Asked → Type 0
 MayWant pass slave asked = Unit {0}
 

@@ -38,7 +38,7 @@ Plans t slave asked (Err (Exception c)) = store_step t slave asked ≡ (exceptio
 Plans t slave asked (Err NoMemory) = NeedsMemory t asked
 
 -- A step over what has tables and comes to have others, whatever the slave: the response and the tables that it comes to are the whole
--- step. After an exception or want of memory all is as it was.
+-- step. After an exception or refused memory all is as it was.
 abbrev pub Steps : {T : Type 0} → (T → Tables) → (T → Tables → T → Type 0) → T → Asked → Result Response ServiceError → T → Type 0
 Steps tables becomes old asked (Ok response) new = ((step_of (tables old) asked).0 ≡ reply response) × becomes old (step_of (tables old) asked).1 new
 Steps tables becomes old asked (Err (Exception c)) new = (step_of (tables old) asked ≡ (exception c, tables old)) × (new ≡ old)

@@ -97,6 +97,6 @@ NeedsMemory t request = (c : ExceptionCode) → (step_of t request).0 ≢ except
 abbrev pub TakesMemory : Tables → ℕ → Asked → Type 0
 TakesMemory t slave request = NeedsMemory t request
 
--- the store as what answers requests: after want of memory it is as it was
+-- the store as what answers requests: refused memory leaves it as it was
 abbrev pub device : Answering Tables
 device = steady StepsTo TakesMemory

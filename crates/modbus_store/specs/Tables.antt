@@ -1,7 +1,7 @@
 -- The tables of a device, as plain data (Modbus Application Protocol V1.1b3, section 4.3).
 use Rattle.std.specs.Prelude.{ℕ, ◌+◌, Bool, List, ◌++◌, length, take, drop}
 
--- the four tables, and whether a request of slave 0 has its effect and no answer
+-- the four tables, and whether a request of slave 0 takes effect unanswered
 pub record Tables : Type 0 where
   pub coils : List Bool
   pub discrete_inputs : List Bool

@@ -19,7 +19,7 @@ pub enum Outcome {
 }
 
 impl Outcome {
-    /// An equal outcome. Want of memory is the one error.
+    /// An equal outcome. Refused memory is the one error.
     pub fn try_clone(&self, alloc: Global) -> Result<Outcome, AllocError>
         ensures { IfOk result (λ copy. copy ≡ self.now) }
     {

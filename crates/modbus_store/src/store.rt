@@ -65,8 +65,8 @@ fn is_size(size: usize) -> bool
 }
 
 impl RegisterStore {
-    /// Four tables of coils that are off and registers that hold 0. Where `broadcast` is true, a request of slave 0 has its effect and
-    /// no answer (MODBUS over Serial Line V1.02, section 2.2).
+    /// Four tables of coils that are off and registers that hold 0. Where `broadcast` is true, a request of slave 0 takes effect
+    /// unanswered (MODBUS over Serial Line V1.02, section 2.2).
     ///
     /// # Errors
     /// `BadSize` exactly where a size is not 1 to 65536; else `NoMemory` where memory was refused.
@@ -172,8 +172,8 @@ impl RegisterStore {
 }
 
 impl RegisterStore {
-    /// Answers a request of a slave, and does what it asks. Where the store takes part in broadcasts, a request of slave 0 has its
-    /// effect and no answer.
+    /// Answers a request of a slave, and does what it asks. Where the store takes part in broadcasts, a request of slave 0 takes
+    /// effect unanswered.
     ///
     /// # Errors
     /// An exception, after which no table has changed: `IllegalFunction` where the store has no such function, `IllegalDataValue`

@@ -62,7 +62,7 @@ impl StoreTable {
     /// made no call.
     ///
     /// # Errors
-    /// Want of memory; the store is then dropped.
+    /// Refused memory; the store is then dropped.
     pub fn open(alloc: Global, store: RegisterStore) -> Result<(StoreTable, StorePass), AllocError>
         ensures table { IfOk result (λ r. r.0.opening ≡ record { tables = store; recorded = true }) }
         ensures pass { IfOk result (λ r. r.1 ≡ opened r.0.table r.0.opening) }
@@ -74,7 +74,7 @@ impl StoreTable {
     /// Shares a store, and keeps no record of calls: its memory does not grow. All else is as for `open`.
     ///
     /// # Errors
-    /// Want of memory; the store is then dropped.
+    /// Refused memory; the store is then dropped.
     pub fn open_unrecorded(
         alloc: Global,
         store: RegisterStore,

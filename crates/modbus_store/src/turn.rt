@@ -78,7 +78,7 @@ fn with_entry(room: Option<Filed>) -> Option<History>
     }
 }
 
-/// The outcome of a request and the change that it asks for. Want of memory is the one error.
+/// The outcome of a request and the change that it asks for. Refused memory is the one error.
 fn settle<'a>(
     store: &RegisterStore,
     alloc: Global,
@@ -151,7 +151,7 @@ fn serve(
 }
 
 /// One turn. It gives the outcome, and how many calls the history then has. A history of 2^64 - 1 calls has no room for another, which is
-/// answered as want of memory.
+/// answered as out of memory.
 pub(crate) fn turn<R: Wait>(
     desk: &Desk,
     rt: &R,
