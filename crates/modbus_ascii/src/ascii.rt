@@ -47,7 +47,7 @@ pub fn process_link<L: Source + Sink, V: Answerer>(
 /// Serves a source and a sink until the input ends, with at most `turns` reads that give bytes, each with a room of 513 bytes.
 ///
 /// Over a source and a sink that tell their bytes, Ok comes only where the input ended with no `:` open. Then one run of the service
-/// took the frames that the `:` of the whole input deliver, in order, and left the service as it is; its replies, each an ASCII frame for
+/// took the frames that the `:` of the whole input deliver, in order, and the service stands at its end; its replies, each an ASCII frame for
 /// its request's slave, are all that was appended. The cuts of the reads change nothing of this. All other bytes are skipped.
 ///
 /// # Errors

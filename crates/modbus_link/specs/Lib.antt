@@ -11,3 +11,4 @@ pub mod Stops
 pub mod Connects
 pub mod Listens
 pub mod Tcp
+pub mod Silence

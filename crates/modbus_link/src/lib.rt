@@ -5,7 +5,7 @@
 //! adapters over the readers and writers of std, which tell only how often they failed. A `Link` has both ends and can be shut down,
 //! a `Connector` makes links to addresses, an `Acceptor` gives the links of peers that connect, and a `Stop` is a signal to stop; each is
 //! there in memory, and over TCP or a shared flag. A `Spawner` starts `Worker`s, on the caller or in threads of a scope. A `PolledLink` may
-//! not be ready, and says so where another waits.
+//! not be ready, and says so where another waits; a `TimedLink` waits for a while first, and so tells silence.
 #![tactic(auto)]
 
 mod acceptor;
@@ -17,6 +17,7 @@ mod memory_link;
 mod outside;
 mod polled;
 mod real;
+mod silence;
 mod spawner;
 mod stop;
 mod tcp;
@@ -31,6 +32,7 @@ pub use memory_link::MemoryLink;
 pub use outside::{Ends, Failed, Sink, Source};
 pub use polled::{Polled, PolledLink, PolledMemoryLink};
 pub use real::{ReadSource, WriteSink};
+pub use silence::{TerminalLink, TimedLink, TimedMemoryLink, TimedTcpLink};
 pub use spawner::{InlineSpawner, ScopeSpawner, Spawner, Worker};
 pub use stop::{FlagStop, MemoryStop, Stop};
 pub use tcp::{TcpAcceptor, TcpConnector, TcpLink};

@@ -4,8 +4,9 @@
 ghost use Rattle.std.specs.Prelude.{◌≡◌, ◌<◌, ◌≤◌, length, IfOk, OnErr};
 ghost use Rattle.std.specs.Io.{ReadsAtMost, WritesAtMost};
 ghost use Rattle.modbus_link.specs.Outside.{Rose, Advances, Extends, untold_input, untold_output};
-ghost use Rattle.modbus_link.specs.Memory.{faults_after};
+ghost use Rattle.modbus_link.specs.Memory.{counted, faults_after};
 ghost use Rattle.modbus_link.specs.Line.{shut, Shuts};
+ghost use Rattle.modbus_link.specs.Polled.{at_once};
 ghost use Rattle.modbus_link.specs.Tcp.{tcp_at_start};
 ghost use Rattle.modbus_link.specs.Listens.{tally_at_start, tally_after};
 
@@ -13,6 +14,7 @@ use crate::acceptor::Acceptor;
 use crate::connector::Connector;
 use crate::link::Link;
 use crate::outside::{Ends, Failed, Sink, Source};
+use crate::polled::Polled;
 use crate::real::{read_once, write_once};
 use std::io::{Error, ErrorKind, Result as IoResult};
 use std::marker::Model;
@@ -78,12 +80,36 @@ impl TcpLink {
         Ok(())
     }
 
+    fn count_read_fault(&mut self) -> Failed
+        ensures source { Advances (untold_input self.old.read_faults) (untold_input self.new.read_faults) }
+        ensures counts { self.new ≡ record self.old { read_faults = counted self.old.read_faults } }
+    {
+        self.read_faults = self.read_faults.saturating_add(1);
+        Failed
+    }
+
     fn try_read(&mut self, room: &mut [u8]) -> IoResult<usize>
         ensures bound { ReadsAtMost result room.new }
         ensures counts { self.new ≡ self.old }
     {
         self.apply_timeout()?;
         read_once(&mut self.stream, room)
+    }
+
+    /// Reads what the peer has sent, and is `Pending` where nothing came within the timeout.
+    ///
+    /// # Errors
+    /// `Failed` where the stream failed in another way, or refused the timeout.
+    pub(crate) fn read_in_time(&mut self, room: &mut [u8]) -> Result<Polled<usize>, Failed>
+        ensures bound { ReadsAtMost (at_once result) room.new }
+        ensures source { Advances (untold_input self.old.read_faults) (untold_input self.new.read_faults) }
+        ensures counts { self.new ≡ record self.old { read_faults = faults_after result self.old.read_faults } }
+    {
+        match self.try_read(room) {
+            Ok(count) => Ok(Polled::Ready(count)),
+            Err(error) if is_timeout(error.kind()) => Ok(Polled::Pending),
+            Err(_) => Err(self.count_read_fault()),
+        }
     }
 
     fn try_write(&mut self, piece: &[u8]) -> IoResult<usize>
@@ -116,10 +142,7 @@ impl Source for TcpLink {
     {
         match self.try_read(room) {
             Ok(count) => Ok(count),
-            Err(_) => {
-                self.read_faults = self.read_faults.saturating_add(1);
-                Err(Failed)
-            }
+            Err(_) => Err(self.count_read_fault()),
         }
     }
 }
@@ -145,6 +168,11 @@ impl Sink for TcpLink {
             }
         }
     }
+}
+
+// Whether a read that failed so had nothing to give in time; which of the two it is depends on the system.
+fn is_timeout(kind: ErrorKind) -> bool {
+    matches!(kind, ErrorKind::WouldBlock | ErrorKind::TimedOut)
 }
 
 // Whether a shutdown that failed so found nothing to shut down.

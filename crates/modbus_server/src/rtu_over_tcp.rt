@@ -36,7 +36,7 @@ pub fn process_link<L: Source + Sink, V: Answerer>(
 /// Serves a source and a sink until the input ends, with at most `turns` reads that give bytes.
 ///
 /// Over a source and a sink that tell their bytes, Ok comes only where the input ended with no uncovered offset open. Then one
-/// run of the service took the leftmost frames of the whole input, in order, and left the service as it is; its replies, each framed for
+/// run of the service took the leftmost frames of the whole input, in order, and the service stands at its end; its replies, each framed for
 /// its request's slave, are all that was appended. The cuts of the reads change nothing of this.
 ///
 /// # Errors

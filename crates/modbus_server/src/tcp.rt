@@ -156,7 +156,7 @@ pub fn process_link<L: Source + Sink, V: Answerer>(
 /// Serves a source and a sink until the input ends, with at most `turns` reads that give bytes, each with a room of 268 bytes.
 ///
 /// Over a source and a sink that tell their bytes, Ok comes only where the input ended and is ADUs, one after another, with nothing
-/// left. Then one run of the service took these ADUs, in order, and left the service as it is; its replies, each an ADU with its
+/// left. Then one run of the service took these ADUs, in order, and the service stands at its end; its replies, each an ADU with its
 /// request's transaction and unit identifier, are all that was appended. The cuts of the reads change nothing of this. Unit 0 is asked
 /// like any other: whether it is answered is the service's choice.
 ///
