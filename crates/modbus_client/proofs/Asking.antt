@@ -7,6 +7,7 @@ use Rattle.modbus_link.specs.Reads.{Spends}
 use Rattle.modbus_frame.specs.Meaning.{Asked, function_asked}
 use Rattle.modbus_frame.specs.declared.fault.Error.{Error}
 use Rattle.modbus_frame.specs.declared.fault.Error.TheVariants.{Protocol as protocol, Transport, NoMemory}
+use Rattle.modbus_frame.specs.declared.fault.HeaderSeen.{HeaderSeen}
 use Rattle.modbus_frame.specs.declared.fault.TransportError.TheVariants as transport
 use Rattle.modbus_pdu.specs.Coding.{Fits, told_size}
 use Rattle.modbus_pdu.specs.Limits.{max_pdu}
@@ -62,11 +63,11 @@ module _ (X : Type 0) {H : Type 0} (P : Protocol H) (header : H) (asked : Asked)
   sent_refused a k NoMemory refused = sent_wanting a k refused
 
 -- a request that was not sent is the whole call
-module _ (X : Type 0) {H : Type 0} (P : Protocol H) (opening : P.Finds [] [] (waiting [])) (a b : Input) (k m : Output) (header : H) (asked : Asked) (turns : ℕ) (held : List ℕ) where
+module _ (X : Type 0) {H : Type 0} (P : Protocol H) (opening : (seen : HeaderSeen) → P.Finds seen [] [] (waiting [])) (a b : Input) (k m : Output) (header : H) (asked : Asked) (turns : ℕ) (held : List ℕ) where
   abbrev pub SentAs : Error → Type 0
   SentAs e = Sent {X = X} P a b k m header asked held (Err e)
 
-  unsent : (e : Error) → SentAs e → CallEndsAs P (P.seen header) (function_asked asked) [] [] held (Err e) → CameLast P [] [] (Err e) → CallEndsRead (Err e) b.left → Spends (call_spending (Err e)) 0 turns
+  unsent : (e : Error) → SentAs e → CallEndsAs P (P.seen header) (function_asked asked) [] [] held (Err e) → CameLast P (P.seen header) [] [] (Err e) → CallEndsRead (Err e) b.left → Spends (call_spending (Err e)) 0 turns
       → (((size : ℕ) → (let answer : Answer = Err e in answer ≡ Err (Transport (transport.RequestTooLong size))) ↔ ((max_pdu < length (request_pdu asked)) × (size ≡ told_size (request_pdu asked)))))
       → ((s : SentAs e) → (let answer : Answer = Err e in WritesRequest (P.adu header (request_pdu asked)) s.sent answer))
       → (let answer : Answer = Err e in answer ≡ Err (Transport transport.WriteFault) → Rose k.faults m.faults)
@@ -102,5 +103,5 @@ module _ (X : Type 0) {H : Type 0} (P : Protocol H) (opening : P.Finds [] [] (wa
       (λ n. (λ e. cc, λ told. let bad = (s.too_long n).1 told in cc)) (λ s. s.writes) (λ e. s.write_fault refl) (λ e. cc)
   exchanged_unsent (Transport _) s = absurd s.only
   exchanged_unsent NoMemory s =
-      unsent NoMemory s (inl ([], opening)) tt tt (omega arith)
+      unsent NoMemory s (inl ([], opening (P.seen header))) tt tt (omega arith)
       (λ n. (λ e. cc, λ told. let bad = (s.too_long n).1 told in cc)) (λ s. s.writes) (λ e. cc) (λ e. cc)

@@ -23,7 +23,7 @@ use Rattle.modbus_client.specs.State.{ClientState, next_header}
 use Rattle.modbus_client.specs.Calling.{Exchanged, Called, IsComplete}
 
 abbrev pub IsFoundAlone : {H : Type 0} → Protocol H → Type 0
-IsFoundAlone {H} P = (header : H) (pdu bytes rest cuts : List ℕ) (found : Found) → P.IsWhole header pdu → P.adu header pdu ≡ bytes ++ rest → P.Finds bytes cuts found → IsOfMessage (P.seen header) pdu rest found
+IsFoundAlone {H} P = (header : H) (pdu bytes rest cuts : List ℕ) (found : Found) → P.IsWhole header pdu → P.adu header pdu ≡ bytes ++ rest → P.Finds (P.seen header) bytes cuts found → IsOfMessage (P.seen header) pdu rest found
 
 pub ok_same : (a b : Result Response ExceptionResponse) (m : Result (Result Response ExceptionResponse) Reason) → m ≡ Ok a → m ≡ Ok b → a ≡ b
 ok_same a b m e f = cc
@@ -53,7 +53,7 @@ module _ {H : Type 0} (P : Protocol H) (alone : IsFoundAlone P) (from to : Input
     joined : P.adu header pdu ≡ r.fed ++ to.left
     joined = sym left ∙ parts
 
-    ended : {X : Type 0} (kept : List ℕ) → P.Finds r.fed (totals r.made) (waiting kept) → to.left ≡ [] → X
+    ended : {X : Type 0} (kept : List ℕ) → P.Finds (P.seen header) r.fed (totals r.made) (waiting kept) → to.left ≡ [] → X
     ended kept finds none = absurd (alone header pdu r.fed to.left (totals r.made) (waiting kept) whole joined finds none)
 
     judged : IsJudged P (P.seen header) (function_asked asked) r.fed (totals r.made) held answer → answer ≡ answer_of result

@@ -18,23 +18,23 @@ use Rattle.modbus_client.specs.Calling.{Exchanged}
 use Rattle.modbus_client.specs.Exactly.{IsAnswerTo, IsToldOf, IsOfWaiting, TellsWaiting, end_of}
 
 abbrev pub IsOneWay : {H : Type 0} → Protocol H → Type 0
-IsOneWay {H} P = (bytes cuts : List ℕ) (found other : Found) → P.Finds bytes cuts found → P.Finds bytes cuts other → found ≡ other
+IsOneWay {H} P = (asked : HeaderSeen) (bytes cuts : List ℕ) (found other : Found) → P.Finds asked bytes cuts found → P.Finds asked bytes cuts other → found ≡ other
 
 no_made : (made : List (ℕ × ℕ)) (fed : List ℕ) → fed ≡ [] → RisesTo 0 made (length fed) → made ≡ []
 no_made [] fed none rises = refl
 no_made (cut ∷ made) fed none rises = absurd (omega (arith, RisesTo-count 0 (length fed) (cut ∷ made) rises, ap length none))
 
-module _ {H : Type 0} (P : Protocol H) (opening : P.Finds [] [] (waiting [])) (one_way : IsOneWay P) (from to : Input) (sunk sinks : Output) (header : H) (asked : Asked) (turns : ℕ) (held : List ℕ) where
+module _ {H : Type 0} (P : Protocol H) (opening : (asked : HeaderSeen) → P.Finds asked [] [] (waiting [])) (one_way : IsOneWay P) (from to : Input) (sunk sinks : Output) (header : H) (asked : Asked) (turns : ℕ) (held : List ℕ) where
   module _ (answer : Answer) (r : Exchanged P from to sunk sinks header asked turns held answer) where
     -- two searches in the same bytes are one
-    same : (found other : Found) → P.Finds r.fed (totals r.made) found → P.Finds r.fed (totals r.made) other → found ≡ other
-    same found other a b = one_way r.fed (totals r.made) found other a b
+    same : (found other : Found) → P.Finds (P.seen header) r.fed (totals r.made) found → P.Finds (P.seen header) r.fed (totals r.made) other → found ≡ other
+    same found other a b = one_way (P.seen header) r.fed (totals r.made) found other a b
 
     -- with no byte the search waits
-    none_waits : r.fed ≡ [] → P.Finds r.fed (totals r.made) (waiting [])
-    none_waits none = rw (none, no_made r.made r.fed none r.passes.rises) opening
+    none_waits : r.fed ≡ [] → P.Finds (P.seen header) r.fed (totals r.made) (waiting [])
+    none_waits none = rw (none, no_made r.made r.fed none r.passes.rises) (opening (P.seen header))
 
-    meets : (kept : List ℕ) (seen : HeaderSeen) (pdu : List ℕ) → P.Finds r.fed (totals r.made) (reply kept seen pdu) → IsJudged P (P.seen header) (function_asked asked) r.fed (totals r.made) held answer
+    meets : (kept : List ℕ) (seen : HeaderSeen) (pdu : List ℕ) → P.Finds (P.seen header) r.fed (totals r.made) (reply kept seen pdu) → IsJudged P (P.seen header) (function_asked asked) r.fed (totals r.made) held answer
         → IsAnswerTo (P.seen header) (function_asked asked) seen (response_result_of pdu) answer
     meets kept seen pdu finds (seen', pdu', result, finds', meant, judges) =
         let e : reply kept seen pdu ≡ reply held seen' pdu' = same (reply kept seen pdu) (reply held seen' pdu') finds finds' in
@@ -44,22 +44,22 @@ module _ {H : Type 0} (P : Protocol H) (opening : P.Finds [] [] (waiting [])) (o
         subst (λ m. IsAnswerTo (P.seen header) (function_asked asked) seen m answer) (sym is)
         (subst (λ s. Judges (P.seen header) (function_asked asked) s result answer) (sym first) judges)
 
-    no_wait : {X : Type 0} (kept seen-held : List ℕ) (seen : HeaderSeen) (pdu : List ℕ) → P.Finds r.fed (totals r.made) (reply kept seen pdu) → P.Finds r.fed (totals r.made) (waiting seen-held) → X
+    no_wait : {X : Type 0} (kept seen-held : List ℕ) (seen : HeaderSeen) (pdu : List ℕ) → P.Finds (P.seen header) r.fed (totals r.made) (reply kept seen pdu) → P.Finds (P.seen header) r.fed (totals r.made) (waiting seen-held) → X
     no_wait kept other seen pdu a b = let e : reply kept seen pdu ≡ waiting other = same (reply kept seen pdu) (waiting other) a b in cc
 
-    no_break : {X : Type 0} (kept other : List ℕ) (seen : HeaderSeen) (pdu : List ℕ) (fault : TransportError) → P.Finds r.fed (totals r.made) (reply kept seen pdu) → P.Finds r.fed (totals r.made) (broken other fault) → X
+    no_break : {X : Type 0} (kept other : List ℕ) (seen : HeaderSeen) (pdu : List ℕ) (fault : TransportError) → P.Finds (P.seen header) r.fed (totals r.made) (reply kept seen pdu) → P.Finds (P.seen header) r.fed (totals r.made) (broken other fault) → X
     no_break kept other seen pdu fault a b = let e : reply kept seen pdu ≡ broken other fault = same (reply kept seen pdu) (broken other fault) a b in cc
 
-    breaks_not_waits : {X : Type 0} (kept other : List ℕ) (fault : TransportError) → P.Finds r.fed (totals r.made) (broken kept fault) → P.Finds r.fed (totals r.made) (waiting other) → X
+    breaks_not_waits : {X : Type 0} (kept other : List ℕ) (fault : TransportError) → P.Finds (P.seen header) r.fed (totals r.made) (broken kept fault) → P.Finds (P.seen header) r.fed (totals r.made) (waiting other) → X
     breaks_not_waits kept other fault a b = let e : broken kept fault ≡ waiting other = same (broken kept fault) (waiting other) a b in cc
 
-    same_fault : (kept other : List ℕ) (fault fault' : TransportError) → P.Finds r.fed (totals r.made) (broken kept fault) → P.Finds r.fed (totals r.made) (broken other fault') → fault' ≡ fault
+    same_fault : (kept other : List ℕ) (fault fault' : TransportError) → P.Finds (P.seen header) r.fed (totals r.made) (broken kept fault) → P.Finds (P.seen header) r.fed (totals r.made) (broken other fault') → fault' ≡ fault
     same_fault kept other fault fault' a b = let e : broken kept fault ≡ broken other fault' = same (broken kept fault) (broken other fault') a b in cc
 
   abbrev Tells : Answer → Found → Type 0
   Tells answer found = IsToldOf (P.seen header) (function_asked asked) found answer
 
-  told_reply : (kept : List ℕ) (seen : HeaderSeen) (pdu : List ℕ) (answer : Answer) (r : Exchanged P from to sunk sinks header asked turns held answer) → P.Finds r.fed (totals r.made) (reply kept seen pdu) → Tells answer (reply kept seen pdu)
+  told_reply : (kept : List ℕ) (seen : HeaderSeen) (pdu : List ℕ) (answer : Answer) (r : Exchanged P from to sunk sinks header asked turns held answer) → P.Finds (P.seen header) r.fed (totals r.made) (reply kept seen pdu) → Tells answer (reply kept seen pdu)
   told_reply kept seen pdu (Ok x) r finds = inl (meets (Ok x) r kept seen pdu finds r.ends)
   told_reply kept seen pdu (Err (protocol fault)) r finds = inl (meets (Err (protocol fault)) r kept seen pdu finds r.ends)
   told_reply kept seen pdu (Err (Transport transport.NotConnected)) r finds = absurd r.ends
@@ -81,7 +81,7 @@ module _ {H : Type 0} (P : Protocol H) (opening : P.Finds [] [] (waiting [])) (o
   told_reply kept seen pdu (Err (Transport (transport.InvalidProtocol number))) r finds = no_break _ r kept held seen pdu (transport.InvalidProtocol number) finds r.ends.1
   told_reply kept seen pdu (Err NoMemory) r finds = inr refl
 
-  told_broken : (kept : List ℕ) (fault : TransportError) (answer : Answer) (r : Exchanged P from to sunk sinks header asked turns held answer) → P.Finds r.fed (totals r.made) (broken kept fault) → Tells answer (broken kept fault)
+  told_broken : (kept : List ℕ) (fault : TransportError) (answer : Answer) (r : Exchanged P from to sunk sinks header asked turns held answer) → P.Finds (P.seen header) r.fed (totals r.made) (broken kept fault) → Tells answer (broken kept fault)
   told_broken kept fault (Ok x) r finds = let (seen, pdu, result, finds', meant, judges) = r.ends in no_break _ r held kept seen pdu fault finds' finds
   told_broken kept fault (Err (protocol error)) r finds = let (seen, pdu, result, finds', meant, judges) = r.ends in no_break _ r held kept seen pdu fault finds' finds
   told_broken kept fault (Err (Transport transport.NotConnected)) r finds = absurd r.ends
@@ -100,7 +100,7 @@ module _ {H : Type 0} (P : Protocol H) (opening : P.Finds [] [] (waiting [])) (o
     | inr wants ↦ no_break _ r wants.0 kept wants.1 wants.2 fault wants.3 finds
   ]
 
-  told_waiting : (kept : List ℕ) (answer : Answer) (r : Exchanged P from to sunk sinks header asked turns held answer) → P.Finds r.fed (totals r.made) (waiting kept) → Tells answer (waiting kept)
+  told_waiting : (kept : List ℕ) (answer : Answer) (r : Exchanged P from to sunk sinks header asked turns held answer) → P.Finds (P.seen header) r.fed (totals r.made) (waiting kept) → Tells answer (waiting kept)
   told_waiting kept (Ok x) r finds = let (seen, pdu, result, finds', meant, judges) = r.ends in no_wait _ r held kept seen pdu finds' finds
   told_waiting kept (Err (protocol fault)) r finds = let (seen, pdu, result, finds', meant, judges) = r.ends in no_wait _ r held kept seen pdu finds' finds
   told_waiting kept (Err (Transport transport.NotConnected)) r finds = absurd r.ends
@@ -116,23 +116,23 @@ module _ {H : Type 0} (P : Protocol H) (opening : P.Finds [] [] (waiting [])) (o
   told_waiting kept (Err (Transport (transport.InvalidProtocol number))) r finds = breaks_not_waits _ r held kept (transport.InvalidProtocol number) r.ends.1 finds
   told_waiting kept (Err NoMemory) r finds = λ e. cc
 
-  pub told_of : (answer : Answer) (r : Exchanged P from to sunk sinks header asked turns held answer) (found : Found) → P.Finds r.fed (totals r.made) found → Tells answer found
+  pub told_of : (answer : Answer) (r : Exchanged P from to sunk sinks header asked turns held answer) (found : Found) → P.Finds (P.seen header) r.fed (totals r.made) found → Tells answer found
   told_of answer r (waiting kept) finds = told_waiting kept answer r finds
   told_of answer r (reply kept seen pdu) finds = told_reply kept seen pdu answer r finds
   told_of answer r (broken kept fault) finds = told_broken kept fault answer r finds
 
   module _ (kept : List ℕ) (fits : Fits (request_pdu asked)) (no_read : Rose from.faults to.faults → ⊥) (no_write : Rose sunk.faults sinks.faults → ⊥) where
-    same_held : (answer : Answer) (r : Exchanged P from to sunk sinks header asked turns held answer) → P.Finds r.fed (totals r.made) (waiting kept) → P.Finds r.fed (totals r.made) (waiting held) → held ≡ kept
+    same_held : (answer : Answer) (r : Exchanged P from to sunk sinks header asked turns held answer) → P.Finds (P.seen header) r.fed (totals r.made) (waiting kept) → P.Finds (P.seen header) r.fed (totals r.made) (waiting held) → held ≡ kept
     same_held answer r a b = let e : waiting kept ≡ waiting held = same answer r (waiting kept) (waiting held) a b in cc
 
     end_some : (bytes : List ℕ) → bytes ≢ [] → transport.BytesRemaining ≡ end_of bytes
     end_some [] some = absurd (some refl)
     end_some (b ∷ bytes) some = refl
 
-    pub tells_waiting : (answer : Answer) (r : Exchanged P from to sunk sinks header asked turns held answer) → P.Finds r.fed (totals r.made) (waiting kept) → TellsWaiting kept (length r.made) turns to.left answer
+    pub tells_waiting : (answer : Answer) (r : Exchanged P from to sunk sinks header asked turns held answer) → P.Finds (P.seen header) r.fed (totals r.made) (waiting kept) → TellsWaiting kept (length r.made) turns to.left answer
     tells_waiting answer r finds = by_answer answer r finds (told_waiting kept answer r finds)
       where
-        by_answer : (answer : Answer) (r : Exchanged P from to sunk sinks header asked turns held answer) → P.Finds r.fed (totals r.made) (waiting kept) → IsOfWaiting answer → TellsWaiting kept (length r.made) turns to.left answer
+        by_answer : (answer : Answer) (r : Exchanged P from to sunk sinks header asked turns held answer) → P.Finds (P.seen header) r.fed (totals r.made) (waiting kept) → IsOfWaiting answer → TellsWaiting kept (length r.made) turns to.left answer
         by_answer (Err (Transport (transport.RequestTooLong size))) r finds is = absurd (omega (arith, ((r.too_long size).0 refl).0, fits))
         by_answer (Err (Transport transport.WriteFault)) r finds is = absurd (no_write (r.write_fault refl))
         by_answer (Err (Transport transport.ReadFault)) r finds is = absurd (no_read (r.read_fault refl))

@@ -8,7 +8,7 @@ use Rattle.modbus_frame.specs.declared.fault.HeaderSeen.{HeaderSeen}
 use Rattle.modbus_frame.specs.declared.fault.TransportError.{TransportError}
 use Rattle.modbus_frame.specs.declared.fault.TransportError.TheVariants as transport
 use Rattle.modbus_client.specs.Limits.{read_room}
-use Rattle.modbus_client.specs.Protocol.{Protocol}
+use Rattle.modbus_client.specs.Protocol.{Protocol, waiting}
 use Rattle.modbus_client.specs.Matching.{Answer}
 use Rattle.modbus_client.specs.Call.{CallState, CallStands, IsSameCall, IsOfBytesIfSome, FeedsAs, CallFed, TellsEnd}
 use Rattle.modbus_client.specs.Calling.{CallEndsAs}
@@ -52,12 +52,15 @@ module _ {H : Type 0} (P : Protocol H) (bytes : List ℕ) where
     pub may_read : 0 < length left → old.reads < length bytes
     may_read some = omega (arith, some, ap length g.rest, length-drop (g.reads * read_room) bytes, g.stands.counted, count_full g.reads bytes)
 
+    waits : P.Finds first.asked (take (g.reads * read_room) bytes) (full_cuts g.reads bytes) (waiting old.held)
+    waits = subst (λ asked. P.Finds asked (take (g.reads * read_room) bytes) (full_cuts g.reads bytes) (waiting old.held)) g.same.asked g.stands.finds
+
     pub no_memory : (held : List ℕ) → ReadsAll P first.asked first.function bytes held (Err NoMemory)
-    no_memory held = record { only = (λ e. cc, λ e. cc); reads = g.reads; ends = inl (old.held, g.stands.finds); ended = tt }
+    no_memory held = record { only = (λ e. cc, λ e. cc); reads = g.reads; ends = inl (old.held, waits); ended = tt }
 
     pub over : left ≡ [] → (fault : TransportError) → TellsEnd old.held fault → ReadsAll P first.asked first.function bytes old.held (Err (Transport fault))
-    over none transport.BrokenPipe tells = record { only = (λ e. cc, λ e. cc); reads = g.reads; ends = (g.stands.finds, tells); ended = sym g.rest ∙ none }
-    over none transport.BytesRemaining tells = record { only = (λ e. cc, λ e. cc); reads = g.reads; ends = (g.stands.finds, tells); ended = sym g.rest ∙ none }
+    over none transport.BrokenPipe tells = record { only = (λ e. cc, λ e. cc); reads = g.reads; ends = (waits, tells); ended = sym g.rest ∙ none }
+    over none transport.BytesRemaining tells = record { only = (λ e. cc, λ e. cc); reads = g.reads; ends = (waits, tells); ended = sym g.rest ∙ none }
     over none _ tells = absurd tells
 
     module _ (free : ℕ) (mid new : CallState) (same : mid ≡ record old { free = free }) (piece : List ℕ) (is : piece ≡ take read_room left) (answer : Option Answer) (fed : CallFed P mid new piece answer) where

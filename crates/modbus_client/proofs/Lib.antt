@@ -8,6 +8,7 @@ pub mod OneSearch
 pub mod OneFrame
 pub mod FrameAlone
 pub mod OneAdu
+pub mod OwnAdu
 pub mod Completing
 pub mod Exactly
 pub mod Exchanging

@@ -32,13 +32,13 @@ module _ (one_begins : OneBegins) (one_rest : OneRest) (apart : AreApart) where
     ]
     not_both held _ rest b = absurd b
 
-    not_waiting : {P : Type 0} (held : List ℕ) (message : Header × List ℕ) → IsRest bytes empty ⊎ IsRest bytes unfinished → BeginsWith bytes message held → P
+    pub not_waiting : {P : Type 0} (held : List ℕ) (message : Header × List ℕ) → IsRest bytes empty ⊎ IsRest bytes unfinished → BeginsWith bytes message held → P
     not_waiting held message rest b = elim rest [
       | inl none ↦ absurd (apart bytes held message empty b none)
       | inr some ↦ absurd (apart bytes held message unfinished b some)
     ]
 
-    not_broken : {P : Type 0} (held held' : List ℕ) (message : Header × List ℕ) (fault : TransportError) → BeginsWith bytes message held → IsBrokenAt bytes held' fault → P
+    pub not_broken : {P : Type 0} (held held' : List ℕ) (message : Header × List ℕ) (fault : TransportError) → BeginsWith bytes message held → IsBrokenAt bytes held' fault → P
     not_broken held held' message InvalidLength b r = absurd (apart bytes held message no_length b r.0)
     not_broken held held' message (InvalidProtocol protocol) b r = absurd (apart bytes held message (foreign protocol) b r.0)
     not_broken held held' message _ b r = absurd r

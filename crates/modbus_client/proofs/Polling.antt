@@ -98,8 +98,8 @@ module _ {H : Type 0} (P : Protocol H) where
     unopened_wanting o = record { goes = tt; asks = tt; fits = tt; too_long = λ long. absurd (omega (arith, o.cause, long)); cause = o.cause }
 
   -- an answer of the bytes comes with the read of its turn, before which the search waited
-  module _ (bytes fed held : List ℕ) (earlier made : List (ℕ × ℕ)) (waits : P.Finds bytes (totals earlier) (waiting held)) (once : IsOneRead fed made) where
-    waited : length made ≡ 1 → WaitedBefore P (bytes ++ fed) (earlier ++ shifted (length bytes) made)
+  module _ (asked : HeaderSeen) (bytes fed held : List ℕ) (earlier made : List (ℕ × ℕ)) (waits : P.Finds asked bytes (totals earlier) (waiting held)) (once : IsOneRead fed made) where
+    waited : length made ≡ 1 → WaitedBefore P asked (bytes ++ fed) (earlier ++ shifted (length bytes) made)
     waited one = elim once [
       | inl none ↦ absurd (omega (arith, one, ap length none.1))
       | inr some ↦ record {
@@ -113,15 +113,15 @@ module _ {H : Type 0} (P : Protocol H) where
       }
     ]
 
-  came_last : (answer : Answer) (bytes fed held : List ℕ) (earlier made : List (ℕ × ℕ)) → P.Finds bytes (totals earlier) (waiting held) → IsOneRead fed made → TurnSpends (Some answer) (length made)
-      → CameLast P (bytes ++ fed) (earlier ++ shifted (length bytes) made) answer
-  came_last (Ok result) bytes fed held earlier made waits once spends = waited bytes fed held earlier made waits once spends.1
-  came_last (Err (protocol fault)) bytes fed held earlier made waits once spends = waited bytes fed held earlier made waits once spends.1
-  came_last (Err (Transport transport.BrokenPipe)) bytes fed held earlier made waits once spends = λ e. absurd cc
-  came_last (Err (Transport transport.BytesRemaining)) bytes fed held earlier made waits once spends = λ e. absurd cc
-  came_last (Err (Transport transport.ReadFault)) bytes fed held earlier made waits once spends = λ e. absurd cc
-  came_last (Err (Transport _)) bytes fed held earlier made waits once spends = λ e. waited bytes fed held earlier made waits once spends.1
-  came_last (Err NoMemory) bytes fed held earlier made waits once spends = tt
+  came_last : (asked : HeaderSeen) (answer : Answer) (bytes fed held : List ℕ) (earlier made : List (ℕ × ℕ)) → P.Finds asked bytes (totals earlier) (waiting held) → IsOneRead fed made → TurnSpends (Some answer) (length made)
+      → CameLast P asked (bytes ++ fed) (earlier ++ shifted (length bytes) made) answer
+  came_last asked (Ok result) bytes fed held earlier made waits once spends = waited asked bytes fed held earlier made waits once spends.1
+  came_last asked (Err (protocol fault)) bytes fed held earlier made waits once spends = waited asked bytes fed held earlier made waits once spends.1
+  came_last asked (Err (Transport transport.BrokenPipe)) bytes fed held earlier made waits once spends = λ e. absurd cc
+  came_last asked (Err (Transport transport.BytesRemaining)) bytes fed held earlier made waits once spends = λ e. absurd cc
+  came_last asked (Err (Transport transport.ReadFault)) bytes fed held earlier made waits once spends = λ e. absurd cc
+  came_last asked (Err (Transport _)) bytes fed held earlier made waits once spends = λ e. waited asked bytes fed held earlier made waits once spends.1
+  came_last asked (Err NoMemory) bytes fed held earlier made waits once spends = tt
 
   -- what a poll keeps from turn to turn, once the request is written
   pub record PollGoing (from to : Input) (sunk sinks : Output) (idle idle' : ℕ) (old call : CallState) : Type 0 where
@@ -142,6 +142,9 @@ module _ {H : Type 0} (P : Protocol H) where
     held_same : new.held ≡ old.held
     held_same = ap (λ (s : CallState). s.held) keeps
 
+    asked_same : new.asked ≡ old.asked
+    asked_same = ap (λ (s : CallState). s.asked) keeps
+
     was_some : new.unwritten ≢ [] → old.unwritten ≢ []
     was_some some e = some (none_left sends.sent new.unwritten (sym sends.splits ∙ e))
 
@@ -150,7 +153,7 @@ module _ {H : Type 0} (P : Protocol H) where
       stands = record {
         wrote = ap (λ (s : CallState). s.request) keeps ∙ s.stands.wrote ∙ ap (λ w. written ++ w) sends.splits ∙ sym (append_assoc written sends.sent new.unwritten);
         first = λ some. s.stands.first (was_some some);
-        finds = subst (λ held. P.Finds bytes (totals earlier) (waiting held)) (sym held_same) s.stands.finds;
+        finds = subst (λ asked. P.Finds asked bytes (totals earlier) (waiting new.held)) (sym asked_same) (subst (λ held. P.Finds old.asked bytes (totals earlier) (waiting held)) (sym held_same) s.stands.finds);
         counted = ap (λ (s : CallState). s.reads) keeps ∙ s.stands.counted;
       };
       empty = λ e. held_same ∙ s.empty e;
@@ -243,13 +246,15 @@ module _ {H : Type 0} (P : Protocol H) where
       goes_on = λ written bytes earlier start.
           let s : CallGoes P (written ++ g.sent) (bytes ++ g.fed) (earlier ++ shifted (length bytes) g.made) old = g.goes_on written bytes earlier start in
           let held : new.held ≡ old.held = ap (λ (s : CallState). s.held) r.keeps in
+          let asked : new.asked ≡ old.asked = ap (λ (s : CallState). s.asked) r.keeps in
           let unwritten : new.unwritten ≡ old.unwritten = ap (λ (s : CallState). s.unwritten) r.keeps in
           regroup (λ x y. CallGoes P (written ++ g.sent) x y new) bytes g.fed [] earlier g.made []
           (unread_on (λ x y. CallGoes P (written ++ g.sent) x y new) (bytes ++ g.fed) (earlier ++ shifted (length bytes) g.made) record {
             stands = record {
               wrote = ap (λ (s : CallState). s.request) r.keeps ∙ s.stands.wrote ∙ ap (λ w. (written ++ g.sent) ++ w) (sym unwritten);
               first = λ some. s.stands.first (λ e. some (unwritten ∙ e));
-              finds = subst (λ held. P.Finds (bytes ++ g.fed) (totals (earlier ++ shifted (length bytes) g.made)) (waiting held)) (sym held) s.stands.finds;
+              finds = subst (λ asked. P.Finds asked (bytes ++ g.fed) (totals (earlier ++ shifted (length bytes) g.made)) (waiting new.held)) (sym asked)
+                  (subst (λ held. P.Finds old.asked (bytes ++ g.fed) (totals (earlier ++ shifted (length bytes) g.made)) (waiting held)) (sym held) s.stands.finds);
               counted = ap (λ (s : CallState). s.reads) r.keeps ∙ s.stands.counted;
             };
             empty = λ e. held ∙ s.empty e;
@@ -342,7 +347,8 @@ module _ {H : Type 0} (P : Protocol H) where
             regroup (λ x y. CallEnds P (written ++ g.sent) x y new answer) bytes g.fed t.fed earlier g.made t.made record {
               writes = whole_written new.request (written ++ g.sent) answer all late;
               ends = turned (Some answer) t (written ++ g.sent) now made s;
-              last = came_last answer now t.fed old.held made t.made s.stands.finds t.once t.spends;
+              last = subst (λ asked. CameLast P asked (now ++ t.fed) (made ++ shifted (length now) t.made) answer) (sym t.same.asked)
+                  (came_last old.asked answer now t.fed old.held made t.made s.stands.finds t.once t.spends);
               rooms = have_rooms (Some answer) t (written ++ g.sent) now made s;
               spends = subst (λ n. Spends (call_spending answer) n new.turns) (sym (count (Some answer) t (written ++ g.sent) now made s))
                   (subst (λ n. Spends (call_spending answer) (length made + length t.made) n) (sym t.same.turns)
@@ -411,7 +417,7 @@ module _ {H : Type 0} (P : Protocol H) where
           ends =
               subst (λ (seen : HeaderSeen). CallEndsAs P seen (function_asked asked) all cuts new.held answer) (p.same.asked ∙ asks.under)
               (subst (λ (function : FunctionCode). CallEndsAs P new.asked function all cuts new.held answer) (p.same.function ∙ asks.function) ends.ends);
-          last = ends.last;
+          last = subst (λ (seen : HeaderSeen). CameLast P seen all (made ++ shifted (length bytes) p.made) answer) (p.same.asked ∙ asks.under) ends.last;
           ended = λ told. p.ended (passed.source.told ∙ told);
           spends = subst (λ n. Spends (call_spending answer) (length (made ++ shifted (length bytes) p.made)) n) (p.same.turns ∙ asks.limit) ends.spends;
           rooms = ends.rooms;

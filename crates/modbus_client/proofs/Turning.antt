@@ -38,8 +38,8 @@ same_call old new n e = record {
 
 module _ {H : Type 0} (P : Protocol H) where
   -- where nothing was fed the search waits as before
-  still : (bytes cuts held held' : List ℕ) → held' ≡ held → P.Finds bytes cuts (waiting held) → P.Finds (bytes ++ []) (cuts ++ []) (waiting held')
-  still bytes cuts held held' e finds = rw (append-nil bytes, append-nil cuts, e) finds
+  still : (asked asked' : HeaderSeen) (bytes cuts held held' : List ℕ) → asked' ≡ asked → held' ≡ held → P.Finds asked bytes cuts (waiting held) → P.Finds asked' (bytes ++ []) (cuts ++ []) (waiting held')
+  still asked asked' bytes cuts held held' is e finds = rw (append-nil bytes, append-nil cuts, is, e) finds
 
   -- an answer of the bytes ends the call
   pub answered_ends : (asked : HeaderSeen) (function : FunctionCode) (bytes cuts held : List ℕ) (answer : Answer) → IsAnswered P asked function bytes cuts held answer → CallEndsAs P asked function bytes cuts held answer
@@ -108,14 +108,14 @@ module _ {H : Type 0} (P : Protocol H) (a b : Input) (k m : Output) (old new : C
   pub turned_none : (n : ℕ) → b ≡ a → m ≡ k → new ≡ record old { free = n } → Turned P a b k m old new (Some (Err NoMemory))
   turned_none n same same' e =
       turned_so (Err NoMemory) n e (subst (λ i. Passes a i k m [] [] []) (sym same) (subst (λ o. Passes a a k o [] [] []) (sym same') (passes_none a k)))
-      tt (λ written bytes cuts s. inl (new.held, still P bytes cuts old.held new.held (ap (λ (s : CallState). s.held) e) s.finds)) (λ told. tt) (λ bad. cc)
+      tt (λ written bytes cuts s. inl (new.held, still P old.asked new.asked bytes cuts old.held new.held (ap (λ (s : CallState). s.asked) e) (ap (λ (s : CallState). s.held) e) s.finds)) (λ told. tt) (λ bad. cc)
 
   module _ (n : ℕ) (e : new ≡ record old { free = n }) (same : m ≡ k) (adv : Advances a b) where
     nothing : {E : Type 0} (before after : List ℕ) (result : Result ℕ E) → (IsTrue a.told → ReadIsTold a b before after result) → (IsTrue a.told → bytes_read a b ≡ []) → (IsTrue a.told → cuts_made a b ≡ []) → Passes a b k m [] [] []
     nothing before after result told none no_cut = passes_in a b k m [] [] same adv none no_cut refl
 
-    waits : (written bytes cuts : List ℕ) → CallStands P written bytes cuts old → P.Finds (bytes ++ []) (cuts ++ []) (waiting new.held)
-    waits written bytes cuts s = still P bytes cuts old.held new.held (ap (λ (s : CallState). s.held) e) s.finds
+    waits : (written bytes cuts : List ℕ) → CallStands P written bytes cuts old → P.Finds new.asked (bytes ++ []) (cuts ++ []) (waiting new.held)
+    waits written bytes cuts s = still P old.asked new.asked bytes cuts old.held new.held (ap (λ (s : CallState). s.asked) e) (ap (λ (s : CallState). s.held) e) s.finds
 
     -- the read failed
     pub turned_fault : {E : Type 0} (f : E) (before after : List ℕ) → (IsTrue a.told → ReadIsTold {E = E} a b before after (Err f)) → Rose a.faults b.faults

@@ -70,7 +70,7 @@ opened_with buffer (Err error) = Err error
 pub record CallStands {H : Type 0} (P : Protocol H) (written bytes cuts : List ℕ) (call : CallState) : Type 0 where
   pub wrote : call.request ≡ written ++ call.unwritten
   pub first : call.unwritten ≢ [] → bytes ≡ []
-  pub finds : P.Finds bytes cuts (waiting call.held)
+  pub finds : P.Finds call.asked bytes cuts (waiting call.held)
   pub counted : call.reads ≡ length cuts
 
 -- a call that asks this under this header
@@ -98,17 +98,17 @@ pub record OpensCall {H : Type 0} (P : Protocol H) (header : H) (asked : Asked) 
   pub cause : IfErr result (λ refusal. Refuses refusal (request_pdu asked))
 
 -- memory was refused for a message: the search found it in these bytes
-abbrev pub WantsFor : {H : Type 0} → Protocol H → List ℕ → List ℕ → Type 0
-WantsFor P bytes cuts = (rest : List ℕ) × (header : HeaderSeen) × (pdu : List ℕ) × P.Finds bytes cuts (reply rest header pdu)
+abbrev pub WantsFor : {H : Type 0} → Protocol H → HeaderSeen → List ℕ → List ℕ → Type 0
+WantsFor P asked bytes cuts = (rest : List ℕ) × (header : HeaderSeen) × (pdu : List ℕ) × P.Finds asked bytes cuts (reply rest header pdu)
 
 -- one look at the bytes that are held after some were fed, by all bytes that were fed and their cuts
-abbrev pub LooksAs : {H : Type 0} → Protocol H → List ℕ → List ℕ → List ℕ → Result (Option Reply) LookError → Type 0
-LooksAs P bytes cuts held (Ok None) = P.Finds bytes cuts (waiting held)
-LooksAs P bytes cuts held (Ok (Some found)) = (pdu : List ℕ) × P.Finds bytes cuts (reply held found.header pdu) × (response_result_of pdu ≡ Ok found.result)
-LooksAs P bytes cuts held (Err (look.Broken fault)) = P.Finds bytes cuts (broken held fault)
-LooksAs P bytes cuts held (Err (look.Refused reason)) =
-    (header : HeaderSeen) × (pdu : List ℕ) × P.Finds bytes cuts (reply held header pdu) × (response_result_of pdu ≡ Err reason)
-LooksAs P bytes cuts held (Err look.NoMemory) = WantsFor P bytes cuts
+abbrev pub LooksAs : {H : Type 0} → Protocol H → HeaderSeen → List ℕ → List ℕ → List ℕ → Result (Option Reply) LookError → Type 0
+LooksAs P asked bytes cuts held (Ok None) = P.Finds asked bytes cuts (waiting held)
+LooksAs P asked bytes cuts held (Ok (Some found)) = (pdu : List ℕ) × P.Finds asked bytes cuts (reply held found.header pdu) × (response_result_of pdu ≡ Ok found.result)
+LooksAs P asked bytes cuts held (Err (look.Broken fault)) = P.Finds asked bytes cuts (broken held fault)
+LooksAs P asked bytes cuts held (Err (look.Refused reason)) =
+    (header : HeaderSeen) × (pdu : List ℕ) × P.Finds asked bytes cuts (reply held header pdu) × (response_result_of pdu ≡ Err reason)
+LooksAs P asked bytes cuts held (Err look.NoMemory) = WantsFor P asked bytes cuts
 
 -- a fault is one of those that are left to protocols
 abbrev pub IsOwn : {X : Type 0} → Result X LookError → Type 0
@@ -118,7 +118,7 @@ IsOwn _ = Unit {0}
 -- the message that the search found has a result, which is judged so
 abbrev pub IsJudged : {H : Type 0} → Protocol H → HeaderSeen → FunctionCode → List ℕ → List ℕ → List ℕ → Answer → Type 0
 IsJudged P asked function bytes cuts held answer =
-    (header : HeaderSeen) × (pdu : List ℕ) × (result : Result Response ExceptionResponse) × P.Finds bytes cuts (reply held header pdu)
+    (header : HeaderSeen) × (pdu : List ℕ) × (result : Result Response ExceptionResponse) × P.Finds asked bytes cuts (reply held header pdu)
     × (response_result_of pdu ≡ Ok result) × Judges asked function header result answer
 
 -- the answers that the bytes give, by all that were fed and their cuts, and by what is then held
@@ -126,9 +126,9 @@ abbrev pub IsAnswered : {H : Type 0} → Protocol H → HeaderSeen → FunctionC
 IsAnswered P asked function bytes cuts held (Ok result) = IsJudged P asked function bytes cuts held (Ok result)
 IsAnswered P asked function bytes cuts held (Err (error.Protocol fault)) = IsJudged P asked function bytes cuts held (Err (error.Protocol fault))
 IsAnswered P asked function bytes cuts held (Err (error.Transport (transport.InvalidResponse reason))) =
-    (header : HeaderSeen) × (pdu : List ℕ) × P.Finds bytes cuts (reply held header pdu) × (response_result_of pdu ≡ Err reason)
-IsAnswered P asked function bytes cuts held (Err (error.Transport fault)) = IsOfProtocol fault × P.Finds bytes cuts (broken held fault)
-IsAnswered P asked function bytes cuts held (Err error.NoMemory) = WantsFor P bytes cuts
+    (header : HeaderSeen) × (pdu : List ℕ) × P.Finds asked bytes cuts (reply held header pdu) × (response_result_of pdu ≡ Err reason)
+IsAnswered P asked function bytes cuts held (Err (error.Transport fault)) = IsOfProtocol fault × P.Finds asked bytes cuts (broken held fault)
+IsAnswered P asked function bytes cuts held (Err error.NoMemory) = WantsFor P asked bytes cuts
 
 -- the answers that the bytes may give, and not the link or the limits of the call
 abbrev pub IsOfBytes : Answer → Type 0

@@ -29,8 +29,8 @@ abbrev pub HasRoom : List ℕ → ℕ → Type 0
 HasRoom bytes room = room ≡ read_room
 
 -- the search waits in these bytes
-abbrev pub IsWaiting : {H : Type 0} → Protocol H → List ℕ → List ℕ → Type 0
-IsWaiting P bytes cuts = (kept : List ℕ) × P.Finds bytes cuts (waiting kept)
+abbrev pub IsWaiting : {H : Type 0} → Protocol H → HeaderSeen → List ℕ → List ℕ → Type 0
+IsWaiting P asked bytes cuts = (kept : List ℕ) × P.Finds asked bytes cuts (waiting kept)
 
 -- How a connected call ended, by all bytes that it read and their cuts, and by what is then held. An answer of the bytes is that of the
 -- search in them; where the input ended, a read failed or the last turn was made, the search waits. Memory is wanting where the search
@@ -40,11 +40,11 @@ abbrev pub CallEndsAs : {H : Type 0} → Protocol H → HeaderSeen → FunctionC
 CallEndsAs P asked function bytes cuts held (Err (Transport transport.NotConnected)) = ⊥
 CallEndsAs P asked function bytes cuts held (Err (Transport (transport.RequestTooLong size))) = (bytes ≡ []) × (held ≡ [])
 CallEndsAs P asked function bytes cuts held (Err (Transport transport.WriteFault)) = (bytes ≡ []) × (held ≡ [])
-CallEndsAs P asked function bytes cuts held (Err (Transport transport.ReadFault)) = P.Finds bytes cuts (waiting held)
-CallEndsAs P asked function bytes cuts held (Err (Transport transport.TurnLimit)) = P.Finds bytes cuts (waiting held)
-CallEndsAs P asked function bytes cuts held (Err (Transport transport.BrokenPipe)) = P.Finds bytes cuts (waiting held) × (held ≡ [])
-CallEndsAs P asked function bytes cuts held (Err (Transport transport.BytesRemaining)) = P.Finds bytes cuts (waiting held) × (held ≢ [])
-CallEndsAs P asked function bytes cuts held (Err NoMemory) = IsWaiting P bytes cuts ⊎ WantsFor P bytes cuts
+CallEndsAs P asked function bytes cuts held (Err (Transport transport.ReadFault)) = P.Finds asked bytes cuts (waiting held)
+CallEndsAs P asked function bytes cuts held (Err (Transport transport.TurnLimit)) = P.Finds asked bytes cuts (waiting held)
+CallEndsAs P asked function bytes cuts held (Err (Transport transport.BrokenPipe)) = P.Finds asked bytes cuts (waiting held) × (held ≡ [])
+CallEndsAs P asked function bytes cuts held (Err (Transport transport.BytesRemaining)) = P.Finds asked bytes cuts (waiting held) × (held ≢ [])
+CallEndsAs P asked function bytes cuts held (Err NoMemory) = IsWaiting P asked bytes cuts ⊎ WantsFor P asked bytes cuts
 CallEndsAs P asked function bytes cuts held answer = IsAnswered P asked function bytes cuts held answer
 
 -- a call ends with the input
@@ -111,20 +111,20 @@ pub record Turned {H : Type 0} (P : Protocol H) (from to : Input) (sunk sinks : 
   pub read_fault : answer ≡ Some (Err (Transport transport.ReadFault)) → Rose from.faults to.faults
 
 -- These bytes came in one read after those in which the search waited.
-pub record WaitedBefore {H : Type 0} (P : Protocol H) (bytes : List ℕ) (made : List (ℕ × ℕ)) : Type 0 where
+pub record WaitedBefore {H : Type 0} (P : Protocol H) (asked : HeaderSeen) (bytes : List ℕ) (made : List (ℕ × ℕ)) : Type 0 where
   pub before : List ℕ
   pub piece : List ℕ
   pub earlier : List (ℕ × ℕ)
   pub kept : List ℕ
   pub joined : bytes ≡ before ++ piece
   pub last : made ≡ earlier ++ (length bytes, read_room) ∷ []
-  pub waits : P.Finds before (totals earlier) (waiting kept)
+  pub waits : P.Finds asked before (totals earlier) (waiting kept)
 
 -- An answer of the bytes came with the last read: no read was made after the one that brought it.
-abbrev pub CameLast : {H : Type 0} → Protocol H → List ℕ → List (ℕ × ℕ) → Answer → Type 0
-CameLast P bytes made (Err NoMemory) = Unit {0}
-CameLast P bytes made (Err (Transport fault)) = transport_stage fault ≡ of_bytes → WaitedBefore P bytes made
-CameLast P bytes made answer = WaitedBefore P bytes made
+abbrev pub CameLast : {H : Type 0} → Protocol H → HeaderSeen → List ℕ → List (ℕ × ℕ) → Answer → Type 0
+CameLast P asked bytes made (Err NoMemory) = Unit {0}
+CameLast P asked bytes made (Err (Transport fault)) = transport_stage fault ≡ of_bytes → WaitedBefore P asked bytes made
+CameLast P asked bytes made answer = WaitedBefore P asked bytes made
 
 -- an answer that comes only after the whole request was written
 abbrev pub IsOfReply : Answer → Type 0
@@ -143,7 +143,7 @@ pub record Exchanged {H : Type 0} (P : Protocol H) (from to : Input) (sunk sinks
   pub too_long : (size : ℕ) → (answer ≡ Err (Transport (transport.RequestTooLong size))) ↔ ((max_pdu < length (request_pdu asked)) × (size ≡ told_size (request_pdu asked)))
   pub writes : WritesRequest (P.adu header (request_pdu asked)) sent answer
   pub ends : CallEndsAs P (P.seen header) (function_asked asked) fed (totals made) held answer
-  pub last : CameLast P fed made answer
+  pub last : CameLast P (P.seen header) fed made answer
   pub ended : IsTrue from.told → CallEndsRead answer to.left
   pub spends : Spends (call_spending answer) (length made) turns
   pub rooms : HaveRooms HasRoom fed 0 made

@@ -19,8 +19,9 @@ pub record Protocol (Header : Type 0) : Type 1 where
   pub seen : Header → HeaderSeen
   -- the bytes of a message
   pub adu : Header → List ℕ → List ℕ
-  -- of bytes, cuts and a search: so it stands in these bytes, which were read with these cuts
-  pub Finds : List ℕ → List ℕ → Found → Type 0
+  -- of what is compared of the request's header, of bytes, cuts and a search: so it stands in these bytes, which were read with these
+  -- cuts
+  pub Finds : HeaderSeen → List ℕ → List ℕ → Found → Type 0
   -- of a header and a PDU: the first bytes of this message tell where it ends
   pub IsWhole : Header → List ℕ → Type 0
 

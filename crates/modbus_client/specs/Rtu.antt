@@ -47,7 +47,7 @@ abbrev pub rtu_protocol : Protocol Header
 rtu_protocol = record {
   seen = λ header. slave_seen header.slave_id;
   adu = λ header pdu. frame header.slave_id pdu;
-  Finds = FindsFrame;
+  Finds = λ asked. FindsFrame;
   IsWhole = λ header pdu. HasResponseHead (header.slave_id, pdu);
 }
 

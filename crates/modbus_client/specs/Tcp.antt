@@ -1,10 +1,10 @@
 -- ADUs with an MBAP header as a client sees them (MODBUS Messaging on TCP/IP V1.0b, section 3.1).
-use Rattle.std.specs.Prelude.{◌≡◌, ◌⊎◌, ℕ, ◌+◌, ◌%◌, ◌^◌, List, drop, Some}
+use Rattle.std.specs.Prelude.{◌≡◌, ◌≢◌, ◌⊎◌, ℕ, ◌+◌, ◌%◌, ◌^◌, ◌<◌, ◌≤◌, List, ◌++◌, length, drop, All, Option, Some, None}
 use Rattle.modbus_frame.specs.declared.tcp.Header.{Header}
 use Rattle.modbus_frame.specs.declared.fault.HeaderSeen.{HeaderSeen}
 use Rattle.modbus_frame.specs.declared.fault.TransportError.{TransportError}
 use Rattle.modbus_frame.specs.declared.fault.TransportError.TheVariants.{InvalidLength, InvalidProtocol}
-use Rattle.modbus_tcp.specs.Adu.{adu_of, IsAdu}
+use Rattle.modbus_tcp.specs.Adu.{adu_of, IsAdu, stream_of}
 use Rattle.modbus_tcp.specs.Stream.{IsRest, empty, unfinished, no_length, foreign, BeginsWith}
 use Rattle.modbus_client.specs.Protocol.{Protocol, Heading, Found, waiting, reply, broken}
 
@@ -29,7 +29,7 @@ abbrev pub tcp_protocol : Protocol Header
 tcp_protocol = record {
   seen = header_seen;
   adu = adu_of;
-  Finds = FindsAdu;
+  Finds = λ asked. FindsAdu;
   IsWhole = λ header pdu. IsAdu (header, pdu);
 }
 
@@ -39,4 +39,45 @@ tcp_heading = record {
   first = 0;
   header = λ next slave. record { transaction_id = next; unit_id = slave };
   next = λ next. (next + 1) % 2 ^ 16;
+}
+
+-- an ADU of another transaction, or of another unit, than was asked (section 4.4.1.3)
+abbrev pub IsOfAnother : HeaderSeen → Header × List ℕ → Type 0
+IsOfAnother asked message = header_seen message.0 ≢ asked
+
+-- The bytes are these ADUs, one after another, each of another transaction or unit than was asked, and what is left.
+pub record Drops (asked : HeaderSeen) (bytes : List ℕ) (adus : List (Header × List ℕ)) (left : List ℕ) : Type 0 where
+  pub joined : bytes ≡ stream_of adus ++ left
+  pub whole : All IsAdu adus
+  pub others : All (IsOfAnother asked) adus
+
+-- Where the bytes begin with a whole ADU of another transaction or unit than was asked, it ends there. None where they begin with no such
+-- ADU: if they begin with an ADU, it is of the transaction and the unit that were asked.
+abbrev pub EndsOfAnother : HeaderSeen → List ℕ → Option ℕ → Type 0
+EndsOfAnother asked bytes (Some end) =
+    (0 < end) × (end ≤ length bytes) × (message : Header × List ℕ) × BeginsWith bytes message (drop end bytes) × IsOfAnother asked message
+EndsOfAnother asked bytes None = (message : Header × List ℕ) (others : List ℕ) → BeginsWith bytes message others → header_seen message.0 ≡ asked
+
+-- a message that is found is of the transaction and the unit that were asked
+abbrev pub IsUnder : HeaderSeen → Found → Type 0
+IsUnder asked (reply held seen pdu) = seen ≡ asked
+IsUnder asked _ = Unit {0}
+
+-- The ADUs at the front that are of another transaction or unit than was asked are dropped. What is left begins with one of this
+-- transaction and unit, which is the reply, and those behind it are held; or it is nothing or a front of an ADU, which is held; or a
+-- header in it tells no ADU of Modbus.
+pub record FindsOwnAdu (asked : HeaderSeen) (bytes cuts : List ℕ) (found : Found) : Type 0 where
+  pub dropped : List (Header × List ℕ)
+  pub left : List ℕ
+  pub drops : Drops asked bytes dropped left
+  pub finds : FindsAdu left cuts found
+  pub own : IsUnder asked found
+
+-- the same ADUs and headers, and the reply is the first ADU of the transaction and the unit that were asked
+abbrev pub matching_protocol : Protocol Header
+matching_protocol = record {
+  seen = header_seen;
+  adu = adu_of;
+  Finds = FindsOwnAdu;
+  IsWhole = λ header pdu. IsAdu (header, pdu);
 }

@@ -134,7 +134,7 @@ impl<P: Protocol> Call<P> {
         P::laws();
         held.extend_reserved(piece);
         self.reads += 1;
-        match self.protocol.look(alloc, held) {
+        match self.protocol.look(alloc, self.asked, held) {
             Ok(None) => None,
             Ok(Some(reply)) => Some(judge(self.asked, self.function, reply)),
             Err(LookError::Broken(fault)) => Some(Err(Error::Transport(fault))),

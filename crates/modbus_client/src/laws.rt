@@ -1,8 +1,14 @@
 //! Laws on the calls of clients, about definitions alone. Each is proved by its contract.
-ghost use Rattle.std.specs.Prelude.{◌≡◌, ℕ, ◌+◌, ◌≤◌, List, [], ◌++◌, length, take, drop};
+ghost use Rattle.std.specs.Prelude.{◌≡◌, ◌≢◌, ℕ, ◌+◌, ◌≤◌, List, [], ◌++◌, length, take, drop, Result, Err};
 ghost use Rattle.modbus_link.specs.Outside.{Input, Output, Rose};
 ghost use Rattle.modbus_link.specs.Reads.{totals};
 ghost use Rattle.modbus_frame.specs.Meaning.{Asked, function_asked};
+ghost use Rattle.modbus_frame.specs.declared.tcp.Header.{Header};
+ghost use Rattle.modbus_frame.specs.declared.response.Response.{Response};
+ghost use Rattle.modbus_frame.specs.declared.response.ExceptionResponse.{ExceptionResponse};
+ghost use Rattle.modbus_frame.specs.declared.fault.HeaderSeen.{HeaderSeen};
+ghost use Rattle.modbus_frame.specs.declared.fault.Error.TheVariants as error;
+ghost use Rattle.modbus_frame.specs.declared.fault.ProtocolError.TheVariants.{HeaderMismatch};
 ghost use Rattle.modbus_pdu.specs.Coding.{Fits};
 ghost use Rattle.modbus_pdu.specs.Laws.{ReadsBack};
 ghost use Rattle.modbus_pdu.specs.RequestPdu.{request_pdu};
@@ -13,6 +19,7 @@ ghost use Rattle.modbus_client.specs.Call.{CallState, CallStands};
 ghost use Rattle.modbus_client.specs.Calling.{Exchanged};
 ghost use Rattle.modbus_client.specs.Polled.{AnswersAlone};
 ghost use Rattle.modbus_client.specs.Exactly.{IsToldOf, TellsWaiting};
+ghost use Rattle.modbus_client.specs.Tcp.{matching_protocol};
 ghost use Rattle.modbus_client.specs.Exchange.{ExchangesLocally};
 ghost use Rattle.modbus_client.specs.Back.{ComesBack};
 
@@ -28,10 +35,12 @@ pub fn one_search()
 /// ran out or how the input ended.
 pub fn searches_are_told<P: Protocol>()
     ensures found { (from to : Input) (sunk sinks : Output) (header : P.Header) (asked : Asked) (turns : ℕ) (held : List ℕ) (answer : Answer)
-        (r : Exchanged P.protocol from to sunk sinks header asked turns held answer) (found : Found) → P.protocol.Finds r.fed (totals r.made) found
+        (r : Exchanged P.protocol from to sunk sinks header asked turns held answer) (found : Found)
+        → P.protocol.Finds (P.protocol.seen header) r.fed (totals r.made) found
         → IsToldOf (P.protocol.seen header) (function_asked asked) found answer }
     ensures waiting { (from to : Input) (sunk sinks : Output) (header : P.Header) (asked : Asked) (turns : ℕ) (held kept : List ℕ) (answer : Answer)
-        (r : Exchanged P.protocol from to sunk sinks header asked turns held answer) → P.protocol.Finds r.fed (totals r.made) (waiting kept)
+        (r : Exchanged P.protocol from to sunk sinks header asked turns held answer)
+        → P.protocol.Finds (P.protocol.seen header) r.fed (totals r.made) (waiting kept)
         → Fits (request_pdu asked) → (Rose from.faults to.faults → ⊥) → (Rose sunk.faults sinks.faults → ⊥)
         → TellsWaiting kept (length r.made) turns to.left answer }
 {
@@ -45,6 +54,16 @@ pub fn messages_alone_are_answered<P: Protocol>()
 {
     P::laws();
 }
+
+/// A client that drops the responses of other transactions and units never tells that headers differ: what it answers of a message is of
+/// the transaction and the unit of its request.
+pub fn matching_answers_are_own()
+    ensures { (from to : Input) (sunk sinks : Output) (header : Header) (asked : Asked)
+        (turns : ℕ) (held : List ℕ) (answer : Answer)
+        → Exchanged matching_protocol from to sunk sinks header asked turns held answer
+        → (request response : HeaderSeen) (received : Result Response ExceptionResponse)
+        → answer ≢ Err (error.Protocol (HeaderMismatch request response received)) }
+{}
 
 /// What a call stands for goes on with each write, and stays where its room is made.
 pub fn calls_go_on<P: Protocol>()

@@ -20,6 +20,7 @@ mod protocol;
 mod reader;
 pub mod rtu;
 pub mod tcp;
+mod transactions;
 mod typed;
 mod writer;
 

@@ -1,5 +1,5 @@
 //! One call over a link that may not be ready, which goes on where it stopped.
-ghost use Rattle.std.specs.Prelude.{◌≡◌, IsTrue};
+ghost use Rattle.std.specs.Prelude.{◌≡◌, length, IsTrue};
 ghost use Rattle.modbus_link.specs.Polled.{is_pending};
 ghost use Rattle.modbus_frame.specs.Meaning.{meaning};
 ghost use Rattle.modbus_client.specs.Polled.{CallPolled, AsksWhole, OpensPolled};
@@ -37,7 +37,7 @@ impl<P: Protocol> PolledCall<P> {
     ///
     /// # Errors
     /// Those of a call that is opened.
-    pub(crate) fn open(
+    pub fn open(
         alloc: Global,
         header: P::Header,
         request: &Request<'_>,
@@ -62,6 +62,13 @@ impl<P: Protocol> PolledCall<P> {
         ensures { result ≡ self.now.is_open }
     {
         self.is_open
+    }
+
+    /// How many bytes are held that were read and not used.
+    pub fn held(&self) -> usize
+        ensures { result ≡ length self.now.call.held }
+    {
+        self.held.len()
     }
 
     /// Writes the request and waits for the reply, as far as the link is ready. It reads only once the request is written whole, and each

@@ -76,20 +76,33 @@ pub trait Protocol: Drop {
     ) -> Result<(), EncodeError>
         ensures { Encodes (protocol.adu header (request_pdu (meaning request.now))) (request_pdu (meaning request.now)) buf.old.items result buf.new.items };
 
-    /// Looks for the next message in the held bytes, after some were appended. `None` where there is none yet.
+    /// Looks for the reply in the held bytes, after some were appended. `asked` is what is compared of the request's header, for a
+    /// protocol that drops the messages of another one. `None` where there is none yet.
     ///
     /// # Errors
     /// Those of `LookError`.
-    fn look(&mut self, alloc: Global, held: &mut BytesMut) -> Result<Option<Reply>, LookError>
+    fn look(
+        &mut self,
+        alloc: Global,
+        asked: HeaderSeen,
+        held: &mut BytesMut,
+    ) -> Result<Option<Reply>, LookError>
         ensures own { IsOwn result }
-        ensures looks { (bytes cuts earlier more : List ℕ) → protocol.Finds bytes cuts (waiting earlier) → held.old.items ≡ earlier ++ more → 0 < length more
-            → LooksAs protocol (bytes ++ more) (cuts ++ length (bytes ++ more) ∷ []) held.new.items result };
+        ensures looks { (bytes cuts earlier more : List ℕ)
+            → protocol.Finds asked bytes cuts (waiting earlier)
+            → held.old.items ≡ earlier ++ more → 0 < length more
+            → LooksAs protocol asked (bytes ++ more) (cuts ++ length (bytes ++ more) ∷ [])
+            held.new.items result };
 
-    /// What holds of every search: with no byte it waits; in given bytes with given cuts it stands in one way; and a message alone is
-    /// found in whatever pieces it comes. It has no code.
+    /// What holds of every search, whatever was asked: with no byte it waits; and in given bytes with given cuts it stands in one way. A
+    /// message alone under the header that was asked is found in whatever pieces it comes. It has no code.
     fn laws()
-        ensures opening { protocol.Finds [] [] (waiting []) }
-        ensures one_way { (bytes cuts : List ℕ) (found other : Found) → protocol.Finds bytes cuts found → protocol.Finds bytes cuts other → found ≡ other }
-        ensures alone { (header : Self.Header) (pdu bytes rest cuts : List ℕ) (found : Found) → protocol.IsWhole header pdu → protocol.adu header pdu ≡ bytes ++ rest
-            → protocol.Finds bytes cuts found → IsOfMessage (protocol.seen header) pdu rest found };
+        ensures opening { (asked : HeaderSeen) → protocol.Finds asked [] [] (waiting []) }
+        ensures one_way { (asked : HeaderSeen) (bytes cuts : List ℕ) (found other : Found)
+            → protocol.Finds asked bytes cuts found → protocol.Finds asked bytes cuts other
+            → found ≡ other }
+        ensures alone { (header : Self.Header) (pdu bytes rest cuts : List ℕ) (found : Found)
+            → protocol.IsWhole header pdu → protocol.adu header pdu ≡ bytes ++ rest
+            → protocol.Finds (protocol.seen header) bytes cuts found
+            → IsOfMessage (protocol.seen header) pdu rest found };
 }

@@ -60,6 +60,7 @@ impl Protocol for Frames {
     fn look(
         &mut self,
         alloc: Global,
+        _asked: HeaderSeen,
         held: &mut BytesMut,
     ) -> std::result::Result<Option<Reply>, LookError> {
         modbus_rtu::laws::responses_by_front();

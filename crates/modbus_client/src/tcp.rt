@@ -1,6 +1,8 @@
 //! Clients of TCP devices (MODBUS Messaging on TCP/IP V1.0b, section 3.1).
 ghost use Rattle.std.specs.Prelude.{◌≡◌, ℕ, ◌<◌, ◌++◌, ◌∷◌, List, [], length};
 ghost use Rattle.modbus_frame.specs.Meaning.{meaning};
+ghost use Rattle.modbus_frame.specs.declared.fault.HeaderSeen.{HeaderSeen};
+ghost use Rattle.modbus_client.specs.Call.{LooksAs, IsOwn};
 ghost use Rattle.modbus_client.specs.Tcp.{tcp_protocol, tcp_heading};
 ghost use Rattle.modbus_client.specs.State.{attached};
 ghost use Rattle.modbus_client.specs.Polled.{OpensPolled};
@@ -9,6 +11,9 @@ ghost use Rattle.modbus_client.specs.Connecting.{Connects, connector_of};
 
 use crate::link_client::LinkClient;
 use crate::protocol::{LookError, Protocol, Reply};
+pub use crate::transactions::{
+    MatchingCall, MatchingClient, OwnAdus, attach_matching, connect_matching,
+};
 use bytes::BytesMut;
 use modbus_frame::tcp::Header;
 use modbus_frame::{ConnectFault, EncodeError, Error, HeaderSeen, Request, Slave, TransportError};
@@ -22,6 +27,36 @@ use std::time::Duration;
 #[derive(Drop)]
 pub struct Adus {
     codec: ClientCodec,
+}
+
+impl Adus {
+    /// Takes off the ADU at the front of the held bytes. `None` where it is not whole.
+    ///
+    /// # Errors
+    /// `Broken` for a header that tells no ADU of Modbus, `Refused` where the PDU is no response, `NoMemory` where memory is refused.
+    pub(crate) fn take_adu(
+        &mut self,
+        alloc: Global,
+        held: &mut BytesMut,
+    ) -> std::result::Result<Option<Reply>, LookError>
+        ensures own { IsOwn result }
+        ensures looks { (asked : HeaderSeen) (cuts : List ℕ)
+            → LooksAs tcp_protocol asked held.old.items cuts held.new.items result }
+    {
+        match self.codec.decode(alloc, held) {
+            Ok(None) => Ok(None),
+            Ok(Some(adu)) => Ok(Some(Reply {
+                header: Self::seen(adu.hdr),
+                result: adu.pdu.0,
+            })),
+            Err(TcpError::InvalidLength) => Err(LookError::Broken(TransportError::InvalidLength)),
+            Err(TcpError::InvalidProtocol(protocol)) => {
+                Err(LookError::Broken(TransportError::InvalidProtocol(protocol)))
+            }
+            Err(TcpError::Invalid(reason)) => Err(LookError::Refused(reason)),
+            Err(TcpError::NoMemory) => Err(LookError::NoMemory),
+        }
+    }
 }
 
 impl Protocol for Adus {
@@ -69,21 +104,10 @@ impl Protocol for Adus {
     fn look(
         &mut self,
         alloc: Global,
+        _asked: HeaderSeen,
         held: &mut BytesMut,
     ) -> std::result::Result<Option<Reply>, LookError> {
-        match self.codec.decode(alloc, held) {
-            Ok(None) => Ok(None),
-            Ok(Some(adu)) => Ok(Some(Reply {
-                header: Self::seen(adu.hdr),
-                result: adu.pdu.0,
-            })),
-            Err(TcpError::InvalidLength) => Err(LookError::Broken(TransportError::InvalidLength)),
-            Err(TcpError::InvalidProtocol(protocol)) => {
-                Err(LookError::Broken(TransportError::InvalidProtocol(protocol)))
-            }
-            Err(TcpError::Invalid(reason)) => Err(LookError::Refused(reason)),
-            Err(TcpError::NoMemory) => Err(LookError::NoMemory),
-        }
+        self.take_adu(alloc, held)
     }
 
     fn laws() {

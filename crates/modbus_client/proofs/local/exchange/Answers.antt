@@ -5,6 +5,7 @@ use Rattle.modbus_rtu.specs.Frame.{frame}
 use Rattle.modbus_server.specs.Rtu.{rtu}
 use Rattle.modbus_server.specs.Piece.{ServedPiece}
 use Rattle.modbus_client.specs.Exchange.{ExchangesLocally}
+use Rattle.modbus_client.specs.Rtu.{slave_seen}
 use Rattle.modbus_client.proofs.Exchanged.{exchange_unserved}
 use Rattle.modbus_client.proofs.FrameAlone.{length-frame}
 use Rattle.modbus_client.proofs.local.exchange.Goals as goal
@@ -22,7 +23,7 @@ serve_piece-served-requires-clause-fits g c =
 pub returns-then-lacked_memory-clause-exchanges : goal.returns-then-lacked_memory-clause-exchanges
 returns-then-lacked_memory-clause-exchanges g c =
     let is : c.to_write.result.now ≡ frame c.args.slave.0 (request_pdu (meaning c.args.request)) = c.to_write.ensures ∙ sym c.in-Ok.ensures.opens.stands.wrote ∙ c.in-Ok.ensures.opens.asks.request in
-    exchange_unserved g.V.Answerer.answering c.args.slave.0 (meaning c.args.request) c.args.service.now c.serve_piece-served.new.service c.in-Ok.ensures.opens.fits c.laws.ensures.opening c.new-replies.result.items c.serve_piece-served.new.replies.items c.serve_piece-served.result
+    exchange_unserved g.V.Answerer.answering c.args.slave.0 (meaning c.args.request) c.args.service.now c.serve_piece-served.new.service c.in-Ok.ensures.opens.fits (c.laws.ensures.opening (slave_seen c.args.slave.0)) c.new-replies.result.items c.serve_piece-served.new.replies.items c.serve_piece-served.result
     (subst (λ p. ServedPiece rtu g.V.Answerer.answering p c.args.service.now c.serve_piece-served.new.service c.new-replies.result.items c.serve_piece-served.new.replies.items c.serve_piece-served.result) is c.serve_piece-served.ensures.served)
     (c.lacked_memory.ensures.0 c.if-lacked_memory.true)
 

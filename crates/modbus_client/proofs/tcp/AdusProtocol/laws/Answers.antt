@@ -2,7 +2,7 @@ use Rattle.modbus_client.proofs.OneAdu.{one_adu, adu_alone}
 use Rattle.modbus_client.proofs.tcp.AdusProtocol.laws.Goals as goal
 
 pub returns-clause-one_way : goal.returns-clause-one_way
-returns-clause-one_way c = one_adu c.one_front.ensures.adu c.one_front.ensures.rest c.one_front.ensures.apart
+returns-clause-one_way c = λ asked. one_adu c.one_front.ensures.adu c.one_front.ensures.rest c.one_front.ensures.apart
 
 pub returns-clause-alone : goal.returns-clause-alone
 returns-clause-alone c = λ header pdu bytes rest cuts found whole joined finds.
