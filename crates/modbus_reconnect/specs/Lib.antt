@@ -5,3 +5,8 @@ pub mod State
 pub mod Standing
 pub mod Trying
 pub mod Calling
+pub mod Settling
+pub mod Silences
+pub mod SettlingState
+pub mod Waiting
+pub mod OnLine

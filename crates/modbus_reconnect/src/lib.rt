@@ -1,8 +1,8 @@
-//! A Modbus client over a connector that is never one reply behind.
+//! Modbus clients that are never one reply behind.
 //!
-//! After an answer that leaves a reply owed on the link, as a time-out does, the link is shut down, and the next call makes a new one: so
-//! no answer is taken from the bytes of an earlier request. The client is a `Client`, so it has the typed calls of `Reader` and `Writer`,
-//! and goes into a `Context`.
+//! After an answer that leaves a reply owed on its link, as a time-out does, a client over a connector shuts the link down, and its next
+//! call makes a new one. A client of a line, as a serial line, lets it fall silent before its next request. So no answer is taken from the
+//! bytes of an earlier request. Each is a `Client`, so it has the typed calls of `Reader` and `Writer`, and goes into a `Context`.
 #![tactic(auto)]
 
 mod client;
@@ -12,13 +12,22 @@ mod owing;
 mod reply;
 mod request;
 mod resend;
+mod settling;
+mod settling_client;
+mod silences;
+mod waiting;
 
 pub use crate::client::ReconnectingClient;
 pub use crate::resend::Resend;
+pub use crate::settling::{Unsettled, settle};
+pub use crate::settling_client::SettlingClient;
 use modbus_client::{rtu, tcp};
 
-/// A client of a TCP device, which connects anew where its link is in doubt.
-pub type TcpClient<C> = ReconnectingClient<tcp::Adus, C>;
+/// A client of a TCP device, which drops the responses of other transactions and units, and connects anew where its link is in doubt.
+pub type TcpClient<C> = ReconnectingClient<tcp::OwnAdus, C>;
 
 /// A client of the slaves behind a TCP connection that carries RTU frames, which connects anew where its link is in doubt.
 pub type RtuOverTcpClient<C> = ReconnectingClient<rtu::Frames, C>;
+
+/// A client of the slaves of a serial line, which lets the line fall silent where it is in doubt.
+pub type SerialClient<L> = SettlingClient<rtu::Frames, L>;

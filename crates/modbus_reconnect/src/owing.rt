@@ -1,7 +1,7 @@
 //! Which answers leave nothing owed on their link.
-ghost use Rattle.std.specs.Prelude.{◌≡◌};
+ghost use Rattle.std.specs.Prelude.{◌≡◌, ℕ, List, length};
 ghost use Rattle.modbus_frame.specs.Meaning.{meaning};
-ghost use Rattle.modbus_reconnect.specs.Owing.{is_settled};
+ghost use Rattle.modbus_reconnect.specs.Owing.{is_settled, leaves_nothing};
 ghost use Rattle.modbus_reconnect.specs.Resending.{is_in_doubt};
 
 use crate::reply::is_reply_to;
@@ -29,4 +29,12 @@ pub(crate) fn is_settled(request: &Request<'_>, answer: &Result<Response>) -> bo
         Ok(Err(_)) => true,
         Err(_) => !is_in_doubt(answer),
     }
+}
+
+/// The same of an answer with so many bytes left over behind it, of which none may be left.
+pub(crate) fn leaves_nothing(request: &Request<'_>, answer: &Result<Response>, held: usize) -> bool
+    ensures { (bytes : List ℕ) → length bytes ≡ held
+        → result ≡ leaves_nothing (meaning request.now) answer.now bytes }
+{
+    is_settled(request, answer) && held == 0
 }

@@ -1,5 +1,5 @@
 //! A program that reads the registers of a device one after another, over links that may be late: `modbus_watch FORM ADDRESS COUNT MILLIS
-//! [RETRIES]`.
+//! [RETRIES]`, or `modbus_watch serial TERMINAL COUNT MILLIS`. The terminal was set by `stty raw min 0 time 1`.
 #![tactic(auto)]
 
 mod watch;
@@ -8,13 +8,13 @@ mod words;
 use std::env;
 use std::process::ExitCode;
 use watch::watch_device;
-use words::Task;
+use words::{Task, device_of};
 
 /// The task that the words after the program name; none where they are no such words.
 fn parse_args(rt: &HostRuntime) -> Option<Task> {
     let mut words = env::args(rt).ok()?.skip(1);
-    let form = words.next()?.as_str().parse().ok()?;
-    let device = words.next()?.as_str().parse().ok()?;
+    let form = words.next()?;
+    let device = device_of(form.as_str(), words.next()?)?;
     let count = words.next()?.as_str().parse().ok()?;
     let millis = words.next()?.as_str().parse().ok()?;
     let retries = match words.next() {
@@ -23,7 +23,6 @@ fn parse_args(rt: &HostRuntime) -> Option<Task> {
     };
     match words.next() {
         None => Some(Task {
-            form,
             device,
             count,
             millis,
@@ -36,7 +35,8 @@ fn parse_args(rt: &HostRuntime) -> Option<Task> {
 fn main(rt: HostRuntime) -> ExitCode {
     let Some(task) = parse_args(&rt) else {
         let _ = eprintln!(rt;
-            "watch: usage: modbus_watch tcp|rtu|once-tcp|once-rtu ADDRESS COUNT MILLIS [RETRIES]"
+            "watch: usage: modbus_watch tcp|rtu|once-tcp|once-rtu ADDRESS COUNT MILLIS [RETRIES]
+       modbus_watch serial TERMINAL COUNT MILLIS"
         );
         return ExitCode::from(2);
     };

@@ -1,14 +1,21 @@
 //! Reads of one register after another.
 
-use crate::words::{Form, Task};
+use crate::words::{Device, Form, Task};
 use modbus_client::{Client, Reader, rtu, tcp};
 use modbus_frame::{Error, ExceptionCode, Slave};
-use modbus_link::{Connector, Failed, TcpConnector};
-use modbus_reconnect::{Resend, RtuOverTcpClient, TcpClient};
+use modbus_link::{Connector, Failed, ReadSource, TcpConnector, TerminalLink, WriteSink};
+use modbus_reconnect::{Resend, RtuOverTcpClient, SerialClient, TcpClient};
+use std::fs::File;
 use std::io;
+use std::net::SocketAddr;
 use std::time::Duration;
 
 const UNIT: Slave = Slave(1);
+
+/// How long a silence of a terminal is, in milliseconds, and how many bytes of a line are dropped until it is silent.
+const SILENCE: u64 = 100;
+
+const NOISE: usize = 4096;
 
 /// Prints what a register holds, or why that is not known.
 fn report(
@@ -32,24 +39,37 @@ fn watch<C: Client>(rt: &HostRuntime, client: &mut C, count: u16) -> io::Result<
     Ok(())
 }
 
-/// Reads the registers of a device in the form that was asked for. Where one link can't be made nothing is read.
-pub fn watch_device(rt: &HostRuntime, task: Task) -> io::Result<()> {
+/// Reads the registers of a device on the serial line of a terminal that tells silences of a tenth of a second. A line in doubt has to be
+/// silent for as long as a reply is waited for.
+fn watch_line(rt: &HostRuntime, terminal: &str, task: &Task) -> io::Result<()> {
+    let reader = File::options().read(true).write(true).open(rt, terminal)?;
+    let writer = reader.try_clone()?;
+    let link = TerminalLink::new(ReadSource::new(reader), WriteSink::new(writer));
+    let limit = Duration::from_millis(task.millis);
+    let mut client = SerialClient::new(rt.alloc(), link, UNIT, Duration::from_millis(SILENCE));
+    client.set_timeout(Some(limit));
+    client.set_quiet(limit, NOISE);
+    watch(rt, &mut client, task.count)
+}
+
+/// Reads the registers of a device behind an address, in the form that was asked for.
+fn watch_peer(rt: &HostRuntime, form: Form, address: SocketAddr, task: &Task) -> io::Result<()> {
     let mut connector = TcpConnector::new(rt);
     let limit = Some(Duration::from_millis(task.millis));
-    match task.form {
+    match form {
         Form::Tcp => {
-            let mut client = TcpClient::new(rt.alloc(), connector, task.device, UNIT);
+            let mut client = TcpClient::new(rt.alloc(), connector, address, UNIT);
             client.set_timeout(limit);
             client.set_retries(task.retries, Resend::Reads);
             watch(rt, &mut client, task.count)
         }
         Form::Rtu => {
-            let mut client = RtuOverTcpClient::new(rt.alloc(), connector, task.device, UNIT);
+            let mut client = RtuOverTcpClient::new(rt.alloc(), connector, address, UNIT);
             client.set_timeout(limit);
             client.set_retries(task.retries, Resend::Reads);
             watch(rt, &mut client, task.count)
         }
-        Form::OnceTcp => match connector.connect(task.device, limit) {
+        Form::OnceTcp => match connector.connect(address, limit) {
             Ok(link) => {
                 let mut client = tcp::attach_slave(rt.alloc(), link, UNIT);
                 client.set_timeout(limit);
@@ -57,7 +77,7 @@ pub fn watch_device(rt: &HostRuntime, task: Task) -> io::Result<()> {
             }
             Err(Failed) => Ok(()),
         },
-        Form::OnceRtu => match connector.connect(task.device, limit) {
+        Form::OnceRtu => match connector.connect(address, limit) {
             Ok(link) => {
                 let mut client = rtu::attach_slave(rt.alloc(), link, UNIT);
                 client.set_timeout(limit);
@@ -65,5 +85,13 @@ pub fn watch_device(rt: &HostRuntime, task: Task) -> io::Result<()> {
             }
             Err(Failed) => Ok(()),
         },
+    }
+}
+
+/// Reads the registers of a device where it is. Where one link can't be made nothing is read.
+pub fn watch_device(rt: &HostRuntime, task: Task) -> io::Result<()> {
+    match &task.device {
+        Device::Peer(form, address) => watch_peer(rt, *form, *address, &task),
+        Device::Line(terminal) => watch_line(rt, terminal.as_str(), &task),
     }
 }

@@ -34,12 +34,30 @@ impl FromStr for Form {
     }
 }
 
-/// Which device is read how, how many registers of it, within how many milliseconds each read and write ends, and how often a read is sent
+/// Where a device is.
+#[derive(Drop)]
+pub enum Device {
+    /// Behind an address, spoken to in this form.
+    Peer(Form, SocketAddr),
+    /// On the serial line of this terminal.
+    Line(String),
+}
+
+/// The device that these two words name; none where they name none.
+pub fn device_of(form: &str, place: String) -> Option<Device> {
+    if form == "serial" {
+        return Some(Device::Line(place));
+    }
+    let form = form.parse().ok()?;
+    let address = place.as_str().parse().ok()?;
+    Some(Device::Peer(form, address))
+}
+
+/// Which device is read, how many registers of it, within how many milliseconds each read and write ends, and how often a read is sent
 /// again over a new link.
-#[derive(Clone, Copy)]
+#[derive(Drop)]
 pub struct Task {
-    pub form: Form,
-    pub device: SocketAddr,
+    pub device: Device,
     pub count: u16,
     pub millis: u64,
     pub retries: u32,

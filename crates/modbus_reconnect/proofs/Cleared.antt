@@ -1,0 +1,75 @@
+-- A line on which nothing is owed.
+use Rattle.std.proofs.Common.{◌≡◌, inl, inr, ℕ, ◌<◌, Bool, true, false, true≢false, not, IsTrue, Option, None, Some, Result, Err, refl, sym, ap, subst, ◌∙◌, arith}
+use Rattle.std.specs.Duration.{as_nanos}
+use Rattle.modbus_frame.specs.Meaning.{Asked}
+use Rattle.modbus_frame.specs.declared.fault.Error.TheVariants.{Transport}
+use Rattle.modbus_frame.specs.declared.fault.TransportError.TheVariants.{NotConnected}
+use Rattle.modbus_client.specs.Matching.{Answer}
+use Rattle.modbus_reconnect.specs.declared.settling.Unsettled.{Unsettled}
+use Rattle.modbus_reconnect.specs.Owing.{leaves_nothing}
+use Rattle.modbus_reconnect.specs.Settling.{Settles}
+use Rattle.modbus_reconnect.specs.SettlingState.{SettlingState, LineMeaning}
+use Rattle.modbus_reconnect.specs.Silences.{silences_in}
+use Rattle.modbus_reconnect.specs.OnLine.{SettlesLine, OwesNothing, settled, called, quiet_silences, StaysInDoubt, ClearsIf, next_question, AsksOn, IsStanding, unconnected, unsettled, asks, CallsStanding}
+
+-- it was settled by as many silences as are wanted
+pub settles_line : {H I L : Type 0} (m : LineMeaning H I L) (told silences limit : ℕ) (before after : L) (result : Result ℕ Unsettled) → told ≡ silences
+    → Settles told limit (m.link.input before) (m.link.input after) (m.silences before) (m.silences after) result
+    → m.link.output after ≡ m.link.output before → m.link.line after ≡ m.link.line before → SettlesLine m silences limit before after result
+settles_line m told silences limit before after result is settles sink line = record {
+  settles = subst (λ (count : ℕ). Settles count limit (m.link.input before) (m.link.input after) (m.silences before) (m.silences after) result) is settles;
+  sink = sink;
+  line = line;
+}
+
+-- a time takes one silence at least
+some_silences : (time silence : ℕ) → 0 < silences_in time silence
+some_silences time silence = omega arith
+
+-- nothing is owed on a line that was cleared
+pub clear_owes : {H I L : Type 0} (m : LineMeaning H I L) (old clear : SettlingState I L) → ClearsIf true m old clear → IsStanding m old → OwesNothing m clear.link
+clear_owes {L = L} m old clear cleared stands = elim cleared.0 [
+  | inl kept ↦ subst (λ (link : L). OwesNothing m link) (sym kept.1) (stands kept.0)
+  | inr settles ↦ settled old.link clear.link (quiet_silences old) old.settings.limit settles.1.0 (some_silences (as_nanos old.settings.quiet) (as_nanos old.settings.silence)) settles.1.1
+]
+
+settled_by : (nothing : Bool) → not nothing ≡ false → nothing ≡ true
+settled_by true clear = refl
+settled_by false clear = sym clear
+
+-- a call on it may leave nothing owed
+pub asked_stands : {H I L : Type 0} (m : LineMeaning H I L) (clear new : SettlingState I L) (asked : Asked) (answer : Answer) → OwesNothing m clear.link → AsksOn m clear asked answer new → IsStanding m new
+asked_stands {I = I} {L = L} m clear new asked answer owes a = λ certain.
+    called clear.link new.link (next_question m clear asked) a.held answer owes a.ends
+    (settled_by (leaves_nothing asked answer a.held) (sym (ap (λ (state : SettlingState I L). state.in_doubt) a.rest) ∙ certain))
+
+doubt_after : {H I L : Type 0} (m : LineMeaning H I L) (old : SettlingState I L) (line : L) (reason : Option Unsettled) → StaysInDoubt m old line reason → IsTrue old.in_doubt
+doubt_after m old line None stays = absurd stays
+doubt_after m old line (Some reason) stays = stays.0
+
+-- a line that was not settled is in doubt
+pub unsettled_stands : {H I L : Type 0} (m : LineMeaning H I L) (old new : SettlingState I L) → ClearsIf false m old new → IsStanding m new
+unsettled_stands {I = I} {L = L} m old new kept = λ certain.
+    absurd (true≢false (sym (ap (λ (state : SettlingState I L). state.in_doubt) kept.1 ∙ doubt_after m old new.link new.unsettled kept.0) ∙ certain))
+
+-- a call of each kind
+pub calls_asked : {H I L : Type 0} (m : LineMeaning H I L) (old clear new : SettlingState I L) (asked : Asked) (answer : Answer) → IsTrue old.is_connected → ClearsIf true m old clear
+    → AsksOn m clear asked answer new → CallsStanding m old asked answer new
+calls_asked m old clear new asked answer connected cleared a = record {
+  calls = asks connected clear cleared (clear_owes m old clear cleared) a;
+  stands = λ stands. asked_stands m clear new asked answer (clear_owes m old clear cleared stands) a;
+}
+
+pub calls_unsettled : {H I L : Type 0} (m : LineMeaning H I L) (old new : SettlingState I L) (asked : Asked) (answer : Answer) → IsTrue old.is_connected → answer ≡ Err (Transport NotConnected)
+    → ClearsIf false m old new → CallsStanding m old asked answer new
+calls_unsettled m old new asked answer connected is kept = record {
+  calls = unsettled connected is kept;
+  stands = λ stands. unsettled_stands m old new kept;
+}
+
+pub calls_unconnected : {H I L : Type 0} (m : LineMeaning H I L) (old new : SettlingState I L) (asked : Asked) (answer : Answer) → old.is_connected ≡ false → answer ≡ Err (Transport NotConnected)
+    → new ≡ old → CallsStanding m old asked answer new
+calls_unconnected {I = I} {L = L} m old new asked answer gone is same = record {
+  calls = unconnected gone is same;
+  stands = λ stands. subst (λ (state : SettlingState I L). IsStanding m state) (sym same) stands;
+}

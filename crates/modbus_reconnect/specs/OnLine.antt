@@ -1,0 +1,80 @@
+-- What each call of a client of a line does: nothing is owed on the line that it is made on.
+use Rattle.std.specs.Prelude.{◌≡◌, ◌⊎◌, ℕ, ◌<◌, Bool, true, false, not, List, Option, None, Some, Result, Ok, Err, IsTrue}
+use Rattle.modbus_frame.specs.Meaning.{Asked}
+use Rattle.modbus_frame.specs.declared.fault.Error.TheVariants.{Transport}
+use Rattle.modbus_frame.specs.declared.fault.TransportError.TheVariants.{NotConnected}
+use Rattle.modbus_client.specs.Matching.{Answer}
+use Rattle.modbus_reconnect.specs.declared.settling.Unsettled.{Unsettled}
+use Rattle.modbus_reconnect.specs.Owing.{leaves_nothing}
+use Rattle.modbus_reconnect.specs.Settling.{Settles}
+use Rattle.modbus_reconnect.specs.Silences.{silences_for}
+use Rattle.modbus_reconnect.specs.SettlingState.{SettlingState, LineMeaning}
+use Rattle.modbus_reconnect.specs.Waiting.{Question, question_of, Ends}
+
+-- A line is settled, or is not, for so many silences: nothing is written, and all else of the link stays.
+pub record SettlesLine {H I L : Type 0} (m : LineMeaning H I L) (silences limit : ℕ) (before after : L) (result : Result ℕ Unsettled) : Type 0 where
+  pub settles : Settles silences limit (m.link.input before) (m.link.input after) (m.silences before) (m.silences after) result
+  pub sink : m.link.output after ≡ m.link.output before
+  pub line : m.link.line after ≡ m.link.line before
+
+-- Nothing is owed on a line: it was settled, and each call since was answered by its own reply, with no byte left over, or sent nothing.
+pub data OwesNothing {H I L : Type 0} (m : LineMeaning H I L) : L → Type 0 where
+  settled : (before line : L) (silences limit dropped : ℕ)
+      → 0 < silences → SettlesLine m silences limit before line (Ok dropped) → OwesNothing m line
+  called : (before line : L) (q : Question H) (held : List ℕ) (answer : Answer)
+      → OwesNothing m before → Ends m q before line held answer → IsTrue (leaves_nothing q.asked answer held) → OwesNothing m line
+
+-- how many silences settle the line of a client, and for how many it waits for a reply
+abbrev pub quiet_silences : {I L : Type 0} → SettlingState I L → ℕ
+quiet_silences client = silences_for (Some client.settings.quiet) client.settings.silence
+
+abbrev pub reply_silences : {I L : Type 0} → SettlingState I L → ℕ
+reply_silences client = silences_for client.settings.timeout client.settings.silence
+
+-- A line in doubt is settled before it is used, and one that is not is used as it is.
+abbrev pub Clears : {H I L : Type 0} → LineMeaning H I L → SettlingState I L → L → Type 0
+Clears m old line = ((old.in_doubt ≡ false) × (line ≡ old.link))
+    ⊎ (IsTrue old.in_doubt × ((dropped : ℕ) × SettlesLine m (quiet_silences old) old.settings.limit old.link line (Ok dropped)))
+
+-- a line in doubt was not settled, for this reason
+abbrev pub StaysInDoubt : {H I L : Type 0} → LineMeaning H I L → SettlingState I L → L → Option Unsettled → Type 0
+StaysInDoubt m old line None = ⊥
+StaysInDoubt m old line (Some reason) = IsTrue old.in_doubt × SettlesLine m (quiet_silences old) old.settings.limit old.link line (Err reason)
+
+-- the line was cleared, or it stays in doubt
+abbrev pub ClearsIf : {H I L : Type 0} → Bool → LineMeaning H I L → SettlingState I L → SettlingState I L → Type 0
+ClearsIf true m old new = Clears m old new.link × (new ≡ record old { link = new.link; in_doubt = false; unsettled = None })
+ClearsIf false m old new = StaysInDoubt m old new.link new.unsettled × (new ≡ record old { link = new.link; unsettled = new.unsettled })
+
+-- what a client asks, under the header that comes next
+abbrev pub next_question : {H I L : Type 0} → LineMeaning H I L → SettlingState I L → Asked → Question H
+next_question m client asked =
+    question_of (m.heading.header client.ids client.settings.slave) asked client.settings.turns (reply_silences client)
+
+-- A request is sent, and its reply waited for. After that the line is in doubt, unless the answer leaves nothing owed.
+pub record AsksOn {H I L : Type 0} (m : LineMeaning H I L) (old : SettlingState I L) (asked : Asked) (answer : Answer) (new : SettlingState I L) : Type 0 where
+  -- the bytes that the call read and did not use
+  pub held : List ℕ
+  pub ends : Ends m (next_question m old asked) old.link new.link held answer
+  pub line : m.link.line new.link ≡ m.link.line old.link
+  pub rest : new ≡ record old { link = new.link; in_doubt = not (leaves_nothing asked answer held); ids = m.heading.next old.ids }
+
+-- nothing is owed on the line of a client that is not in doubt
+abbrev pub IsStanding : {H I L : Type 0} → LineMeaning H I L → SettlingState I L → Type 0
+IsStanding m client = client.in_doubt ≡ false → OwesNothing m client.link
+
+-- One call of a client of a line.
+pub data CallsOnLine {H I L : Type 0} (m : LineMeaning H I L) (old : SettlingState I L) (asked : Asked) (answer : Answer) (new : SettlingState I L) : Type 0 where
+  -- a disconnected client does nothing
+  unconnected : old.is_connected ≡ false → answer ≡ Err (Transport NotConnected) → new ≡ old → CallsOnLine m old asked answer new
+  -- on a line that does not settle nothing is sent
+  unsettled : IsTrue old.is_connected → answer ≡ Err (Transport NotConnected) → ClearsIf false m old new → CallsOnLine m old asked answer new
+  -- nothing is owed on the line that the request is sent on
+  asks : IsTrue old.is_connected → (clear : SettlingState I L) → ClearsIf true m old clear → (IsStanding m old → OwesNothing m clear.link)
+      → AsksOn m clear asked answer new → CallsOnLine m old asked answer new
+
+-- The same, and what stands before a call stands after it. It stands of a new client, which is in doubt, and no setting changes it; so it
+-- stands before and after each call.
+pub record CallsStanding {H I L : Type 0} (m : LineMeaning H I L) (old : SettlingState I L) (asked : Asked) (answer : Answer) (new : SettlingState I L) : Type 0 where
+  pub calls : CallsOnLine m old asked answer new
+  pub stands : IsStanding m old → IsStanding m new

@@ -1,0 +1,53 @@
+-- What a client of a line keeps between its calls, and what its parts mean.
+use Rattle.std.specs.Prelude.{ℕ, Bool, true, Option, None}
+use Rattle.std.specs.declared.time.Duration.{Duration}
+use Rattle.modbus_link.specs.Line.{LinkMeaning}
+use Rattle.modbus_client.specs.Limits.{default_turns}
+use Rattle.modbus_client.specs.Protocol.{Protocol, Heading}
+use Rattle.modbus_reconnect.specs.declared.settling.Unsettled.{Unsettled}
+
+pub record LineSettings : Type 0 where
+  -- the slave that requests go to
+  pub slave : ℕ
+  -- how many reads of a call may give bytes
+  pub turns : ℕ
+  -- how long a call waits for its reply; none for any time
+  pub timeout : Option Duration
+  -- how long a silence of the link is
+  pub silence : Duration
+  -- how long a line is silent that is settled, and how many bytes of it may be dropped
+  pub quiet : Duration
+  pub limit : ℕ
+
+pub record SettlingState (I L : Type 0) : Type 0 where
+  pub link : L
+  -- a disconnected client keeps its link, unused
+  pub is_connected : Bool
+  -- whether a reply may still come that was not taken
+  pub in_doubt : Bool
+  -- why the last call found the line unsettled; none where it did not
+  pub unsettled : Option Unsettled
+  pub settings : LineSettings
+  -- what its protocol keeps between its calls
+  pub ids : I
+
+-- what the parts of such a client mean: its protocol, its link, and how many silences the link told
+pub record LineMeaning (H I L : Type 0) : Type 1 where
+  pub protocol : Protocol H
+  pub heading : Heading H I
+  pub link : LinkMeaning L
+  pub silences : L → ℕ
+
+abbrev pub line_by : {H I L : Type 0} → Protocol H → Heading H I → LinkMeaning L → (L → ℕ) → LineMeaning H I L
+line_by protocol heading link silences = record { protocol = protocol; heading = heading; link = link; silences = silences }
+
+-- A client as it is made, of a link of which nothing is known: it is in doubt. A line is settled by one silence.
+abbrev pub unsettled_client : {H I L : Type 0} → Heading H I → L → ℕ → Duration → SettlingState I L
+unsettled_client N link slave silence = record {
+  link = link;
+  is_connected = true;
+  in_doubt = true;
+  unsettled = None;
+  settings = record { slave = slave; turns = default_turns; timeout = None; silence = silence; quiet = silence; limit = 4096 };
+  ids = N.first;
+}

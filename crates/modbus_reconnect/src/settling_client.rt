@@ -1,0 +1,223 @@
+//! A client of a line, which is no connection that can be made anew.
+ghost use Rattle.std.specs.Prelude.{◌≡◌, ◌↔◌, false, Ok, IsNone, IfSome};
+ghost use Rattle.modbus_link.specs.Line.{meaning_of};
+ghost use Rattle.modbus_frame.specs.Meaning.{meaning};
+ghost use Rattle.modbus_reconnect.specs.SettlingState.{line_by, unsettled_client};
+ghost use Rattle.modbus_reconnect.specs.OnLine.{ClearsIf, AsksOn, CallsStanding};
+
+use crate::owing::leaves_nothing;
+use crate::settling::{Unsettled, settle};
+use crate::silences::silences_for;
+use crate::waiting::ask;
+use modbus_client::{Client, Protocol, TURNS};
+use modbus_frame::{
+    Error, Request, Response, Result, ShutdownFault, Slave, SlaveContext, TransportError,
+};
+use modbus_link::TimedLink;
+use std::alloc::Global;
+use std::marker::Model;
+use std::time::Duration;
+
+/// How many bytes of a line may be dropped until it is silent, until a client is told otherwise.
+const LIMIT: usize = 4096;
+
+/// A client of the slaves of one line, as a serial line, which tells silence.
+///
+/// A late reply can't be told from the next one there, so each call begins on a line on which nothing is owed. After an answer that is no
+/// reply to the request, and after a reply with bytes behind it, the line is in doubt. The next call then reads and drops what still comes,
+/// until the line was silent for a while, before it sends its request.
+#[derive(Drop)]
+pub struct SettlingClient<P: Protocol, L> {
+    link: L,
+    is_connected: bool,
+    in_doubt: bool,
+    unsettled: Option<Unsettled>,
+    slave: Slave,
+    turns: u64,
+    timeout: Option<Duration>,
+    silence: Duration,
+    quiet: Duration,
+    limit: usize,
+    ids: P::Ids,
+    alloc: Global,
+}
+
+/// A contract sees the link, whether it is used, whether it is in doubt and why it stayed so, the settings, and what the protocol keeps
+/// between calls.
+impl<P: Protocol, L> Model for SettlingClient<P, L> {
+    ghost use Rattle.modbus_reconnect.specs.SettlingState.{SettlingState};
+
+    ghost Value = { SettlingState P.Ids L };
+
+    ghost view = { λ it. record {
+      link = it.link;
+      is_connected = it.is_connected;
+      in_doubt = it.in_doubt;
+      unsettled = it.unsettled;
+      settings = record { slave = it.slave.0; turns = it.turns; timeout = it.timeout; silence = it.silence; quiet = it.quiet; limit = it.limit };
+      ids = it.ids;
+    } };
+}
+
+impl<P: Protocol, L> SettlingClient<P, L> {
+    /// A client of a slave over a line that tells silences of this length. It takes no memory yet.
+    ///
+    /// What lies on the line is not known, so it is in doubt at first. A line is settled by one silence, and no more than 4096 bytes of it
+    /// are dropped, until the client is told otherwise.
+    pub fn new(alloc: Global, link: L, slave: Slave, silence: Duration) -> SettlingClient<P, L>
+        ensures { result ≡ unsettled_client P.heading link slave.0 silence }
+    {
+        SettlingClient {
+            link,
+            is_connected: true,
+            in_doubt: true,
+            unsettled: None,
+            slave,
+            turns: TURNS,
+            timeout: None,
+            silence,
+            quiet: silence,
+            limit: LIMIT,
+            ids: P::first_ids(),
+            alloc,
+        }
+    }
+
+    /// How many reads of a call may give bytes from then on; `TURNS` at first.
+    pub fn set_turns(&mut self, turns: u64)
+        ensures { self.new ≡ record self.old { settings = record self.old.settings { turns = turns } } }
+    {
+        self.turns = turns;
+    }
+
+    /// For how long a line in doubt has to be silent from then on before a request is sent, and how many bytes may come until then.
+    ///
+    /// A late reply is dropped where it comes within that time after the timeout of its call. So the two together are to be longer than the
+    /// longest time that a device takes.
+    pub fn set_quiet(&mut self, quiet: Duration, limit: usize)
+        ensures { self.new ≡ record self.old {
+          settings = record self.old.settings { quiet = quiet; limit = limit };
+        } }
+    {
+        self.quiet = quiet;
+        self.limit = limit;
+    }
+
+    /// Whether a reply may still come that was not taken, so that the next call settles the line first.
+    pub fn is_in_doubt(&self) -> bool
+        ensures { result ≡ self.now.in_doubt }
+    {
+        self.in_doubt
+    }
+
+    /// Why the last call found the line unsettled and sent nothing; none where it did not.
+    pub fn unsettled(&self) -> Option<Unsettled>
+        ensures { result ≡ self.now.unsettled }
+    {
+        self.unsettled
+    }
+
+    /// The link; `None` exactly where the client is disconnected.
+    pub fn link(&self) -> Option<&L>
+        ensures none { IsNone result ↔ (self.now.is_connected ≡ false) }
+        ensures some { IfSome result (λ link. link.now ≡ self.now.link) }
+    {
+        if self.is_connected {
+            Some(&self.link)
+        } else {
+            None
+        }
+    }
+}
+
+impl<P: Protocol, L: TimedLink> SettlingClient<P, L> {
+    /// Settles a line in doubt. Whether nothing is owed on it then.
+    fn clear(&mut self) -> bool
+        ensures { ClearsIf result
+            (line_by P.protocol P.heading (meaning_of L.input L.output L.line) L.not_ready)
+            self.old self.new }
+    {
+        self.unsettled = None;
+        if !self.in_doubt {
+            return true;
+        }
+        let silences = silences_for(Some(self.quiet), self.silence);
+        match settle(&mut self.link, silences, self.limit) {
+            Ok(_) => {
+                self.in_doubt = false;
+                true
+            }
+            Err(reason) => {
+                self.unsettled = Some(reason);
+                false
+            }
+        }
+    }
+
+    /// Sends a request, and waits for its reply.
+    fn ask(&mut self, request: &Request<'_>) -> Result<Response>
+        ensures { AsksOn
+            (line_by P.protocol P.heading (meaning_of L.input L.output L.line) L.not_ready)
+            self.old (meaning request.now) result self.new }
+    {
+        let header = P::draw(&mut self.ids, self.slave);
+        let silences = silences_for(self.timeout, self.silence);
+        let (answer, held) = ask::<P, L>(
+            self.alloc,
+            &mut self.link,
+            header,
+            request,
+            self.turns,
+            silences,
+        );
+        self.in_doubt = !leaves_nothing(request, &answer, held);
+        answer
+    }
+}
+
+impl<P: Protocol, L> SlaveContext for SettlingClient<P, L> {
+    ghost selected = { λ client. client.settings.slave };
+
+    ghost set_slave_gives = { λ old slave new.
+        new ≡ record old { settings = record old.settings { slave = slave } } };
+
+    fn set_slave(&mut self, slave: Slave) {
+        self.slave = slave;
+    }
+}
+
+impl<P: Protocol, L: TimedLink + Send + Drop> Client for SettlingClient<P, L>
+where
+    P::Ids: Send,
+{
+    ghost answers = { CallsStanding
+        (line_by P.protocol P.heading (meaning_of L.input L.output L.line) L.not_ready) };
+
+    // Nothing is done with the line.
+    ghost disconnects = { λ old result new. (result ≡ Ok tt) × (new ≡ record old { is_connected = false }) };
+
+    ghost time_limit = { λ client. client.settings.timeout };
+
+    ghost limits = { λ old duration new.
+        new ≡ record old { settings = record old.settings { timeout = duration } } };
+
+    fn call(&mut self, request: Request<'_>) -> Result<Response> {
+        if !self.is_connected || !self.clear() {
+            return Err(Error::Transport(TransportError::NotConnected));
+        }
+        self.ask(&request)
+    }
+
+    fn disconnect(&mut self) -> std::result::Result<(), ShutdownFault> {
+        self.is_connected = false;
+        Ok(())
+    }
+
+    fn timeout(&self) -> Option<Duration> {
+        self.timeout
+    }
+
+    fn set_timeout(&mut self, duration: Option<Duration>) {
+        self.timeout = duration;
+    }
+}
