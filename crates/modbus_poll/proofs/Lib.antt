@@ -7,3 +7,5 @@ pub mod Ordered
 pub mod WordsAt
 pub mod Making
 pub mod Served
+pub mod Digits
+pub mod Prefixes

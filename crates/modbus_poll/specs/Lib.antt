@@ -5,3 +5,5 @@ pub mod Plans
 pub mod Planning
 pub mod Words
 pub mod Polls
+pub mod Inputs
+pub mod Notation

@@ -6,7 +6,9 @@
 //! registers. The standard is the Modbus Application Protocol V1.1b3, which is meant by every section that is named here.
 #![tactic(auto)]
 
+mod inputs;
 mod item;
+mod notation;
 mod plan;
 mod planner;
 mod polling;
@@ -14,7 +16,9 @@ mod read;
 mod value;
 mod words;
 
+pub use crate::inputs::poll_inputs;
 pub use crate::item::{Item, Kind, Order};
+pub use crate::notation::{Point, PointError, Table, parse_point};
 pub use crate::plan::{Plan, PlanError};
 pub use crate::planner::plan_reads;
 pub use crate::polling::{PollError, poll, poll_service};

@@ -43,7 +43,7 @@ impl From<AllocError> for PollError {
 }
 
 /// What a poll makes of the answer to the read at this place.
-fn take_answer(
+pub(crate) fn take_answer(
     place: usize,
     read: &Read,
     answer: modbus_frame::Result<Words>,

@@ -4,6 +4,8 @@
 #[cfg(test)]
 mod client;
 #[cfg(test)]
+mod notation;
+#[cfg(test)]
 mod plan;
 #[cfg(test)]
 mod service;

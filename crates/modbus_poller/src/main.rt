@@ -1,65 +1,87 @@
-//! A program that polls a Modbus TCP device once: `modbus_poller ADDRESS [FIRST]`.
+//! A program that reads and writes a Modbus TCP device from the command line: the values of items once or again and again, as a table, as
+//! CSV or as JSON.
 #![tactic(auto)]
 
+mod batch;
+mod command;
+mod connector;
+mod device;
 mod fault;
-mod poll;
+mod lines;
+mod polling;
+mod shown;
+mod wanted;
+mod writing;
 
-use modbus_frame::Address;
-use poll::{Reading, Target, poll};
-use std::env::{Env, FillError};
-use std::io;
-use std::net::SocketAddr;
+use clap::ArgMatches;
+use clap::error::{Error, ErrorKind};
 use std::process::ExitCode;
+use std::{env, io};
+use wanted::Refusal;
 
-/// The bytes of the longest word: an IPv6 address with a zone, and a port.
-const LONGEST_WORD: usize = 64;
+/// The status where the last poll, or the write, was not good.
+const FAILED: u8 = 1;
 
-/// The device of the first word after the program's name.
-fn device(rt: &HostRuntime) -> Option<SocketAddr> {
-    let mut room = [0; LONGEST_WORD];
-    let length = rt.arg(1, &mut room).ok()?;
-    str::from_utf8(&room[..length]).ok()?.parse().ok()
-}
+/// The status of words that cannot be read.
+const USAGE: u8 = 2;
 
-/// The address of the second word, 0 without one.
-fn first_register(rt: &HostRuntime) -> Option<Address> {
-    let mut room = [0; LONGEST_WORD];
-    match rt.arg(2, &mut room) {
-        Ok(length) => str::from_utf8(&room[..length]).ok()?.parse().ok(),
-        Err(FillError::NotPresent) => Some(0),
-        Err(FillError::TooLong) => None,
+/// Does what the words ask for; whether the last poll, or the write, was good.
+fn run<'a>(rt: &HostRuntime, matches: &ArgMatches<'a>) -> Result<bool, Refusal<'a>> {
+    let alloc = rt.alloc();
+    match matches.subcommand() {
+        Some(("poll", given)) => Ok(polling::run(rt, &wanted::poll(alloc, given)?)),
+        Some(("write", given)) => Ok(writing::registers(rt, &wanted::registers(alloc, given)?)),
+        Some(("write-coils", given)) => Ok(writing::coils(rt, &wanted::coils(alloc, given)?)),
+        _ => Ok(false),
     }
 }
 
-/// The target of the words after the program's name, which may have any bytes; none where they are others.
-fn parse_args(rt: &HostRuntime) -> Option<Target> {
-    let device = device(rt)?;
-    let first = first_register(rt)?;
-    match rt.arg(3, &mut [0]) {
-        Err(FillError::NotPresent) => Some(Target { device, first }),
-        Err(FillError::TooLong) | Ok(_) => None,
+/// Tells what clap has to say, and gives the status.
+fn say(rt: &HostRuntime, error: &Error) -> u8 {
+    if error.kind() == ErrorKind::OutOfMemory {
+        let _ = eprintln!(rt; "poller: no memory");
+        return FAILED;
+    }
+    let is_said = error.print(rt).is_ok();
+    if error.use_stderr() {
+        USAGE
+    } else if is_said {
+        0
+    } else {
+        FAILED
     }
 }
 
-fn report(rt: &HostRuntime, first: u16, reading: &Reading) -> io::Result<()> {
-    println!(rt; "coils from 0: {:?}", reading.coils)?;
-    println!(rt; "registers from {first}: {:?}", reading.registers)?;
-    Ok(())
+/// Reads the words and does what they ask for; the status.
+fn serve(rt: &HostRuntime, words: &[String]) -> u8 {
+    let matches = match command::parse(rt.alloc(), words) {
+        Ok(matches) => matches,
+        Err(error) => return say(rt, &error),
+    };
+    match run(rt, &matches) {
+        Ok(true) => 0,
+        Ok(false) => FAILED,
+        Err(refusal) => {
+            let _ = eprintln!(rt; "poller: {refusal}");
+            refusal.status()
+        }
+    }
+}
+
+fn words_of(rt: &HostRuntime) -> io::Result<Vec<String>> {
+    Ok(env::args(rt)?.collect(rt.alloc())?)
 }
 
 fn main(rt: HostRuntime) -> ExitCode {
-    let Some(target) = parse_args(&rt) else {
-        let _ = eprintln!(rt; "poller: usage: modbus_poller ADDRESS [FIRST]");
-        return ExitCode::from(2);
-    };
-    match poll(&rt, target) {
-        Ok(reading) => match report(&rt, target.first, &reading) {
-            Ok(()) => ExitCode::SUCCESS,
-            Err(_) => ExitCode::from(1),
-        },
-        Err(fault) => {
-            let _ = eprintln!(rt; "poller: {fault}");
-            ExitCode::from(1)
+    match words_of(&rt) {
+        Ok(words) => ExitCode::from(serve(&rt, words.as_slice())),
+        Err(error) if error.kind() == io::ErrorKind::InvalidData => {
+            let _ = eprintln!(rt; "poller: a word that is not in UTF-8");
+            ExitCode::from(USAGE)
+        }
+        Err(_) => {
+            let _ = eprintln!(rt; "poller: no memory");
+            ExitCode::from(FAILED)
         }
     }
 }

@@ -1,0 +1,36 @@
+use Rattle.std.proofs.Common.{take, get_or, rules, arith, subst, add-one}
+use Rattle.std.proofs.lemmas.List.{length-take-le}
+use Rattle.std.proofs.lemmas.Option.{slice_get-get_or}
+use Rattle.modbus_poll.specs.declared.polling.PollError.TheVariants.{NoMemory}
+use Rattle.modbus_poll.specs.Polls.{WordsAnswer}
+use Rattle.modbus_poll.specs.Inputs.{AsksInputs}
+use Rattle.modbus_poll.proofs.Making.{reads_more, lacks_first, stops_at, stops_with, length_made}
+use Rattle.modbus_poll.proofs.inputs.read_inputs.Goals as goal
+
+pub returns-in_err-found-clause-stops : goal.returns-in_err-found-clause-stops
+returns-in_err-found-clause-stops g c =
+    stops_with (AsksInputs g.R.Client.answers) c.args.reads.now c.args.reader.now _ NoMemory _ c.from_residual.ensures.1
+    (lacks_first (AsksInputs g.R.Client.answers) c.args.reads.now c.args.reader.now)
+
+pub returns-in_err-words-clause-stops : goal.returns-in_err-words-clause-stops
+returns-in_err-words-clause-stops g c =
+    stops_with (AsksInputs g.R.Client.answers) c.args.reads.now c.args.reader.now _ c.in_err-words.field-0.0 _ c.from_residual-in_err-words.ensures.1
+    (stops_at (AsksInputs g.R.Client.answers) c.args.reads.now c.loop-place.place c.loop-place.found.items c.args.reader.now c.loop-place.reader _ _
+    c.ask_inputs-answer.result c.in_err-words.field-0.0 (slice_get-get_or c.args.reads.now c.loop-place.place _ c.loop-place-test.true)
+    c.loop-place.invariant.made c.ask_inputs-answer.ensures c.in_err-words.ensures)
+
+pub push_reserved-requires : goal.push_reserved-requires
+push_reserved-requires g c =
+    let count = length_made (AsksInputs g.R.Client.answers) (take c.loop-place.place c.args.reads.now) c.loop-place.found.items c.args.reader.now c.loop-place.reader c.loop-place.invariant.made in
+    let taken = length-take-le c.loop-place.place c.args.reads.now (omega arith) in
+    omega (arith, c.loop-place.invariant.room, c.loop-place-test.true)
+
+pub loop-place-preserved : goal.loop-place-preserved
+loop-place-preserved g c = record {
+  made = rw (add-one c.loop-place.place) (rw c.push_reserved.ensures.items
+      (reads_more (AsksInputs g.R.Client.answers) c.args.reads.now c.loop-place.place c.loop-place.found.items c.args.reader.now c.loop-place.reader _ _
+      c.in_ok-words.words c.loop-place-test.true c.loop-place.invariant.made
+      (subst (λ (a : WordsAnswer). AsksInputs g.R.Client.answers c.loop-place.reader (get_or c.args.reads.now c.loop-place.place (record { address = 0; count = 0 })) a
+      c.ask_inputs-answer.new.reader) c.in_ok-words.ensures.0 c.ask_inputs-answer.ensures) c.in_ok-words.ensures.1));
+  room = search rules;
+}

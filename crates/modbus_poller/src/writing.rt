@@ -1,0 +1,91 @@
+//! Writes of registers and coils.
+
+use crate::device::{Device, DeviceClient, circumstances, client_of};
+use crate::fault::{NoAnswer, Refused};
+use crate::wanted::WriteTask;
+use modbus_client::{Client, Writer};
+use modbus_frame::{Coil, Result, Word};
+use std::io;
+use std::time::Instant;
+
+/// Writes one register by function code 06, several by 16 (V1.1b3, sections 6.6 and 6.12).
+fn write_registers(client: &mut DeviceClient<'_>, wanted: &WriteTask<Word>) -> Result<()> {
+    match wanted.values.as_slice() {
+        [value] => client.write_single_register(wanted.first, *value),
+        values => client.write_multiple_registers(wanted.first, values),
+    }
+}
+
+/// Writes one coil by function code 05, several by 15 (V1.1b3, sections 6.5 and 6.11).
+fn write_coils(client: &mut DeviceClient<'_>, wanted: &WriteTask<Coil>) -> Result<()> {
+    match wanted.values.as_slice() {
+        [state] => client.write_single_coil(wanted.first, *state),
+        states => client.write_multiple_coils(wanted.first, states),
+    }
+}
+
+/// Tells what came of a write; whether it was done.
+fn tell(
+    rt: &HostRuntime,
+    client: &DeviceClient<'_>,
+    device: Device,
+    began: Instant,
+    answer: &Result<()>,
+) -> bool {
+    let address = device.address;
+    match answer {
+        Ok(Ok(())) => true,
+        Ok(Err(code)) => {
+            let what = Refused(*code);
+            let _ = eprintln!(rt; "poller: {address}: {what}");
+            false
+        }
+        Err(error) => {
+            let what = NoAnswer {
+                error,
+                circumstances: circumstances(rt, client, device, began),
+            };
+            let _ = eprintln!(rt; "poller: {address}: {what}");
+            false
+        }
+    }
+}
+
+fn try_registers(rt: &HostRuntime, wanted: &WriteTask<Word>) -> io::Result<bool> {
+    let mut client = client_of(rt, wanted.device);
+    let began = Instant::now(rt)?;
+    let answer = write_registers(&mut client, wanted);
+    let is_done = tell(rt, &client, wanted.device, began, &answer);
+    let _ = client.disconnect();
+    Ok(is_done)
+}
+
+fn try_coils(rt: &HostRuntime, wanted: &WriteTask<Coil>) -> io::Result<bool> {
+    let mut client = client_of(rt, wanted.device);
+    let began = Instant::now(rt)?;
+    let answer = write_coils(&mut client, wanted);
+    let is_done = tell(rt, &client, wanted.device, began, &answer);
+    let _ = client.disconnect();
+    Ok(is_done)
+}
+
+/// Whether it was done, after telling why it was not.
+fn told(rt: &HostRuntime, tried: io::Result<bool>) -> bool {
+    match tried {
+        Ok(is_done) => is_done,
+        Err(error) => {
+            let _ = eprintln!(rt; "poller: {error}");
+            false
+        }
+    }
+}
+
+/// Writes the registers; whether it was done.
+pub fn registers(rt: &HostRuntime, wanted: &WriteTask<Word>) -> bool {
+    told(rt, try_registers(rt, wanted))
+}
+
+/// Writes the coils; whether it was done.
+pub fn coils(rt: &HostRuntime, wanted: &WriteTask<Coil>) -> bool {
+    told(rt, try_coils(rt, wanted))
+}
