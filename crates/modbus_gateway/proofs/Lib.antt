@@ -1,0 +1,5 @@
+pub mod Answering
+pub mod Behind
+pub mod Fitting
+pub mod Recording
+pub mod Forwarding

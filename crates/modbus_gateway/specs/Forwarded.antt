@@ -1,0 +1,92 @@
+-- What the gateway of one TCP connection does, in records.
+use Rattle.std.specs.Prelude.{◌≡◌, ◌≢◌, ◌⊎◌, ℕ, ◌<◌, List, [], ◌∷◌, ◌++◌, length, map, All, IsTrue, None, Result, Ok, Err}
+use Rattle.modbus_link.specs.Outside.{Input, Output, Rose}
+use Rattle.modbus_link.specs.Line.{LinkMeaning}
+use Rattle.modbus_link.specs.Reads.{totals}
+use Rattle.modbus_frame.specs.Meaning.{Asked}
+use Rattle.modbus_frame.specs.declared.tcp.Header.{Header}
+use Rattle.modbus_frame.specs.declared.fault.Reason.{Reason}
+use Rattle.modbus_pdu.specs.RequestOf.{request_of}
+use Rattle.modbus_tcp.specs.Adu.{stream_of, IsAdu}
+use Rattle.modbus_tcp.specs.Stream.{IsSplit, empty}
+use Rattle.modbus_server.specs.declared.error.ProcessError.{ProcessError}
+use Rattle.modbus_server.specs.declared.error.ProcessError.TheVariants.{ReadFault, WriteFault, TooManyRetries, BytesRemaining, InvalidRequest, ResponseTooLong, TurnLimit, InvalidLength, InvalidProtocol, NoMemory}
+use Rattle.modbus_server.specs.Complete.{IsCleanLine}
+use Rattle.modbus_server.specs.Exchanges.{asked_of}
+use Rattle.modbus_server.specs.Serving.{IsEndOf}
+use Rattle.modbus_server.specs.Stepping.{Ran}
+use Rattle.modbus_server.specs.Tcp.{tcp, AreAllAdus, IsNextAdu, IsFaultAfter}
+use Rattle.modbus_gateway.specs.Answer.{outcome_of}
+use Rattle.modbus_gateway.specs.Forwarding.{LineState, forwards}
+use Rattle.modbus_gateway.specs.Records.{line_of, LineRecord, Recorded, record_reply, replies}
+
+abbrev Adus : Type 0
+Adus = List (Header × List ℕ)
+
+-- what was asked in a record
+abbrev pub asked_by : LineRecord → Header × Result Asked Reason
+asked_by r = (r.header, Ok r.request)
+
+-- the bytes begin with these ADUs
+abbrev pub BeginWith : List ℕ → Adus → Type 0
+BeginWith bytes adus = (rest : List ℕ) × (bytes ≡ stream_of adus ++ rest) × All IsAdu adus
+
+-- Where a connection stops in the bytes that it was fed, after these ADUs: they are all, and how many bytes are left; or the next one is
+-- no request; or what follows has a fault of its header.
+abbrev pub StopsAfter : List ℕ → List ℕ → Adus → Result (Unit {0}) ProcessError → Type 0
+StopsAfter bytes cuts adus (Ok done) = IsSplit bytes adus [] empty
+StopsAfter bytes cuts adus (Err BytesRemaining) = (left : List ℕ) × (left ≢ []) × AreAllAdus bytes cuts left adus
+StopsAfter bytes cuts adus (Err ReadFault) = (left : List ℕ) × AreAllAdus bytes cuts left adus
+StopsAfter bytes cuts adus (Err TurnLimit) = (left : List ℕ) × AreAllAdus bytes cuts left adus
+StopsAfter bytes cuts adus (Err (InvalidRequest reason)) = (next : Header × List ℕ) × IsNextAdu bytes cuts adus next × (request_of next.1 ≡ Err reason)
+StopsAfter bytes cuts adus (Err InvalidLength) = IsFaultAfter bytes cuts adus InvalidLength
+StopsAfter bytes cuts adus (Err (InvalidProtocol protocol)) = IsFaultAfter bytes cuts adus (InvalidProtocol protocol)
+StopsAfter bytes cuts adus (Err WriteFault) = BeginWith bytes adus
+StopsAfter bytes cuts adus (Err NoMemory) = BeginWith bytes adus
+StopsAfter bytes cuts adus (Err TooManyRetries) = ⊥
+StopsAfter bytes cuts adus (Err (ResponseTooLong size)) = ⊥
+
+-- memory was not wanting in this record, and in the last of these records alone
+abbrev pub HasOutcome : LineRecord → Type 0
+HasOutcome r = outcome_of r.answer ≢ None
+
+abbrev pub LastWantsMemory : List LineRecord → Type 0
+LastWantsMemory records =
+    (earlier : List LineRecord) × (last : LineRecord) × (records ≡ earlier ++ last ∷ []) × All HasOutcome earlier × (outcome_of last.answer ≡ None)
+
+-- the reply to the last of them
+abbrev pub last_reply : List LineRecord → List ℕ
+last_reply [] = []
+last_reply (r ∷ []) = record_reply r
+last_reply (r ∷ s ∷ rs) = last_reply (s ∷ rs)
+
+-- What the TCP side was sent of the replies: all of them. Where its sink failed a rest of the last one is wanting; where memory was
+-- wanting in the last exchange that one has no reply.
+abbrev pub SendsAs : List LineRecord → List ℕ → Result (Unit {0}) ProcessError → Type 0
+SendsAs records sent (Err WriteFault) = All HasOutcome records × (waiting : List ℕ) × (sent ++ waiting ≡ replies records) × IsEndOf waiting (last_reply records)
+SendsAs records sent (Err NoMemory) = (All HasOutcome records ⊎ LastWantsMemory records) × (sent ≡ replies records)
+SendsAs records sent _ = All HasOutcome records × (sent ≡ replies records)
+
+-- By what the TCP side was fed and sent: there is one list of records, one for each ADU in order, joined from the line as it was to the
+-- line as it is.
+pub record InRecords {L : Type 0} (M : LinkMeaning L) (old new : LineState L) (fed cuts sent : List ℕ) (result : Result (Unit {0}) ProcessError) : Type 0 where
+  pub adus : Adus
+  pub records : List LineRecord
+  pub asked : map (asked_of tcp) adus ≡ map asked_by records
+  pub recorded : Recorded old.turns (line_of M old) records (line_of M new)
+  -- what only calls of the client set
+  pub turns : new.turns ≡ old.turns
+  pub timeout : new.timeout ≡ old.timeout
+  pub stops : StopsAfter fed cuts adus result
+  pub sends : SendsAs records sent result
+
+-- What the gateway of one TCP connection promises: all that a server of its answers promises, in records of the line.
+pub record Forwarded {L : Type 0} (M : LinkMeaning L) (old new : LineState L) (from to : Input) (sunk sinks : Output) (turns : ℕ) (result : Result (Unit {0}) ProcessError) : Type 0 where
+  pub ran : Ran tcp (forwards M) old new from to sunk sinks turns result
+  pub in_records : InRecords M old new ran.fed (totals ran.made) ran.sent result
+
+-- Completeness: a source that gives ADUs that are requests, with nothing behind them and in fewer bytes than there are turns, is forwarded to
+-- its end, whatever the line does, where neither the source nor the sink has a fault; or memory is wanting.
+abbrev pub IsForwarded : Input → Input → Output → Output → ℕ → Result (Unit {0}) ProcessError → Type 0
+IsForwarded from to sunk sinks turns result = IsTrue from.told → IsCleanLine tcp from.left → length from.left < turns
+    → (Rose from.faults to.faults → ⊥) → (Rose sunk.faults sinks.faults → ⊥) → (result ≡ Ok tt) ⊎ (result ≡ Err NoMemory)

@@ -1,0 +1,4 @@
+pub mod Answer
+pub mod Forwarding
+pub mod Records
+pub mod Forwarded
