@@ -8,9 +8,6 @@ use std::alloc::{AllocError, Global};
 use std::env::{Env, FillError};
 use std::process::ExitCode;
 
-/// One word more than the longest form of the program has.
-const MOST_WORDS: usize = 4;
-
 /// The bytes of the longest word of a form, and some more.
 const LONGEST_WORD: usize = 16;
 
@@ -22,13 +19,13 @@ fn text_of(alloc: Global, word: &[u8]) -> Result<String, AllocError> {
     }
 }
 
-/// The words after the program's name, which may have any bytes: as many as tell whether they are a form. A word that is longer than each
-/// word of a form, or that is not UTF-8, is empty.
+/// The words after the program's name, which may have any bytes. A word that is longer than each word of a form, or that is not UTF-8, is
+/// empty.
 fn args(rt: &HostRuntime) -> Result<Vec<String>, AllocError> {
     let mut words = Vec::new(rt.alloc());
-    for place in 0..MOST_WORDS {
+    for place in 1..usize::MAX {
         let mut room = [0; LONGEST_WORD];
-        match rt.arg(place + 1, &mut room) {
+        match rt.arg(place, &mut room) {
             Ok(length) => words.push(text_of(rt.alloc(), &room[..length])?)?,
             Err(FillError::TooLong) => words.push(String::new(rt.alloc()))?,
             Err(FillError::NotPresent) => break,

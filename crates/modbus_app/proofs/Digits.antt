@@ -1,7 +1,7 @@
 -- A text with a byte that is no digit.
 use Rattle.std.proofs.Common.{◌≡◌, ℕ, ◌<◌, zero, suc, Bool, true, false, ◌&&◌, List, [], ◌∷◌, length, get_or, refl, ap, ◌∙◌, arith}
 use Rattle.std.specs.Prelude.{fold}
-use Rattle.modbus_app.specs.Words.{is_digit}
+use Rattle.modbus_app.specs.Number.{is_digit}
 
 stays : (text : List ℕ) → fold (λ (all : Bool) (byte : ℕ). all && is_digit byte) false text ≡ false
 stays [] = refl

@@ -5,3 +5,4 @@ pub mod ServingLinks
 pub mod SingleWrites
 pub mod Making
 pub mod Unspawned
+pub mod Planned

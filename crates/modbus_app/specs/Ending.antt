@@ -1,11 +1,13 @@
 -- How the program ends.
-use Rattle.std.specs.Prelude.{◌≡◌, ◌⊎◌, ℕ, Some, Result, Ok, Err}
+use Rattle.std.specs.Prelude.{◌≡◌, ◌⊎◌, ℕ, List, Some, Result, Ok, Err}
 use Rattle.modbus_link.specs.Outside.{Input, Output}
 use Rattle.modbus_server.specs.declared.error.ProcessError.{ProcessError}
 use Rattle.modbus_server.specs.declared.error.ProcessError.TheVariants.{NoMemory}
 use Rattle.modbus_app.specs.declared.words.Form.{Form}
 use Rattle.modbus_app.specs.Device.{Serves}
 use Rattle.modbus_app.specs.Make.{SumsUp}
+use Rattle.modbus_app.specs.Plan.{TellsPlan}
+use Rattle.modbus_poll.specs.declared.item.Item.{Item}
 use Rattle.modbus_app.specs.Status.{ending_of, line_of, usage_line, Reports}
 
 -- the words are no form: nothing was read or written, and the line was told
@@ -37,4 +39,12 @@ pub record Makes (count : ℕ) (from to : Input) (sunk sinks said told : Output)
   pub is : ending_of result ≡ Some status
   pub unread : to ≡ from
   pub sums : SumsUp count sunk sinks result
+  pub tells : TellsResult said told result
+
+-- The plan for these items was told, and nothing was read.
+pub record Plans (items : List Item) (from to : Input) (sunk sinks said told : Output) (status : ℕ) : Type 0 where
+  pub result : Result (Unit {0}) ProcessError
+  pub is : ending_of result ≡ Some status
+  pub unread : to ≡ from
+  pub plan : TellsPlan items sunk sinks result
   pub tells : TellsResult said told result

@@ -1,3 +1,5 @@
+pub mod Number
+pub mod Plan
 pub mod Words
 pub mod Device
 pub mod Status

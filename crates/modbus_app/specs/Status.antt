@@ -29,7 +29,7 @@ ending_of (Ok done) = Some 0
 ending_of (Err error) = status_of error
 
 abbrev pub usage_line : List ℕ
-usage_line = codes "modbus: usage: rtu [size [seeded]] | tcp [size] | make n | listen-rtu port | listen-tcp port | ascii [size]\n"
+usage_line = codes "modbus: usage: rtu [size [seeded]] | tcp [size] | make n | listen-rtu port | listen-tcp port | ascii [size] | plan [address:width ..]\n"
 
 abbrev pub reason_text : Reason → List ℕ
 reason_text reason.UnexpectedEnd = codes "unexpected end"

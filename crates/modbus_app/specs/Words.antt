@@ -1,5 +1,5 @@
 -- The words of the command line.
-use Rattle.std.specs.Prelude.{ℕ, ◌≤◌, ◌+◌, ◌-◌, ◌*◌, ◌&&◌, nat_le, Bool, true, false, List, [], ◌∷◌, map, fold, length, codes, String, string_bytes, Option, Some, None, if◌then◌else◌}
+use Rattle.std.specs.Prelude.{ℕ, ◌≤◌, ◌&&◌, Bool, true, false, List, [], ◌∷◌, map, codes, String, string_bytes, Option, Some, None, if◌then◌else◌}
 use Rattle.std.specs.Str.{bytes_eq}
 use Rattle.std.specs.declared.alloc.Global.{Global}
 use Rattle.modbus_app.specs.declared.words.Framing.{Framing}
@@ -7,25 +7,9 @@ use Rattle.modbus_app.specs.declared.words.Framing.TheVariants.{Rtu, Tcp}
 use Rattle.modbus_app.specs.declared.words.Mode.{Mode}
 use Rattle.modbus_app.specs.declared.words.Mode.TheVariants as mode
 use Rattle.modbus_app.specs.declared.words.Task.{Task}
-use Rattle.modbus_app.specs.declared.words.Task.TheVariants.{Serve, Make, Listen}
-
--- an ASCII digit
-abbrev pub is_digit : ℕ → Bool
-is_digit byte = nat_le 48 byte && nat_le byte 57
-
--- every byte is one
-abbrev pub are_digits : List ℕ → Bool
-are_digits text = fold (λ all byte. all && is_digit byte) true text
-
--- the number that digits show, in decimal
-abbrev pub number : List ℕ → ℕ
-number text = fold (λ value byte. value * 10 + (byte - 48)) 0 text
-
--- the number that a word shows: one digit to so many, of a value from the least to the most
-abbrev pub number_within : ℕ → ℕ → ℕ → List ℕ → Option ℕ
-number_within digits least most text =
-    if nat_le 1 (length text) && nat_le (length text) digits && are_digits text && nat_le least (number text) && nat_le (number text) most
-    then Some (number text) else None
+use Rattle.modbus_app.specs.declared.words.Task.TheVariants.{Serve, Make, Listen, Plan}
+use Rattle.modbus_app.specs.Number.{number_within}
+use Rattle.modbus_app.specs.Plan.{are_items}
 
 -- the most entries of a table: one for each address
 abbrev pub most_entries : ℕ
@@ -64,15 +48,18 @@ abbrev pub listened_to : Framing → Option ℕ → Option Task
 listened_to framing (Some port) = Some (Listen framing port)
 listened_to framing None = None
 
--- what the words ask for: `rtu`, `rtu size`, `rtu size seeded`, `tcp`, `tcp size`, `ascii`, `ascii size`, `make n`, `listen-rtu port` or
--- `listen-tcp port`
-abbrev pub task_of : List (List ℕ) → Option Task
-task_of (word ∷ []) =
+-- `plan` and any number of items
+abbrev pub planned : List (List ℕ) → Option Task
+planned words = if are_items words then Some Plan else None
+
+-- `rtu`, `rtu size`, `rtu size seeded`, `tcp`, `tcp size`, `ascii`, `ascii size`, `make n`, `listen-rtu port` or `listen-tcp port`
+abbrev pub form_of : List (List ℕ) → Option Task
+form_of (word ∷ []) =
     if bytes_eq word (codes "rtu") then served mode.Rtu (Some default_size) false else
     if bytes_eq word (codes "ascii") then served mode.Ascii (Some default_size) false else
     if bytes_eq word (codes "tcp") then served mode.Tcp (Some default_size) false else
     None
-task_of (word ∷ argument ∷ []) =
+form_of (word ∷ argument ∷ []) =
     if bytes_eq word (codes "rtu") then served mode.Rtu (size_named argument) false else
     if bytes_eq word (codes "ascii") then served mode.Ascii (size_named argument) false else
     if bytes_eq word (codes "tcp") then served mode.Tcp (size_named argument) false else
@@ -80,9 +67,14 @@ task_of (word ∷ argument ∷ []) =
     if bytes_eq word (codes "listen-rtu") then listened_to Rtu (port_named argument) else
     if bytes_eq word (codes "listen-tcp") then listened_to Tcp (port_named argument) else
     None
-task_of (word ∷ size ∷ last ∷ []) =
+form_of (word ∷ size ∷ last ∷ []) =
     if bytes_eq word (codes "rtu") && bytes_eq last (codes "seeded") then served mode.Rtu (size_named size) true else None
-task_of _ = None
+form_of _ = None
+
+-- what the words ask for
+abbrev pub task_of : List (List ℕ) → Option Task
+task_of [] = None
+task_of (word ∷ words) = if bytes_eq word (codes "plan") then planned words else form_of (word ∷ words)
 
 abbrev pub asked : List (String Global) → Option Task
 asked words = task_of (map string_bytes words)
@@ -103,3 +95,4 @@ abbrev pub IsWithinLimits : Task → Type 0
 IsWithinLimits (Serve form) = form.size ≤ most_entries
 IsWithinLimits (Make count) = count ≤ most_requests
 IsWithinLimits (Listen framing port) = port ≤ 65535
+IsWithinLimits Plan = Unit {0}

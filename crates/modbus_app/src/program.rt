@@ -1,5 +1,5 @@
 //! The top call.
-ghost use Rattle.std.specs.Prelude.{◌≡◌, ◌≢◌, ◌↔◌, ◌⊎◌, ◌<◌, ◌≤◌, ◌-◌, ◌^◌, ℕ, [], Ok, Err, Some, None, IsTrue, length};
+ghost use Rattle.std.specs.Prelude.{◌≡◌, ◌≢◌, ◌↔◌, ◌⊎◌, ◌<◌, ◌≤◌, ◌-◌, ◌^◌, ℕ, [], Ok, Err, Some, None, IsTrue, length, map, string_bytes};
 ghost use Rattle.modbus_link.specs.Outside.{Input, Rose, bytes_appended, cuts_made};
 ghost use Rattle.modbus_link.specs.Reads.{totals};
 ghost use Rattle.modbus_server.specs.declared.error.ProcessError.TheVariants.{ResponseTooLong};
@@ -8,13 +8,15 @@ ghost use Rattle.modbus_server.specs.Stepping.{Ran};
 ghost use Rattle.modbus_store.specs.Step.{device};
 ghost use Rattle.modbus_app.specs.Words.{asked, most_entries, most_requests, IsUsage};
 ghost use Rattle.modbus_app.specs.declared.words.Form.{Form};
-ghost use Rattle.modbus_app.specs.declared.words.Task.TheVariants.{Serve, Make};
+ghost use Rattle.modbus_app.specs.declared.words.Task.TheVariants.{Serve, Make, Plan};
 ghost use Rattle.modbus_app.specs.Device.{EndsServing, messages_of};
 ghost use Rattle.modbus_app.specs.Make.{summary};
-ghost use Rattle.modbus_app.specs.Ending.{IsUsageFault, Ends, Makes};
+ghost use Rattle.modbus_app.specs.Ending.{IsUsageFault, Ends, Makes, Plans};
+ghost use Rattle.modbus_app.specs.Plan.{items_named};
 
 use crate::device::open;
 use crate::make::make;
+use crate::plan::tell_plan;
 use crate::status::{NO_MEMORY, USAGE, USAGE_LINE, report, report_fault, status};
 use crate::words::{Form, Mode, Task, read_words};
 use modbus_ascii::ascii;
@@ -94,11 +96,30 @@ fn sum_up<K: Sink, E: Sink>(alloc: Global, count: u32, sink: &mut K, errors: &mu
     }
 }
 
+/// Appends the plan for the items that words name to the sink, and answers the status, which it tells.
+fn plan<K: Sink, E: Sink>(alloc: Global, words: &[String], sink: &mut K, errors: &mut E) -> u8
+    ensures not_usage { result ≢ 2 }
+    ensures plans { (input : Input) → Plans (items_named (map string_bytes words.now)) input input
+        (K.output sink.old) (K.output sink.new) (E.output errors.old) (E.output errors.new) result }
+{
+    match tell_plan(alloc, words, sink) {
+        Ok(()) => 0,
+        Err(error) => {
+            report_fault(errors, error);
+            status(error)
+        }
+    }
+}
+
 /// Runs the program with the words after its name, and answers its status.
 ///
 /// With the words `rtu`, `rtu size` or `rtu size seeded` it serves RTU frames, with a device of four tables of so many entries (1024
 /// where no size is given), which hold 0 at first or a pattern; a broadcast has its effect and no answer. With `ascii` or `ascii size` it
 /// serves ASCII frames in the same way. With `tcp` or `tcp size` it serves ADUs with an MBAP header, and unit 0 is answered like any other.
+///
+/// With `plan` and any number of items `address:width` it writes the reads of few registers that give all these items, as
+/// `modbus_poll::plan_reads` plans them: `read`, the address and the count of each on a line, and `reads` and how many they are. The input
+/// is not read, and there are the statuses 0, 4 and 11 alone.
 ///
 /// With `make n` it makes n requests, serves them over memory with a device of its own, and writes a summary of the replies: how many
 /// requests, how many bytes, and the sum of these bytes. The input is not read, and there are the statuses 0, 4 and 11 alone.
@@ -155,10 +176,16 @@ pub fn run<S: Source, K: Sink, E: Sink>(
     ensures made_unless { (count : ℕ) → asked words.now ≡ Some (Make count)
         → (Rose (K.output sink.old).faults (K.output sink.new).faults → ⊥)
         → (result ≡ 0) ⊎ (result ≡ 11) }
+
+    // Of `plan`, the reads of the plan for the items were told, each on a line, and how many they are; nothing was read, and there is no
+    // fault but one of the sink.
+    ensures plans { asked words.now ≡ Some Plan → Plans (items_named (map string_bytes words.now)) (S.input source.old) (S.input source.new)
+        (K.output sink.old) (K.output sink.new) (E.output errors.old) (E.output errors.new) result }
 {
     match read_words(words) {
         Some(Task::Serve(form)) => serve_form(alloc, form, source, sink, errors),
         Some(Task::Make(count)) => sum_up(alloc, count, sink, errors),
+        Some(Task::Plan) => plan(alloc, words, sink, errors),
         Some(Task::Listen(_, _)) | None => {
             report(errors, USAGE_LINE);
             USAGE

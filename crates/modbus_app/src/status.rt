@@ -34,7 +34,7 @@ pub const BIND_LINE: &str = "modbus: bind fault\n";
 
 /// The line of a usage fault.
 pub const USAGE_LINE: &str =
-    "modbus: usage: rtu [size [seeded]] | tcp [size] | make n | listen-rtu port | listen-tcp port | ascii [size]\n";
+    "modbus: usage: rtu [size [seeded]] | tcp [size] | make n | listen-rtu port | listen-tcp port | ascii [size] | plan [address:width ..]\n";
 
 /// The length of the longest line of another protocol.
 const PROTOCOL_LINE: usize = 31;

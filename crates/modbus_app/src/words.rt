@@ -1,44 +1,17 @@
 //! The words of the command line.
-ghost use Rattle.std.specs.Prelude.{◌≡◌, ◌≤◌, ◌∷◌, [], length, map, IfSome, Some, None, if◌then◌else◌, string_bytes};
-ghost use Rattle.modbus_app.specs.Words.{are_digits, number, number_within, size_named, count_named, port_named, served, made, listened_to, task_of, asked, listened, most_entries, most_requests, IsWithinLimits};
+ghost use Rattle.std.specs.Prelude.{◌≡◌, ◌≤◌, ◌∷◌, [], map, IfSome, string_bytes};
+ghost use Rattle.modbus_app.specs.Plan.{are_items};
+ghost use Rattle.modbus_app.specs.Words.{size_named, count_named, port_named, served, made, listened_to, planned, form_of, asked, listened, most_entries, most_requests, IsWithinLimits};
 
-/// The number that these digits show; `None` where there is another byte.
-pub fn number_of(text: &[u8]) -> Option<u32>
-    requires { length text.now ≤ 7 }
-    ensures { result ≡ (if are_digits text.now then Some (number text.now) else None) }
-{
-    let mut value: u32 = 0;
-    for byte in text {
-        if !byte.is_ascii_digit() {
-            return None;
-        }
-        value = value * 10 + u32::from(*byte - b'0');
-    }
-    Some(value)
-}
-
-/// The number that a word shows: one digit to so many, of a value from `least` to `most`.
-fn number_within(word: &str, digits: usize, least: u32, most: u32) -> Option<u32>
-    requires { digits ≤ 7 }
-    ensures exact { result ≡ number_within digits least most word.now }
-    ensures most { IfSome result (λ number. number ≤ most) }
-{
-    let text = word.as_bytes();
-    if text.is_empty() || text.len() > digits {
-        return None;
-    }
-    match number_of(text) {
-        Some(number) if number >= least && number <= most => Some(number),
-        _ => None,
-    }
-}
+use crate::number::number_within;
+use crate::plan::item_of_word;
 
 /// The size of a table that a word shows: one to five digits, of a value from 1 to 65536.
 fn table_size(word: &str) -> Option<u32>
     ensures exact { result ≡ size_named word.now }
     ensures most { IfSome result (λ size. size ≤ most_entries) }
 {
-    number_within(word, 5, 1, 0x10000)
+    number_within(word.as_bytes(), 5, 1, 0x10000)
 }
 
 /// How many requests a word asks for: one to seven digits, of a value from 1 to 1,000,000.
@@ -46,14 +19,14 @@ fn request_count(word: &str) -> Option<u32>
     ensures exact { result ≡ count_named word.now }
     ensures most { IfSome result (λ count. count ≤ most_requests) }
 {
-    number_within(word, 7, 1, 1_000_000)
+    number_within(word.as_bytes(), 7, 1, 1_000_000)
 }
 
 /// The port that a word shows: one to five digits, of a value up to 65535.
 fn port_number(word: &str) -> Option<u16>
     ensures { result ≡ port_named word.now }
 {
-    match number_within(word, 5, 0, 0xFFFF) {
+    match number_within(word.as_bytes(), 5, 0, 0xFFFF) {
         Some(port) if port <= 0xFFFF => Some(port as u16),
         _ => None,
     }
@@ -99,6 +72,8 @@ pub enum Task {
     Make(u32),
     /// It listens on this port, and serves each connection in this framing.
     Listen(Framing, u16),
+    /// It plans the reads of the items that the words name.
+    Plan,
 }
 
 /// The entries of a table where no size is given.
@@ -139,8 +114,31 @@ fn listen(framing: Framing, port: Option<u16>) -> Option<Task>
     }
 }
 
+/// Whether each of these words names an item.
+fn are_items(words: &[String]) -> bool
+    ensures { result ≡ are_items (map string_bytes words.now) }
+{
+    let mut all = true;
+    for word in words {
+        all = all && item_of_word(word.as_str()).is_some();
+    }
+    all
+}
+
+/// Planning, where each of these words names an item.
+fn plan(words: &[String]) -> Option<Task>
+    ensures exact { result ≡ planned (map string_bytes words.now) }
+    ensures limits { IfSome result IsWithinLimits }
+{
+    if are_items(words) {
+        Some(Task::Plan)
+    } else {
+        None
+    }
+}
+
 fn one_word(word: &str) -> Option<Task>
-    ensures exact { result ≡ task_of (word.now ∷ []) }
+    ensures exact { result ≡ form_of (word.now ∷ []) }
     ensures limits { IfSome result IsWithinLimits }
 {
     if word == "rtu" {
@@ -156,7 +154,7 @@ fn one_word(word: &str) -> Option<Task>
 }
 
 fn two_words(word: &str, argument: &str) -> Option<Task>
-    ensures exact { result ≡ task_of (word.now ∷ argument.now ∷ []) }
+    ensures exact { result ≡ form_of (word.now ∷ argument.now ∷ []) }
     ensures limits { IfSome result IsWithinLimits }
 {
     if word == "rtu" {
@@ -181,7 +179,7 @@ fn two_words(word: &str, argument: &str) -> Option<Task>
 }
 
 fn three_words(word: &str, size: &str, last: &str) -> Option<Task>
-    ensures exact { result ≡ task_of (word.now ∷ size.now ∷ last.now ∷ []) }
+    ensures exact { result ≡ form_of (word.now ∷ size.now ∷ last.now ∷ []) }
     ensures limits { IfSome result IsWithinLimits }
 {
     if word != "rtu" || last != "seeded" {
@@ -190,10 +188,9 @@ fn three_words(word: &str, size: &str, last: &str) -> Option<Task>
     serve(Mode::Rtu, table_size(size), true)
 }
 
-/// What the words ask for: `rtu`, `rtu size`, `rtu size seeded`, `tcp`, `tcp size`, `ascii` or `ascii size` to serve, `make n` to make
-/// requests, `listen-rtu port` or `listen-tcp port` to listen; `None` where they are no such form. It takes no memory.
-pub fn read_words(words: &[String]) -> Option<Task>
-    ensures exact { result ≡ asked words.now }
+/// What words ask for that are no plan.
+fn other_words(words: &[String]) -> Option<Task>
+    ensures exact { result ≡ form_of (map string_bytes words.now) }
     ensures limits { IfSome result IsWithinLimits }
 {
     match words {
@@ -201,6 +198,19 @@ pub fn read_words(words: &[String]) -> Option<Task>
         [word, argument] => two_words(word.as_str(), argument.as_str()),
         [word, size, last] => three_words(word.as_str(), size.as_str(), last.as_str()),
         _ => None,
+    }
+}
+
+/// What the words ask for: `rtu`, `rtu size`, `rtu size seeded`, `tcp`, `tcp size`, `ascii` or `ascii size` to serve, `make n` to make
+/// requests, `listen-rtu port` or `listen-tcp port` to listen, `plan` with any number of items `address:width` to plan reads; `None` where
+/// they are no such form. It takes no memory.
+pub fn read_words(words: &[String]) -> Option<Task>
+    ensures exact { result ≡ asked words.now }
+    ensures limits { IfSome result IsWithinLimits }
+{
+    match words {
+        [word, items @ ..] if word.as_str() == "plan" => plan(items),
+        _ => other_words(words),
     }
 }
 

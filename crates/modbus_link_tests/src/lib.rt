@@ -1,5 +1,5 @@
-//! Tests of the public calls of modbus_link: sources, sinks and links in memory, the adapters, links that may not be ready, real
-//! connections on the loopback interface, and signals to stop.
+//! Tests of the public calls of modbus_link: sources, sinks and links in memory, the adapters, links that may not be ready or tell
+//! silence, real connections on the loopback interface, and signals to stop.
 #![tactic(auto)]
 
 #[cfg(test)]
@@ -10,6 +10,8 @@ mod check;
 mod memory;
 #[cfg(test)]
 mod polled;
+#[cfg(test)]
+mod silence;
 #[cfg(test)]
 mod stops;
 #[cfg(test)]

@@ -10,13 +10,14 @@ use std::test::Fail;
 use std::time::Duration;
 
 /// A stream, another handle of it, and its peer.
-struct Pair {
-    stream: TcpStream,
-    handle: TcpStream,
-    peer: TcpStream,
+#[derive(Drop)]
+pub struct Pair {
+    pub stream: TcpStream,
+    pub handle: TcpStream,
+    pub peer: TcpStream,
 }
 
-fn open_pair<R: Net<Listener = TcpListener, Stream = TcpStream>>(rt: &R) -> IoResult<Pair> {
+pub fn open_pair<R: Net<Listener = TcpListener, Stream = TcpStream>>(rt: &R) -> IoResult<Pair> {
     let listener = TcpListener::bind(rt, "127.0.0.1:0")?;
     let stream = TcpStream::connect(rt, listener.local_addr()?)?;
     let handle = stream.try_clone()?;

@@ -1,4 +1,4 @@
-//! Four passes that call a shared store at one time: what each is answered, and where its calls stand in the history.
+//! Eight passes that call a shared store at one time, each on a thread: what each is answered, and where its calls stand in the history.
 
 use modbus_frame::{Request, Response, SlaveRequest, Words};
 use modbus_service::Service;
@@ -9,21 +9,22 @@ use std::alloc::{AllocError, Global};
 use std::sync::Wait;
 use std::sync::atomic::{AtomicU32, Ordering};
 use std::test::Fail;
-use std::thread::{Threads, map_vec, sleep};
+use std::thread;
+use std::thread::{Threads, sleep};
 use std::time::{Clock, Duration};
 
 const SIZES: Sizes = Sizes {
     coils: 1,
     discrete_inputs: 1,
-    holding_registers: 8,
+    holding_registers: 9,
     input_registers: 1,
 };
 
 /// How many passes call.
-const PASSES: u32 = 4;
+const PASSES: u32 = 8;
 
 /// How many calls each makes.
-const CALLS: u16 = 100;
+const CALLS: u16 = 50;
 
 /// How many calls a pass has made when it waits until each of the others has made as many.
 const MEETING: u16 = 10;
@@ -132,11 +133,29 @@ fn calls_in_order(alloc: Global, history: &History, number: u16) -> Option<u16> 
     Some(made)
 }
 
-/// How many calls the pass has seen that has seen the most, and the history.
-fn calls_of_four<R: Threads + Wait + Clock + Sync>(
+/// Makes the calls of each job on a thread of its own. How many calls the pass has seen that has seen the most; none where a thread or
+/// memory was refused, or a call was not answered so.
+fn work_at_once<R: Threads + Wait + Clock + Sync>(
     rt: &R,
     alloc: Global,
-) -> Option<(u64, History)> {
+    jobs: Vec<Job<'_, R>>,
+) -> Option<u64> {
+    thread::scope(thread::scope_env(), rt, move |scope| -> Option<u64> {
+        let mut threads = Vec::new(alloc);
+        for job in jobs {
+            let thread = scope.spawn(move || work(rt, alloc, job)).ok()?;
+            threads.push(thread).ok()?;
+        }
+        let mut seen = 0;
+        for thread in threads {
+            seen = seen.max(thread.join(rt)?.seen());
+        }
+        Some(seen)
+    })
+}
+
+/// How many calls the pass has seen that has seen the most, and the history.
+fn calls_of_all<R: Threads + Wait + Clock + Sync>(rt: &R, alloc: Global) -> Option<(u64, History)> {
     let store = RegisterStore::new(alloc, SIZES, false).ok()?;
     let (table, mut first) = StoreTable::open(alloc, store).ok()?;
     let met = AtomicU32::new(0);
@@ -150,11 +169,7 @@ fn calls_of_four<R: Threads + Wait + Clock + Sync>(
         };
         jobs.push(job).ok()?;
     }
-    let done = map_vec(rt, jobs, &|job: Job<'_, R>| work(rt, alloc, job)).ok()?;
-    let mut seen = 0;
-    for pass in done {
-        seen = seen.max(pass?.seen());
-    }
+    let seen = work_at_once(rt, alloc, jobs)?;
     let ClosedStore {
         store: _,
         history,
@@ -164,13 +179,13 @@ fn calls_of_four<R: Threads + Wait + Clock + Sync>(
 }
 
 #[test]
-fn four_passes_call_at_one_time(rt: HostRuntime) -> Result<(), Fail> {
+fn eight_passes_call_at_one_time(rt: HostRuntime) -> Result<(), Fail> {
     let alloc = rt.alloc();
-    let Some((seen, history)) = calls_of_four(&rt, alloc) else {
+    let Some((seen, history)) = calls_of_all(&rt, alloc) else {
         panic!(rt; "each call was answered, and the threads met")
     };
     assert_eq!(rt; (seen, history.len()), (400, 400));
-    for number in 1..5 {
+    for number in 1..9 {
         assert_eq!(rt; calls_in_order(alloc, &history, number), Some(CALLS));
     }
     Ok(())

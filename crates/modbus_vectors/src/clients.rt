@@ -116,6 +116,22 @@ fn rtu_calls(
     Ok(Some(text))
 }
 
+/// The answers of a client to steps with commas between them.
+fn answers<C: Client>(
+    alloc: Global,
+    client: &mut C,
+    steps: &str,
+) -> Result<Option<String>, AllocError> {
+    let mut text = String::new(alloc);
+    for word in steps.split(',') {
+        let Some(found) = step(alloc, client, word)? else {
+            return Ok(None);
+        };
+        push(&mut text, found.as_str())?;
+    }
+    Ok(Some(text))
+}
+
 fn tcp_calls(
     alloc: Global,
     slave: u8,
@@ -123,13 +139,24 @@ fn tcp_calls(
     link: MemoryLink,
 ) -> Result<Option<String>, AllocError> {
     let mut client = tcp::attach_slave(alloc, link, Slave(slave));
-    let mut text = String::new(alloc);
-    for word in steps.split(',') {
-        let Some(found) = step(alloc, &mut client, word)? else {
-            return Ok(None);
-        };
-        push(&mut text, found.as_str())?;
-    }
+    let Some(mut text) = answers(alloc, &mut client, steps)? else {
+        return Ok(None);
+    };
+    let held = client.held();
+    text.push_str(left(alloc, client.link(), held)?.as_str())?;
+    Ok(Some(text))
+}
+
+fn matching_calls(
+    alloc: Global,
+    slave: u8,
+    steps: &str,
+    link: MemoryLink,
+) -> Result<Option<String>, AllocError> {
+    let mut client = tcp::attach_matching(alloc, link, Slave(slave));
+    let Some(mut text) = answers(alloc, &mut client, steps)? else {
+        return Ok(None);
+    };
     let held = client.held();
     text.push_str(left(alloc, client.link(), held)?.as_str())?;
     Ok(Some(text))
@@ -194,6 +221,23 @@ fn tcp_polled(
     }
 }
 
+fn matching_polled(
+    alloc: Global,
+    slave: u8,
+    request: Request<'_>,
+    outside: Outside,
+) -> Result<Option<String>, AllocError> {
+    let mut link = outside.into_polled_link(alloc)?;
+    let header = modbus_frame::tcp::Header {
+        transaction_id: 1,
+        unit_id: slave,
+    };
+    match tcp::MatchingCall::new(alloc, header, request, 2) {
+        Ok(opened) => polled(alloc, opened, &mut link),
+        Err(error) => not_opened(alloc, error),
+    }
+}
+
 /// The answer of a seeded store of eight entries a table, which takes part in broadcasts.
 fn exchanged(alloc: Global, slave: u8, request: Request<'_>) -> Result<Option<String>, AllocError> {
     let form = Form {
@@ -220,8 +264,8 @@ fn exchanged_words(
     Ok(Some(format!(in alloc; "{answer} asked {calls}")?))
 }
 
-/// `rtu_polled`, `tcp_polled` (of transaction 1), `exchange` or `exchange_words`, a slave, the PDU of a request, and the outside, or how many
-/// registers the service answers. A polled call has two turns.
+/// `rtu_polled`, `tcp_polled` or `matching_polled` (of transaction 1), `exchange` or `exchange_words`, a slave, the PDU of a request, and the
+/// outside, or how many registers the service answers. A polled call has two turns.
 fn one_call(
     alloc: Global,
     call: &str,
@@ -249,11 +293,12 @@ fn one_call(
     match call {
         "rtu_polled" => rtu_polled(alloc, slave, request, outside),
         "tcp_polled" => tcp_polled(alloc, slave, request, outside),
+        "matching_polled" => matching_polled(alloc, slave, request, outside),
         _ => Ok(None),
     }
 }
 
-/// `rtu_call` or `tcp_call`, a slave, steps with commas between them, and the outside of the link; or what `one_call` has.
+/// `rtu_call`, `tcp_call` or `matching_call`, a slave, steps with commas between them, and the outside of the link; or what `one_call` has.
 pub fn answer(alloc: Global, call: &str, words: &[&str]) -> Result<Option<String>, AllocError> {
     let [slave, asked, words @ ..] = words else {
         return Ok(None);
@@ -264,15 +309,16 @@ pub fn answer(alloc: Global, call: &str, words: &[&str]) -> Result<Option<String
     let Ok(slave) = u8::try_from(slave) else {
         return Ok(None);
     };
-    if call != "rtu_call" && call != "tcp_call" {
+    if call != "rtu_call" && call != "tcp_call" && call != "matching_call" {
         return one_call(alloc, call, slave, asked, words);
     }
     let Some(outside) = read_outside(alloc, words)? else {
         return Ok(None);
     };
-    if call == "rtu_call" {
-        rtu_calls(alloc, slave, asked, outside.into_link())
-    } else {
-        tcp_calls(alloc, slave, asked, outside.into_link())
+    let link = outside.into_link();
+    match call {
+        "rtu_call" => rtu_calls(alloc, slave, asked, link),
+        "tcp_call" => tcp_calls(alloc, slave, asked, link),
+        _ => matching_calls(alloc, slave, asked, link),
     }
 }

@@ -1,8 +1,8 @@
 use Rattle.std.proofs.Common.{rules, ◌≡◌, ◌<◌, ◌≤◌, ◌^◌, Bool, false, true, length, get_or, Some, None, if◌then◌else◌, sym, ap, arith, ℕ}
 use Rattle.std.proofs.Math.Nat.{pow-le-pow_right}
-use Rattle.modbus_app.specs.Words.{is_digit, number}
+use Rattle.modbus_app.specs.Number.{is_digit, number}
 use Rattle.modbus_app.proofs.Digits.{not_digits}
-use Rattle.modbus_app.proofs.words.number_of.Goals as goal
+use Rattle.modbus_app.proofs.number.number_of.Goals as goal
 
 -- seven digits at most
 at_most_six : (index : ℕ) → index < 7 → 10 ^ index ≤ 1000000

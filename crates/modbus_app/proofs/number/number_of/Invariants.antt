@@ -1,6 +1,6 @@
 use Rattle.std.proofs.Common.{◌≡◌, ◌<◌, ◌^◌, true, take}
-use Rattle.modbus_app.specs.Words.{are_digits, number}
-use Rattle.modbus_app.proofs.words.number_of.Given as goal
+use Rattle.modbus_app.specs.Number.{are_digits, number}
+use Rattle.modbus_app.proofs.number.number_of.Given as goal
 
 abbrev pub invariant-loop-byte : goal.invariant-loop-byte
 invariant-loop-byte l = record {
