@@ -1,7 +1,7 @@
 //! The program: a Modbus server over its standard streams, or over TCP.
 #![tactic(auto)]
 
-use modbus_app::{listening, port, run};
+use modbus_app::{forwarding, listening, port, run};
 use modbus_link::{ReadSource, WriteSink};
 use modbus_server::ProcessError;
 use std::alloc::{AllocError, Global};
@@ -50,6 +50,17 @@ fn main(rt: HostRuntime) -> ExitCode {
             |_error: ProcessError| {},
             errors,
             notes,
+        );
+        return ExitCode::from(status);
+    }
+    if let Some(port) = forwarding(&words) {
+        let status = port::forward(
+            &rt,
+            rt.alloc(),
+            port,
+            &mut ReadSource::new(rt.stdin()),
+            &mut WriteSink::new(rt.stdout()),
+            &mut errors,
         );
         return ExitCode::from(status);
     }

@@ -12,7 +12,7 @@ use Rattle.modbus_store.specs.Tables.{Tables}
 use Rattle.modbus_store.specs.Step.{device}
 use Rattle.modbus_app.specs.declared.words.Form.{Form}
 use Rattle.modbus_app.specs.declared.words.Task.{Task}
-use Rattle.modbus_app.specs.declared.words.Task.TheVariants.{Serve, Make, Listen, Plan}
+use Rattle.modbus_app.specs.declared.words.Task.TheVariants.{Serve, Make, Listen, Forward, Plan}
 use Rattle.modbus_app.specs.Make.{SumsUp, summary}
 use Rattle.modbus_app.specs.Device.{EndsServing, Serves, messages_of, opening}
 use Rattle.modbus_app.specs.Ending.{Ends, Makes, TellsResult}
@@ -23,6 +23,7 @@ count_or other None = other
 count_or other (Some (Serve form)) = other
 count_or other (Some (Make count)) = count
 count_or other (Some (Listen framing port)) = other
+count_or other (Some (Forward port)) = other
 count_or other (Some Plan) = other
 
 -- words have one number

@@ -41,6 +41,13 @@ pub record Makes (count : ℕ) (from to : Input) (sunk sinks said told : Output)
   pub sums : SumsUp count sunk sinks result
   pub tells : TellsResult said told result
 
+-- It ended with a result of which all this holds, and told it; the status is that of the result.
+pub record EndsBy (Holds : Result (Unit {0}) ProcessError → Type 0) (said told : Output) (status : ℕ) : Type 0 where
+  pub result : Result (Unit {0}) ProcessError
+  pub is : ending_of result ≡ Some status
+  pub holds : Holds result
+  pub tells : TellsResult said told result
+
 -- The plan for these items was told, and nothing was read.
 pub record Plans (items : List Item) (from to : Input) (sunk sinks said told : Output) (status : ℕ) : Type 0 where
   pub result : Result (Unit {0}) ProcessError

@@ -5,6 +5,7 @@ pub mod Device
 pub mod Status
 pub mod Make
 pub mod Ending
+pub mod Gateway
 pub mod Listen
 pub mod Memory
 pub mod Watched

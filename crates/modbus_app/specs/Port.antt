@@ -1,12 +1,19 @@
 -- How a program that listens on a port ends.
-use Rattle.std.specs.Prelude.{◌≡◌, ◌⊎◌, ℕ}
+use Rattle.std.specs.Prelude.{◌≡◌, ◌⊎◌, ℕ, [], ◌∷◌, IfOk}
+use Rattle.std.specs.Net.Addr.{IsV4And, ipv4_octets}
+use Rattle.std.specs.Net.Socket.{socket_ip, IsPlainSocket}
+use Rattle.std.specs.declared.net.SocketAddr.{SocketAddr}
+use Rattle.modbus_link.specs.Line.{LinkMeaning, meaning_of}
 use Rattle.modbus_link.specs.Listens.{Tally, tally_at_start}
-use Rattle.modbus_link.specs.Outside.{Output}
-use Rattle.modbus_link.specs.Tcp.{TcpState}
+use Rattle.modbus_link.specs.Memory.{faults_after}
+use Rattle.modbus_link.specs.Outside.{Output, untold_input, untold_output}
+use Rattle.modbus_link.specs.Tcp.{TcpState, tcp_at_start}
+use Rattle.modbus_client.specs.Connecting.{ConnectorMeaning, connector_of}
 use Rattle.modbus_server.specs.declared.error.ProcessError.TheVariants.{NoMemory}
 use Rattle.modbus_store.specs.Passes.{Shared, Pass, opened}
 use Rattle.modbus_app.specs.declared.words.Framing.{Framing}
 use Rattle.modbus_app.specs.Device.{shared_opening}
+use Rattle.modbus_app.specs.Gateway.{Streams, ForwardsTo}
 use Rattle.modbus_app.specs.Listen.{Accepting, ListenedOver}
 use Rattle.modbus_app.specs.Patient.{PatientState, IsPatient}
 use Rattle.modbus_app.specs.Status.{line_of, bind_line, Reports}
@@ -61,3 +68,20 @@ ServesPort framing on_error said told status = IsWanting said told status ⊎ Se
 -- a program that listens ended: the system refused the listener, or it served
 abbrev pub ListensAt : {H : Type 0} → Framing → H → Output → Output → ℕ → Type 0
 ListensAt framing on_error said told status = IsRefused said told status ⊎ ServesPort framing on_error said told status
+
+-- the address of this port of this machine, which no other reaches (RFC 1122, section 3.2.1.3)
+pub record IsLoopback (port : ℕ) (address : SocketAddr) : Type 0 where
+  pub ip : IsV4And (socket_ip address) (λ ip. ipv4_octets ip ≡ 127 ∷ 0 ∷ 0 ∷ 1 ∷ [])
+  pub port_is : IsPlainSocket address port
+
+-- what connects to a port: a connector over TCP, whose link is new
+abbrev pub tcp_connecting : ConnectorMeaning ℕ TcpState
+tcp_connecting = connector_of (λ old address timeout result new. IfOk result (λ link. link ≡ tcp_at_start) × (new ≡ faults_after result old)) (λ faults. faults)
+
+abbrev pub tcp_line : LinkMeaning TcpState
+tcp_line = meaning_of (λ link. untold_input link.read_faults) (λ link. untold_output link.write_faults) (λ link. link.line)
+
+-- a program that forwards ended: it made one connection over TCP to this port of this machine
+abbrev pub ForwardsToPort : ℕ → Streams → Streams → Output × Output → ℕ → Type 0
+ForwardsToPort port old new said status = (address : SocketAddr) × IsLoopback port address
+    × (after : ℕ) × ForwardsTo tcp_connecting tcp_line (0, after) address old new said status

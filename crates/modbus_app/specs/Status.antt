@@ -29,7 +29,7 @@ ending_of (Ok done) = Some 0
 ending_of (Err error) = status_of error
 
 abbrev pub usage_line : List ℕ
-usage_line = codes "modbus: usage: rtu [size [seeded]] | tcp [size] | make n | listen-rtu port | listen-tcp port | ascii [size] | plan [address:width ..]\n"
+usage_line = codes "modbus: usage: rtu [size [seeded]] | tcp [size] | make n | listen-rtu port | listen-tcp port | gateway port | ascii [size] | plan [address:width ..]\n"
 
 abbrev pub reason_text : Reason → List ℕ
 reason_text reason.UnexpectedEnd = codes "unexpected end"
@@ -73,6 +73,10 @@ listener_line_of serve.NoMemory = line_of NoMemory
 -- the line of a listener that the system refuses
 abbrev pub bind_line : List ℕ
 bind_line = codes "modbus: bind fault\n"
+
+-- the line of a gateway that reaches no line
+abbrev pub connect_line : List ℕ
+connect_line = codes "modbus: connect fault\n"
 
 -- A line was written, or a front of it where the sink failed. What stood there before stays.
 pub record Reports (said told : Output) (line : List ℕ) : Type 0 where

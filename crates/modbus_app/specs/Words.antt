@@ -7,7 +7,7 @@ use Rattle.modbus_app.specs.declared.words.Framing.TheVariants.{Rtu, Tcp}
 use Rattle.modbus_app.specs.declared.words.Mode.{Mode}
 use Rattle.modbus_app.specs.declared.words.Mode.TheVariants as mode
 use Rattle.modbus_app.specs.declared.words.Task.{Task}
-use Rattle.modbus_app.specs.declared.words.Task.TheVariants.{Serve, Make, Listen, Plan}
+use Rattle.modbus_app.specs.declared.words.Task.TheVariants.{Serve, Make, Listen, Forward, Plan}
 use Rattle.modbus_app.specs.Number.{number_within}
 use Rattle.modbus_app.specs.Plan.{are_items}
 
@@ -48,11 +48,15 @@ abbrev pub listened_to : Framing → Option ℕ → Option Task
 listened_to framing (Some port) = Some (Listen framing port)
 listened_to framing None = None
 
+abbrev pub forwarded_to : Option ℕ → Option Task
+forwarded_to (Some port) = Some (Forward port)
+forwarded_to None = None
+
 -- `plan` and any number of items
 abbrev pub planned : List (List ℕ) → Option Task
 planned words = if are_items words then Some Plan else None
 
--- `rtu`, `rtu size`, `rtu size seeded`, `tcp`, `tcp size`, `ascii`, `ascii size`, `make n`, `listen-rtu port` or `listen-tcp port`
+-- `rtu`, `rtu size`, `rtu size seeded`, `tcp`, `tcp size`, `ascii`, `ascii size`, `make n`, `listen-rtu port`, `listen-tcp port` or `gateway port`
 abbrev pub form_of : List (List ℕ) → Option Task
 form_of (word ∷ []) =
     if bytes_eq word (codes "rtu") then served mode.Rtu (Some default_size) false else
@@ -66,6 +70,7 @@ form_of (word ∷ argument ∷ []) =
     if bytes_eq word (codes "make") then made (count_named argument) else
     if bytes_eq word (codes "listen-rtu") then listened_to Rtu (port_named argument) else
     if bytes_eq word (codes "listen-tcp") then listened_to Tcp (port_named argument) else
+    if bytes_eq word (codes "gateway") then forwarded_to (port_named argument) else
     None
 form_of (word ∷ size ∷ last ∷ []) =
     if bytes_eq word (codes "rtu") && bytes_eq last (codes "seeded") then served mode.Rtu (size_named size) true else None
@@ -84,10 +89,16 @@ abbrev pub listened : Option Task → Option (Framing × ℕ)
 listened (Some (Listen framing port)) = Some (framing, port)
 listened _ = None
 
+-- the port of the line that is forwarded to
+abbrev pub forwarded : Option Task → Option ℕ
+forwarded (Some (Forward port)) = Some port
+forwarded _ = None
+
 -- the words ask for nothing that is done over the standard streams
 abbrev pub IsUsage : Option Task → Type 0
 IsUsage None = Unit {0}
 IsUsage (Some (Listen framing port)) = Unit {0}
+IsUsage (Some (Forward port)) = Unit {0}
 IsUsage _ = ⊥
 
 -- a table has at most an entry for each address, and no more requests are made than a million
@@ -95,4 +106,5 @@ abbrev pub IsWithinLimits : Task → Type 0
 IsWithinLimits (Serve form) = form.size ≤ most_entries
 IsWithinLimits (Make count) = count ≤ most_requests
 IsWithinLimits (Listen framing port) = port ≤ 65535
+IsWithinLimits (Forward port) = port ≤ 65535
 IsWithinLimits Plan = Unit {0}

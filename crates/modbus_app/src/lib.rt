@@ -3,6 +3,7 @@
 #![tactic(auto)]
 
 mod device;
+mod gateway;
 pub mod laws;
 mod listen;
 mod make;
@@ -18,10 +19,11 @@ mod watched;
 mod words;
 
 pub use crate::device::{open, open_shared};
+pub use crate::gateway::run_gateway;
 pub use crate::listen::run_listen;
 pub use crate::patient::{Keeper, PatientAcceptor};
 pub use crate::program::run;
 pub use crate::services::{Services, StoreServices};
 pub use crate::status::{NO_MEMORY, report_fault};
 pub use crate::turning::TurningSpawner;
-pub use crate::words::{Form, Framing, Mode, Task, listening, read_words};
+pub use crate::words::{Form, Framing, Mode, Task, forwarding, listening, read_words};

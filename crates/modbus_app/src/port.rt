@@ -1,14 +1,13 @@
 //! Listening on a port, with a thread of a scope for each connection.
-ghost use Rattle.std.specs.Prelude.{◌≡◌, [], ◌∷◌};
-ghost use Rattle.std.specs.Net.Addr.{IsV4And, ipv4_octets};
-ghost use Rattle.std.specs.Net.Socket.{socket_ip, IsPlainSocket};
+ghost use Rattle.std.specs.Prelude.{◌≡◌};
 ghost use Rattle.modbus_server.specs.declared.error.ProcessError.TheVariants.{NoMemory};
 ghost use Rattle.modbus_app.specs.Device.{shared_opening};
 ghost use Rattle.modbus_app.specs.Listen.{accepting, ListenedOver};
-ghost use Rattle.modbus_app.specs.Port.{IsRefused, ServesPort, ListensAt};
+ghost use Rattle.modbus_app.specs.Port.{IsLoopback, IsRefused, ServesPort, ListensAt, ForwardsToPort};
 ghost use Rattle.modbus_app.specs.Status.{line_of, Reports};
 
 use crate::device::open_shared;
+use crate::gateway::forward_to;
 use crate::listen::run_listen;
 use crate::patient::{Keeper, PatientAcceptor};
 use crate::services::{Services, StoreServices};
@@ -17,7 +16,8 @@ use crate::turning::TurningSpawner;
 use crate::watched::WatchedAcceptor;
 use crate::words::Framing;
 use modbus_link::{
-    Acceptor, Failed, FlagStop, Link, ScopeSpawner, Sink, Spawner, Stop, TcpAcceptor, Worker,
+    Acceptor, Failed, FlagStop, Link, ScopeSpawner, Sink, Source, Spawner, Stop, TcpAcceptor,
+    TcpConnector, Worker,
 };
 use modbus_server::{Answerer, ConnectionWorker, ProcessError, rtu_over_tcp, tcp};
 use std::alloc::Global;
@@ -306,8 +306,7 @@ fn refused<E: Sink>(error: Error, errors: &mut E) -> u8
 
 /// The address of this port of this machine, which no other reaches (RFC 1122, section 3.2.1.3).
 fn loopback(port: u16) -> SocketAddr
-    ensures ip { IsV4And (socket_ip result) (λ ip. ipv4_octets ip ≡ 127 ∷ 0 ∷ 0 ∷ 1 ∷ []) }
-    ensures port { IsPlainSocket result port }
+    ensures { IsLoopback port result }
 {
     SocketAddr::from(([127, 0, 0, 1], port))
 }
@@ -408,4 +407,26 @@ where
             (errors, status)
         }
     }
+}
+
+/// Forwards the requests of one Modbus TCP connection, from `source` to `sink`, to the line of RTU frames at this port of this machine
+/// (127.0.0.1), and answers the status of how that ended: one of `run_gateway`, or 16 where there is no connection to the line.
+pub fn forward<R, S, K, E>(
+    rt: &R,
+    alloc: Global,
+    port: u16,
+    source: &mut S,
+    sink: &mut K,
+    errors: &mut E,
+) -> u8
+where
+    R: Net<Stream = TcpStream>,
+    S: Source,
+    K: Sink,
+    E: Sink,
+    ensures { ForwardsToPort port (S.input source.old, K.output sink.old) (S.input source.new, K.output sink.new)
+        (E.output errors.old, E.output errors.new) result }
+{
+    let mut connector = TcpConnector::new(rt);
+    forward_to(alloc, &mut connector, loopback(port), source, sink, errors)
 }

@@ -129,7 +129,7 @@ fn plan<K: Sink, E: Sink>(alloc: Global, words: &[String], sink: &mut K, errors:
 /// | Status | When |
 /// |---|---|
 /// | 0 | the input ended, with no frame or ADU begun, and all were answered; for `make`, the summary was written |
-/// | 2 | the words are others, those that ask to listen among them |
+/// | 2 | the words are others, those that ask to listen or to forward among them |
 /// | 3, 4 | the source, the sink failed |
 /// | 5 | twenty offsets in a row, which came with one read, have no frame |
 /// | 6 | the input ended within a frame or ADU |
@@ -186,7 +186,7 @@ pub fn run<S: Source, K: Sink, E: Sink>(
         Some(Task::Serve(form)) => serve_form(alloc, form, source, sink, errors),
         Some(Task::Make(count)) => sum_up(alloc, count, sink, errors),
         Some(Task::Plan) => plan(alloc, words, sink, errors),
-        Some(Task::Listen(_, _)) | None => {
+        Some(Task::Listen(_, _) | Task::Forward(_)) | None => {
             report(errors, USAGE_LINE);
             USAGE
         }

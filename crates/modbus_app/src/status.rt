@@ -32,9 +32,15 @@ pub const BIND_FAULT: u8 = 15;
 /// The line of a program that the system refuses a listener.
 pub const BIND_LINE: &str = "modbus: bind fault\n";
 
+/// The status of a gateway that reaches no line.
+pub const CONNECT_FAULT: u8 = 16;
+
+/// The line of a gateway that reaches no line.
+pub const CONNECT_LINE: &str = "modbus: connect fault\n";
+
 /// The line of a usage fault.
 pub const USAGE_LINE: &str =
-    "modbus: usage: rtu [size [seeded]] | tcp [size] | make n | listen-rtu port | listen-tcp port | ascii [size] | plan [address:width ..]\n";
+    "modbus: usage: rtu [size [seeded]] | tcp [size] | make n | listen-rtu port | listen-tcp port | gateway port | ascii [size] | plan [address:width ..]\n";
 
 /// The length of the longest line of another protocol.
 const PROTOCOL_LINE: usize = 31;

@@ -1,7 +1,7 @@
 //! The words of the command line.
 ghost use Rattle.std.specs.Prelude.{◌≡◌, ◌≤◌, ◌∷◌, [], map, IfSome, string_bytes};
 ghost use Rattle.modbus_app.specs.Plan.{are_items};
-ghost use Rattle.modbus_app.specs.Words.{size_named, count_named, port_named, served, made, listened_to, planned, form_of, asked, listened, most_entries, most_requests, IsWithinLimits};
+ghost use Rattle.modbus_app.specs.Words.{size_named, count_named, port_named, served, made, listened_to, forwarded_to, planned, form_of, asked, listened, forwarded, most_entries, most_requests, IsWithinLimits};
 
 use crate::number::number_within;
 use crate::plan::item_of_word;
@@ -72,6 +72,8 @@ pub enum Task {
     Make(u32),
     /// It listens on this port, and serves each connection in this framing.
     Listen(Framing, u16),
+    /// It forwards Modbus TCP over its standard streams to the line of RTU frames at this port.
+    Forward(u16),
     /// It plans the reads of the items that the words name.
     Plan,
 }
@@ -110,6 +112,17 @@ fn listen(framing: Framing, port: Option<u16>) -> Option<Task>
 {
     match port {
         Some(port) => Some(Task::Listen(framing, port)),
+        None => None,
+    }
+}
+
+/// Forwarding to a port, where there is one.
+fn forward(port: Option<u16>) -> Option<Task>
+    ensures exact { result ≡ forwarded_to port }
+    ensures limits { IfSome result IsWithinLimits }
+{
+    match port {
+        Some(port) => Some(Task::Forward(port)),
         None => None,
     }
 }
@@ -175,6 +188,9 @@ fn two_words(word: &str, argument: &str) -> Option<Task>
     if word == "listen-tcp" {
         return listen(Framing::Tcp, port_number(argument));
     }
+    if word == "gateway" {
+        return forward(port_number(argument));
+    }
     None
 }
 
@@ -202,7 +218,7 @@ fn other_words(words: &[String]) -> Option<Task>
 }
 
 /// What the words ask for: `rtu`, `rtu size`, `rtu size seeded`, `tcp`, `tcp size`, `ascii` or `ascii size` to serve, `make n` to make
-/// requests, `listen-rtu port` or `listen-tcp port` to listen, `plan` with any number of items `address:width` to plan reads; `None` where
+/// requests, `listen-rtu port` or `listen-tcp port` to listen, `gateway port` to forward, `plan` with any number of items `address:width` to plan reads; `None` where
 /// they are no such form. It takes no memory.
 pub fn read_words(words: &[String]) -> Option<Task>
     ensures exact { result ≡ asked words.now }
@@ -221,6 +237,16 @@ pub fn listening(words: &[String]) -> Option<(Framing, u16)>
 {
     match read_words(words) {
         Some(Task::Listen(framing, port)) => Some((framing, port)),
+        _ => None,
+    }
+}
+
+/// What the words ask to forward to: the port of `gateway port`; `None` where they are no such form. It takes no memory.
+pub fn forwarding(words: &[String]) -> Option<u16>
+    ensures { result ≡ forwarded (asked words.now) }
+{
+    match read_words(words) {
+        Some(Task::Forward(port)) => Some(port),
         _ => None,
     }
 }

@@ -1,4 +1,4 @@
-//! Tests of the calls of modbus_app that need code. Runs of the program are in crates/modbus_vectors.
+//! Tests of the calls of modbus_app that need code. Runs of the program are in crates/modbus_app_vectors.
 #![tactic(auto)]
 
 #[cfg(test)]

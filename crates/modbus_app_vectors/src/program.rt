@@ -1,9 +1,9 @@
 //! Runs of the program over memory, and the words that ask to listen.
 
-use crate::outside::read_outside;
-use crate::text::{hex, shown};
 use modbus_app::{listening, run};
 use modbus_link::MemorySink;
+use modbus_table::outside::read_outside;
+use modbus_table::text::{hex, shown};
 use std::alloc::{AllocError, Global};
 
 /// The words before a colon, as they are handed over by the system, and those after it.

@@ -1,6 +1,5 @@
 //! PDUs of requests, responses and exceptions, both ways.
 
-use crate::text::{bytes, hex, number, shown, told};
 use bytes::{Bytes, BytesMut};
 use modbus_frame::{PduError, Request, Response};
 use modbus_pdu::{
@@ -8,6 +7,7 @@ use modbus_pdu::{
     encode_exception_response_pdu, encode_request_pdu, encode_response_pdu,
     encode_response_result_pdu, request_pdu_size, response_pdu_size, response_result_pdu_size,
 };
+use modbus_table::text::{bytes, hex, number, shown, told};
 use std::alloc::{AllocError, Global};
 use std::borrow::CowSlice;
 

@@ -1,7 +1,5 @@
 //! Frames of a serial line and ADUs of Modbus TCP: their lengths, the search for them, the codecs of both ends, and the inbox of a server.
 
-use crate::outside::read_outside;
-use crate::text::{bytes, hex, number, shown, told};
 use bytes::{Bytes, BytesMut};
 use modbus_frame::{EncodeError, RequestPdu, ResponsePdu, rtu, tcp};
 use modbus_pdu::{decode_request, decode_response_pdu};
@@ -10,6 +8,8 @@ use modbus_rtu::{
     response_pdu_len,
 };
 use modbus_tcp::{AduDecoder, TransactionIds, front};
+use modbus_table::outside::read_outside;
+use modbus_table::text::{bytes, hex, number, shown, told};
 use std::alloc::{AllocError, Global};
 
 fn length(

@@ -1,11 +1,11 @@
 //! Typed calls of any client, and through a box over a caller's client that answers one response.
 
-use crate::text::bytes;
 use bytes::Bytes;
 use modbus_client::Context;
 use modbus_client::prelude::*;
 use modbus_frame::{Coils, Error, Result as Answer, ShutdownFault, TransportError, Words};
 use modbus_pdu::{decode_request, decode_response_pdu};
+use modbus_table::text::bytes;
 use std::alloc::{AllocError, Global};
 use std::time::Duration;
 

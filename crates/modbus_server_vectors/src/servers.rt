@@ -1,51 +1,17 @@
 //! Servers over memory, with a service that answers every request with the same registers.
 
-use crate::outside::{Outside, read_outside};
-use crate::text::{hex, number};
-use modbus_frame::{Response, SlaveRequest, Words};
 use modbus_link::{Both, MemoryStop, Polled, PolledMemoryLink};
 use modbus_rtu::Inbox;
 use modbus_server::tcp::AduBuffer;
 use modbus_server::{
-    Connection, ConnectionWorker, Forward, Framing, PolledProcess, ProcessError, Service,
-    ServiceError, rtu, rtu_over_tcp, tcp,
+    Connection, ConnectionWorker, Forward, Framing, PolledProcess, ProcessError, rtu, rtu_over_tcp,
+    tcp,
 };
+use modbus_table::SameWords;
+use modbus_table::outside::{Outside, read_outside};
+use modbus_table::text::{hex, number};
 use std::alloc::{AllocError, Global};
 use std::fmt::Debug;
-
-/// Answers so many registers, all of them 0x0020, and counts its calls.
-#[derive(Drop)]
-pub struct SameWords {
-    count: usize,
-    pub calls: u64,
-}
-
-impl SameWords {
-    pub fn new(count: u16) -> SameWords {
-        SameWords {
-            count: usize::from(count),
-            calls: 0,
-        }
-    }
-}
-
-impl Service for SameWords {
-    ghost answers = { λ old slave request outcome new. Unit {0} };
-
-    ghost takes_memory = { λ it slave request. Unit {0} };
-
-    fn call(
-        &mut self,
-        alloc: Global,
-        _request: SlaveRequest<'_>,
-    ) -> Result<Option<Response>, ServiceError> {
-        let Ok(words) = Vec::from_elem(alloc, 0x0020, self.count) else {
-            return Err(ServiceError::NoMemory);
-        };
-        self.calls = self.calls.saturating_add(1);
-        Ok(Some(Response::ReadHoldingRegisters(Words::new(words))))
-    }
-}
 
 /// The answer of a server, its output, how many bytes the source gave, and how often the service was asked.
 fn told<T: Debug>(

@@ -1,10 +1,10 @@
 //! Codes, slaves, checksums, packed coils and coil words.
 
-use crate::text::{bytes, coils, hex, number, shown, told};
 use bytes::BytesMut;
 use modbus_frame::{ExceptionCode, FunctionCode, Slave};
 use modbus_pdu::{coil_to_bool, decode_packed_coils, encode_packed_coils, packed_coils_size};
 use modbus_rtu::{calc_crc, check_crc};
+use modbus_table::text::{bytes, coils, hex, number, shown, told};
 use std::alloc::{AllocError, Global};
 
 /// The function code of a byte, and how it is shown.

@@ -1,8 +1,5 @@
 //! Listeners over memory, whose connections are served one after another on the caller.
 
-use crate::outside::read_outside;
-use crate::servers::SameWords;
-use crate::text::{hex, number};
 use modbus_link::{
     Acceptor, FlagStop, InlineSpawner, Link, MemoryAcceptor, MemoryLink, MemoryStop, ScopeSpawner,
     Spawner,
@@ -12,6 +9,9 @@ use modbus_server::tcp::AduBuffer;
 use modbus_server::{
     ConnectionWorker, Framing, ProcessError, ServeError, Server, Terminated, accept_tcp_connection,
 };
+use modbus_table::SameWords;
+use modbus_table::outside::read_outside;
+use modbus_table::text::{hex, number};
 use std::alloc::{AllocError, Global};
 use std::net::SocketAddr;
 use std::sync::Wait;
@@ -163,7 +163,71 @@ fn listened<I: Framing, R: Wait>(
     Ok(Some(told(alloc, &answer, near.sink().bytes(), far.sink().bytes())?))
 }
 
-/// `listen`, or `listen_until` and how often the signal is looked at before it is set; a framing; a spawner; and the connections.
+/// A new link over the outside that the words tell.
+fn link_of(alloc: Global, words: &[&str]) -> Result<Option<MemoryLink>, AllocError> {
+    match read_outside(alloc, words)? {
+        Some(outside) => Ok(Some(outside.into_link())),
+        None => Ok(None),
+    }
+}
+
+/// Appends what a connection was sent.
+fn push_sent(alloc: Global, text: &mut String, link: &MemoryLink) -> Result<(), AllocError> {
+    text.push_str(" ")?;
+    text.push_str(hex(alloc, link.sink().bytes())?.as_str())
+}
+
+/// The answer of a listener over eight connections, each with an outside of its own that these words tell, and what each of them was sent.
+fn listened_to_eight<I: Framing, R: Wait>(
+    rt: &R,
+    alloc: Global,
+    words: &[&str],
+) -> Result<Option<String>, AllocError> {
+    let (Some(mut a), Some(mut b), Some(mut c), Some(mut d)) = (
+        link_of(alloc, words)?,
+        link_of(alloc, words)?,
+        link_of(alloc, words)?,
+        link_of(alloc, words)?,
+    ) else {
+        return Ok(None);
+    };
+    let (Some(mut e), Some(mut f), Some(mut g), Some(mut h)) = (
+        link_of(alloc, words)?,
+        link_of(alloc, words)?,
+        link_of(alloc, words)?,
+        link_of(alloc, words)?,
+    ) else {
+        return Ok(None);
+    };
+    let answer = {
+        let mut links = Vec::with_capacity(alloc, 8)?;
+        links.push((&mut a, address(TAKES)))?;
+        links.push((&mut b, address(TAKES)))?;
+        links.push((&mut c, address(TAKES)))?;
+        links.push((&mut d, address(TAKES)))?;
+        links.push((&mut e, address(TAKES)))?;
+        links.push((&mut f, address(TAKES)))?;
+        links.push((&mut g, address(TAKES)))?;
+        links.push((&mut h, address(TAKES)))?;
+        ended::<I, R, _>(rt, alloc, "inline", MemoryAcceptor::new(links), None)
+    };
+    let Some(answer) = answer else {
+        return Ok(None);
+    };
+    let mut text = format!(in alloc; "{answer:?}")?;
+    push_sent(alloc, &mut text, &a)?;
+    push_sent(alloc, &mut text, &b)?;
+    push_sent(alloc, &mut text, &c)?;
+    push_sent(alloc, &mut text, &d)?;
+    push_sent(alloc, &mut text, &e)?;
+    push_sent(alloc, &mut text, &f)?;
+    push_sent(alloc, &mut text, &g)?;
+    push_sent(alloc, &mut text, &h)?;
+    Ok(Some(text))
+}
+
+/// `listen`, or `listen_until` and how often the signal is looked at before it is set; a framing; a spawner; and the connections. Or
+/// `listen_to_eight`, and the outside of each of eight connections.
 pub fn answer<R: Wait>(
     rt: &R,
     alloc: Global,
@@ -176,6 +240,7 @@ pub fn answer<R: Wait>(
             Some(looks) => (Some(u64::from(looks)), words),
             None => return Ok(None),
         },
+        ("listen_to_eight", words) => return listened_to_eight::<Inbox, R>(rt, alloc, words),
         _ => return Ok(None),
     };
     match words {

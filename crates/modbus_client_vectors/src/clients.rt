@@ -1,14 +1,13 @@
 //! Calls of clients over links in memory, and of a service without a link.
 
-use crate::outside::{Outside, read_outside};
-use crate::servers::SameWords;
-use crate::text::{bytes, hex, number};
 use crate::typed::asked;
-use modbus_app::{Form, Mode, open};
 use modbus_client::{Client, PolledCall, Protocol, exchange, rtu, tcp};
 use modbus_frame::{Error, Request, Response, Result as Answer, Slave, SlaveContext};
 use modbus_link::{MemoryLink, Polled, PolledMemoryLink};
 use modbus_pdu::decode_request;
+use modbus_table::SameWords;
+use modbus_table::outside::{Outside, read_outside};
+use modbus_table::text::{bytes, hex, number};
 use std::alloc::{AllocError, Global};
 use std::borrow::CowSlice;
 
@@ -238,19 +237,6 @@ fn matching_polled(
     }
 }
 
-/// The answer of a seeded store of eight entries a table, which takes part in broadcasts.
-fn exchanged(alloc: Global, slave: u8, request: Request<'_>) -> Result<Option<String>, AllocError> {
-    let form = Form {
-        mode: Mode::Rtu,
-        size: 8,
-        seeded: true,
-    };
-    let Ok(mut store) = open(alloc, form) else {
-        return Err(AllocError);
-    };
-    Ok(Some(answered(alloc, exchange(alloc, Slave(slave), request, &mut store))?))
-}
-
 /// The answer of a service that answers so many registers, and how often it was asked.
 fn exchanged_words(
     alloc: Global,
@@ -264,8 +250,8 @@ fn exchanged_words(
     Ok(Some(format!(in alloc; "{answer} asked {calls}")?))
 }
 
-/// `rtu_polled`, `tcp_polled` or `matching_polled` (of transaction 1), `exchange` or `exchange_words`, a slave, the PDU of a request, and the
-/// outside, or how many registers the service answers. A polled call has two turns.
+/// `rtu_polled`, `tcp_polled` or `matching_polled` (of transaction 1) or `exchange_words`, a slave, the PDU of a request, and the outside, or
+/// how many registers the service answers. A polled call has two turns.
 fn one_call(
     alloc: Global,
     call: &str,
@@ -279,13 +265,14 @@ fn one_call(
     let Ok(request) = decode_request(alloc, pdu.as_slice()) else {
         return Ok(None);
     };
-    match (call, words) {
-        ("exchange", []) => return exchanged(alloc, slave, request),
-        ("exchange_words", [count]) => match number(count) {
-            Some(count) => return exchanged_words(alloc, slave, request, count),
-            None => return Ok(None),
-        },
-        _ => {}
+    if call == "exchange_words" {
+        return match words {
+            [count] => match number(count) {
+                Some(count) => exchanged_words(alloc, slave, request, count),
+                None => Ok(None),
+            },
+            _ => Ok(None),
+        };
     }
     let Some(outside) = read_outside(alloc, words)? else {
         return Ok(None);

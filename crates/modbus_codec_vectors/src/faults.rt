@@ -1,12 +1,12 @@
 //! The texts of faults, each with its name.
 
-use crate::text::told;
 use modbus_frame::{
     ConnectFault, EncodeError, Error, ExceptionCode, ExceptionResponse, FunctionCode, HeaderSeen,
     ParseSlaveError, PduError, ProtocolError, Reason, Response, ShutdownFault, TransportError,
 };
 use modbus_server::ProcessError;
 use modbus_tcp::TcpError;
+use modbus_table::text::told;
 use std::alloc::{AllocError, Global};
 
 fn transport(name: &str) -> Option<TransportError> {
