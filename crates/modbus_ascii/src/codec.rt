@@ -8,7 +8,7 @@ ghost use Rattle.modbus_frame.specs.FunctionCodes.{exception_bit};
 ghost use Rattle.modbus_frame.specs.Meaning.{meaning};
 ghost use Rattle.modbus_pdu.specs.Coding.{Encodes};
 ghost use Rattle.modbus_pdu.specs.RequestOf.{CarriesList, request_of};
-ghost use Rattle.modbus_pdu.specs.ResponseOf.{response_result_of};
+ghost use Rattle.modbus_pdu.specs.ResponseOf.{AnswerCarriesMemory, response_result_of};
 ghost use Rattle.modbus_pdu.specs.RequestPdu.{request_pdu};
 ghost use Rattle.modbus_pdu.specs.ResponsePdu.{response_result_pdu};
 ghost use Rattle.modbus_ascii.specs.Codec.{AnswersBy, error_of};
@@ -19,9 +19,9 @@ ghost use Rattle.modbus_ascii.specs.declared.codec.AsciiError.TheVariants as err
 
 use crate::decoder::AsciiDecoder;
 use crate::encoder::{encode_request_frame, encode_response_frame};
-use bytes::{Bytes, BytesMut};
+use bytes::BytesMut;
 use modbus_frame::{EncodeError, PduError, Reason, RequestPdu, rtu};
-use modbus_pdu::{decode_request, decode_response_pdu};
+use modbus_pdu::{decode_request, read_response_pdu};
 use std::alloc::{AllocError, Global};
 use std::marker::Model;
 
@@ -98,21 +98,21 @@ impl ClientCodec {
     /// Takes a byte, and reads the PDU of the frame that it ends: a response or an exception. `None` exactly where it ends no frame.
     ///
     /// # Errors
-    /// `Invalid` with the reason, exactly where the PDU of that frame is refused. `NoMemory` where memory is refused for it. The frame is
-    /// then gone.
+    /// `Invalid` with the reason, exactly where the PDU of that frame is refused, whatever memory there is. `NoMemory` where memory is
+    /// refused, only for a response that carries a list or bytes. The frame is then gone.
     pub fn feed(&mut self, alloc: Global, byte: u8) -> Result<Option<rtu::ResponseAdu>, AsciiError>
         ensures reads { (fed : List ℕ) → Decodes fed self.old → Decodes (fed ++ byte ∷ []) self.new }
         ensures gives { (fed : List ℕ) → Decodes fed self.old → (delivered : List (ℕ × List ℕ))
             × (frames (fed ++ byte ∷ []) ≡ frames fed ++ delivered)
-            × AnswersBy response_result_of (λ pdu. Unit {0}) (λ adu. adu.hdr.slave_id)
-            (λ adu. adu.pdu.0) delivered result }
+            × AnswersBy response_result_of
+            (λ pdu. IsOkAnd (response_result_of pdu) AnswerCarriesMemory)
+            (λ adu. adu.hdr.slave_id) (λ adu. adu.pdu.0) delivered result }
     {
         if !self.decoder.take(byte) {
             return Ok(None);
         }
         let slave_id = self.decoder.slave();
-        let pdu = Bytes::copy_from_slice(alloc, self.decoder.pdu())?;
-        let pdu = decode_response_pdu(alloc, pdu)?;
+        let pdu = read_response_pdu(alloc, self.decoder.pdu())?;
         Ok(Some(rtu::ResponseAdu {
             hdr: rtu::Header { slave_id },
             pdu,

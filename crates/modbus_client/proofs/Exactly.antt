@@ -10,7 +10,8 @@ use Rattle.modbus_frame.specs.declared.fault.TransportError.{TransportError}
 use Rattle.modbus_frame.specs.declared.fault.TransportError.TheVariants as transport
 use Rattle.modbus_pdu.specs.Coding.{Fits}
 use Rattle.modbus_pdu.specs.RequestPdu.{request_pdu}
-use Rattle.modbus_pdu.specs.ResponseOf.{response_result_of}
+use Rattle.std.specs.Prelude.{IsOkAnd}
+use Rattle.modbus_pdu.specs.ResponseOf.{AnswerCarriesMemory, response_result_of}
 use Rattle.modbus_client.specs.Protocol.{Protocol, Found, waiting, reply, broken}
 use Rattle.modbus_client.specs.Matching.{Answer, Judges}
 use Rattle.modbus_client.specs.Call.{IsJudged}
@@ -79,7 +80,13 @@ module _ {H : Type 0} (P : Protocol H) (opening : (asked : HeaderSeen) → P.Fin
   told_reply kept seen pdu (Err (Transport transport.TooManyRetries)) r finds = no_break _ r kept held seen pdu transport.TooManyRetries finds r.ends.1
   told_reply kept seen pdu (Err (Transport transport.InvalidLength)) r finds = no_break _ r kept held seen pdu transport.InvalidLength finds r.ends.1
   told_reply kept seen pdu (Err (Transport (transport.InvalidProtocol number))) r finds = no_break _ r kept held seen pdu (transport.InvalidProtocol number) finds r.ends.1
-  told_reply kept seen pdu (Err NoMemory) r finds = inr refl
+  told_reply kept seen pdu (Err NoMemory) r finds = elim r.ends [
+    | inl waits ↦ no_wait _ r kept waits.0 seen pdu finds waits.1
+    | inr (rest, seen', pdu', finds', carries) ↦
+        let e : reply kept seen pdu ≡ reply rest seen' pdu' = same (Err NoMemory) r (reply kept seen pdu) (reply rest seen' pdu') finds finds' in
+        let second : pdu ≡ pdu' = cc in
+        inr (refl, subst (λ p. IsOkAnd (response_result_of p) AnswerCarriesMemory) (sym second) carries)
+  ]
 
   told_broken : (kept : List ℕ) (fault : TransportError) (answer : Answer) (r : Exchanged P from to sunk sinks header asked turns held answer) → P.Finds (P.seen header) r.fed (totals r.made) (broken kept fault) → Tells answer (broken kept fault)
   told_broken kept fault (Ok x) r finds = let (seen, pdu, result, finds', meant, judges) = r.ends in no_break _ r held kept seen pdu fault finds' finds
@@ -97,7 +104,7 @@ module _ {H : Type 0} (P : Protocol H) (opening : (asked : HeaderSeen) → P.Fin
   told_broken kept fault (Err (Transport (transport.InvalidProtocol number))) r finds = ap (λ f. Err (Transport f)) (same_fault _ r kept held fault (transport.InvalidProtocol number) finds r.ends.1)
   told_broken kept fault (Err NoMemory) r finds = elim r.ends [
     | inl waits ↦ breaks_not_waits _ r kept waits.0 fault finds waits.1
-    | inr wants ↦ no_break _ r wants.0 kept wants.1 wants.2 fault wants.3 finds
+    | inr (rest, seen, pdu, finds', carries) ↦ no_break _ r rest kept seen pdu fault finds' finds
   ]
 
   told_waiting : (kept : List ℕ) (answer : Answer) (r : Exchanged P from to sunk sinks header asked turns held answer) → P.Finds (P.seen header) r.fed (totals r.made) (waiting kept) → Tells answer (waiting kept)

@@ -86,7 +86,7 @@ module _ (asked : HeaderSeen) where
     looks_own new (Ok (Some found)) (pdu, finds, means) = (pdu, finds_own (reply new found.header pdu) finds, means)
     looks_own new (Err (look.Broken fault)) finds = finds_own (broken new fault) finds
     looks_own new (Err (look.Refused reason)) (header, pdu, finds, means) = (header, pdu, finds_own (reply new header pdu) finds, means)
-    looks_own new (Err look.NoMemory) (rest, header, pdu, finds) = (rest, header, pdu, finds_own (reply rest header pdu) finds)
+    looks_own new (Err look.NoMemory) (rest, header, pdu, finds, carries) = (rest, header, pdu, finds_own (reply rest header pdu) finds, carries)
 
   -- what begins with ADUs that are dropped begins with the first of them
   begins_first : (bytes left : List ℕ) (message : Header × List ℕ) (adus : Adus) → Drops asked bytes (message ∷ adus) left → BeginsWith bytes message (stream_of adus ++ left)

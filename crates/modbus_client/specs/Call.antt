@@ -1,5 +1,5 @@
 -- What a call keeps, and what it does with the bytes that it is fed. There is no IO in it.
-use Rattle.std.specs.Prelude.{◌≡◌, ◌≢◌, ℕ, ◌+◌, ◌<◌, List, [], ◌∷◌, ◌++◌, length, Option, Some, None, Result, Ok, Err, OnOk, IfOk, IfErr}
+use Rattle.std.specs.Prelude.{◌≡◌, ◌≢◌, ℕ, ◌+◌, ◌<◌, List, [], ◌∷◌, ◌++◌, length, Option, Some, None, Result, Ok, Err, OnOk, IfOk, IfErr, IsOkAnd}
 use Rattle.bytes.specs.Filled.{Filled}
 use Rattle.modbus_frame.specs.Meaning.{Asked, function_asked}
 use Rattle.modbus_frame.specs.Stage.{of_bytes, transport_stage}
@@ -15,7 +15,7 @@ use Rattle.modbus_frame.specs.declared.fault.TransportError.TheVariants as trans
 use Rattle.modbus_pdu.specs.Coding.{Fits, Refuses, told_size}
 use Rattle.modbus_pdu.specs.Limits.{max_pdu}
 use Rattle.modbus_pdu.specs.RequestPdu.{request_pdu}
-use Rattle.modbus_pdu.specs.ResponseOf.{response_result_of}
+use Rattle.modbus_pdu.specs.ResponseOf.{AnswerCarriesMemory, response_result_of}
 use Rattle.modbus_client.specs.declared.protocol.Reply.{Reply}
 use Rattle.modbus_client.specs.declared.protocol.LookError.{LookError}
 use Rattle.modbus_client.specs.declared.protocol.LookError.TheVariants as look
@@ -97,9 +97,11 @@ pub record OpensCall {H : Type 0} (P : Protocol H) (header : H) (asked : Asked) 
   pub too_long : max_pdu < length (request_pdu asked) → result ≡ Err (encode.TooLong (told_size (request_pdu asked)))
   pub cause : IfErr result (λ refusal. Refuses refusal (request_pdu asked))
 
--- memory was refused for a message: the search found it in these bytes
+-- memory was refused for a message: the search found it in these bytes, and its PDU stands for an answer that carries memory
 abbrev pub WantsFor : {H : Type 0} → Protocol H → HeaderSeen → List ℕ → List ℕ → Type 0
-WantsFor P asked bytes cuts = (rest : List ℕ) × (header : HeaderSeen) × (pdu : List ℕ) × P.Finds asked bytes cuts (reply rest header pdu)
+WantsFor P asked bytes cuts =
+    (rest : List ℕ) × (header : HeaderSeen) × (pdu : List ℕ) × P.Finds asked bytes cuts (reply rest header pdu)
+    × IsOkAnd (response_result_of pdu) AnswerCarriesMemory
 
 -- one look at the bytes that are held after some were fed, by all bytes that were fed and their cuts
 abbrev pub LooksAs : {H : Type 0} → Protocol H → HeaderSeen → List ℕ → List ℕ → List ℕ → Result (Option Reply) LookError → Type 0

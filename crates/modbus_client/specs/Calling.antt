@@ -34,8 +34,8 @@ IsWaiting P asked bytes cuts = (kept : List ℕ) × P.Finds asked bytes cuts (wa
 
 -- How a connected call ended, by all bytes that it read and their cuts, and by what is then held. An answer of the bytes is that of the
 -- search in them; where the input ended, a read failed or the last turn was made, the search waits. Memory is wanting where the search
--- waits, for the request or for a read, or where it found a message, whatever its PDU: so it stands in for no `TooManyRetries`,
--- `InvalidLength` or `InvalidProtocol`, but may for any other answer of the bytes.
+-- waits, for the request or for a read, or where it found a message whose PDU stands for an answer that carries memory: so it stands
+-- in for no fault that the bytes have, be it `InvalidResponse`, `TooManyRetries`, `InvalidLength` or `InvalidProtocol`.
 abbrev pub CallEndsAs : {H : Type 0} → Protocol H → HeaderSeen → FunctionCode → List ℕ → List ℕ → List ℕ → Answer → Type 0
 CallEndsAs P asked function bytes cuts held (Err (Transport transport.NotConnected)) = ⊥
 CallEndsAs P asked function bytes cuts held (Err (Transport (transport.RequestTooLong size))) = (bytes ≡ []) × (held ≡ [])

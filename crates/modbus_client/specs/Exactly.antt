@@ -1,5 +1,5 @@
 -- What a call tells of a search, exactly.
-use Rattle.std.specs.Prelude.{◌≡◌, ◌≢◌, ◌⊎◌, ℕ, ◌<◌, List, [], ◌∷◌, Result, Ok, Err}
+use Rattle.std.specs.Prelude.{◌≡◌, ◌≢◌, ◌⊎◌, ℕ, ◌<◌, List, [], ◌∷◌, Result, Ok, Err, IsOkAnd}
 use Rattle.modbus_frame.specs.Stage.{of_bytes, error_stage}
 use Rattle.modbus_frame.specs.declared.code.FunctionCode.{FunctionCode}
 use Rattle.modbus_frame.specs.declared.fault.Reason.{Reason}
@@ -9,7 +9,7 @@ use Rattle.modbus_frame.specs.declared.fault.Error.TheVariants.{Transport, NoMem
 use Rattle.modbus_frame.specs.declared.fault.HeaderSeen.{HeaderSeen}
 use Rattle.modbus_frame.specs.declared.fault.TransportError.{TransportError}
 use Rattle.modbus_frame.specs.declared.fault.TransportError.TheVariants as transport
-use Rattle.modbus_pdu.specs.ResponseOf.{response_result_of}
+use Rattle.modbus_pdu.specs.ResponseOf.{AnswerCarriesMemory, response_result_of}
 use Rattle.modbus_client.specs.Protocol.{Found, waiting, reply, broken}
 use Rattle.modbus_client.specs.Matching.{Answer, Judges}
 
@@ -29,11 +29,13 @@ IsOfWaiting (Err (Transport transport.NotConnected)) = ⊥
 IsOfWaiting (Err error) = error_stage error ≢ of_bytes
 IsOfWaiting (Ok result) = ⊥
 
--- What a call tells of its search: a message gives its answer, unless memory is wanting; a fault of the bytes is told, whatever memory
--- there is; where the search waits, the answer is none of the bytes.
+-- What a call tells of its search: a message gives its answer, unless memory is wanting for one that carries memory; a PDU that is
+-- refused and a fault of the bytes are told, whatever memory there is; where the search waits, the answer is none of the bytes.
 abbrev pub IsToldOf : HeaderSeen → FunctionCode → Found → Answer → Type 0
 IsToldOf asked function (waiting held) answer = IsOfWaiting answer
-IsToldOf asked function (reply held seen pdu) answer = IsAnswerTo asked function seen (response_result_of pdu) answer ⊎ (answer ≡ Err NoMemory)
+IsToldOf asked function (reply held seen pdu) answer =
+    IsAnswerTo asked function seen (response_result_of pdu) answer
+    ⊎ ((answer ≡ Err NoMemory) × IsOkAnd (response_result_of pdu) AnswerCarriesMemory)
 IsToldOf asked function (broken held fault) answer = answer ≡ Err (Transport fault)
 
 -- What a call tells whose search waits with these bytes held, where the request fits and nothing failed: that the turns ran out where so

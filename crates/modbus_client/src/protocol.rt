@@ -30,7 +30,7 @@ pub enum LookError {
     Broken(TransportError),
     /// The PDU of the next message is no response, for this reason.
     Refused(Reason),
-    /// Memory was refused.
+    /// Memory was refused, for a message whose PDU is a response that carries a list or bytes.
     NoMemory,
 }
 

@@ -33,7 +33,8 @@ impl Adus {
     /// Takes off the ADU at the front of the held bytes. `None` where it is not whole.
     ///
     /// # Errors
-    /// `Broken` for a header that tells no ADU of Modbus, `Refused` where the PDU is no response, `NoMemory` where memory is refused.
+    /// `Broken` for a header that tells no ADU of Modbus, `Refused` where the PDU is no response, `NoMemory` where memory is refused for a
+    /// PDU that carries a list or bytes.
     pub(crate) fn take_adu(
         &mut self,
         alloc: Global,

@@ -33,7 +33,9 @@ pub use crate::limits::{
 };
 pub use crate::request_decoder::decode_request;
 pub use crate::request_encoder::{encode_request_pdu, put_request_pdu, request_pdu_size};
-pub use crate::response_decoder::{decode_response, decode_response_pdu};
+pub use crate::response_decoder::{
+    decode_response, decode_response_pdu, read_response, read_response_pdu,
+};
 pub use crate::response_encoder::{
     encode_response_pdu, encode_response_result_pdu, put_response_result_pdu, response_pdu_size,
     response_result_pdu_size,

@@ -189,12 +189,12 @@ fn read_objects(
 #[tactic(auto, unfolding(crate::specs::ResponseOf::device_identification_of))]
 fn device_identification(
     alloc: Global,
-    pdu: &Bytes,
+    pdu: &[u8],
 ) -> Result<ReadDeviceIdentificationResponse, PduError>
     ensures value { Decodes (λ found. found) result (device_identification_of pdu.now) }
     ensures memory { result ≡ Err PduError.NoMemory → IsOk (device_identification_of pdu.now) }
 {
-    let mut cursor = Cursor::new(pdu.as_slice());
+    let mut cursor = Cursor::new(pdu);
     let _function = cursor.byte()?;
     let mei = cursor.byte()?;
     if mei != MEI_DEVICE_IDENTIFICATION {
@@ -215,10 +215,12 @@ fn device_identification(
     let next_object_id = cursor.byte()?;
     let count = cursor.byte()?;
     // All bytes are judged before memory is asked for.
-    if objects_end(pdu.as_slice(), cursor.at, count)? < pdu.len() {
+    if objects_end(pdu, cursor.at, count)? < pdu.len() {
         return Err(PduError::Refused(Reason::UndecodedData));
     }
-    let found = read_objects(alloc, pdu, &mut cursor, count)?;
+    // The values of the objects share one copy of the PDU.
+    let shared = Bytes::copy_from_slice(alloc, pdu)?;
+    let found = read_objects(alloc, &shared, &mut cursor, count)?;
     Ok(ReadDeviceIdentificationResponse {
         read_code,
         conformity_level,
@@ -230,7 +232,7 @@ fn device_identification(
 
 /// The response of a PDU with this function code, after which the cursor stands.
 #[tactic(auto, unfolding(crate::specs::ResponseOf::answered_by))]
-fn answered(alloc: Global, code: u8, pdu: &Bytes, cursor: Cursor<'_>) -> Result<Response, PduError>
+fn answered(alloc: Global, code: u8, pdu: &[u8], cursor: Cursor<'_>) -> Result<Response, PduError>
     requires bytes { cursor.bytes.now ≡ pdu.now }
     requires at { cursor.at ≡ 1 }
     ensures value { Decodes (λ response. response) result (answered_by code pdu.now) }
@@ -290,47 +292,71 @@ fn answered(alloc: Global, code: u8, pdu: &Bytes, cursor: Cursor<'_>) -> Result<
             Ok(Response::ReadDeviceIdentification(found))
         }
         _ => {
-            let rest = pdu.slice(1..)?;
+            let rest = Bytes::copy_from_slice(alloc, cursor.rest())?;
             Ok(Response::Custom(code, rest))
         }
     }
 }
 
-/// The response of a PDU (section 6), or the first reason that refuses it.
+/// The response of a PDU (section 6), or the first reason that refuses it. The PDU is read where it lies.
 ///
 /// Function codes that have no kind of their own give `Custom`, also those of `EXCEPTION_BIT` and above.
 /// `NoMemory` comes only where memory is refused, and only where the PDU is a response that carries a list
-/// or bytes of its own.
+/// or bytes of its own: a PDU that is refused needs none.
 #[tactic(auto, unfolding(crate::specs::ResponseOf::response_of))]
+pub fn read_response(alloc: Global, pdu: &[u8]) -> Result<Response, PduError>
+    ensures response { Decodes (λ response. response) result (response_of pdu.now) }
+    ensures memory { result ≡ Err PduError.NoMemory
+        → IsOkAnd (response_of pdu.now) CarriesMemory }
+{
+    let mut cursor = Cursor::new(pdu);
+    let code = cursor.byte()?;
+    answered(alloc, code, pdu, cursor)
+}
+
+/// What a server's PDU stands for: a response, or from the function code `EXCEPTION_BIT` on an exception
+/// (section 7). Else the first reason that refuses it. The PDU is read where it lies.
+///
+/// An empty PDU is `UnexpectedEnd`. `NoMemory` comes only where memory is refused, and only where the PDU
+/// is a response that carries a list or bytes of its own: a PDU that is refused needs none.
+#[tactic(auto, unfolding(crate::specs::ResponseOf::response_result_of))]
+pub fn read_response_pdu(alloc: Global, pdu: &[u8]) -> Result<ResponsePdu, PduError>
+    ensures result { Decodes (λ answer. answer.0) result (response_result_of pdu.now) }
+    ensures memory { result ≡ Err PduError.NoMemory
+        → IsOkAnd (response_result_of pdu.now) AnswerCarriesMemory }
+{
+    match pdu {
+        [] => Err(PduError::Refused(Reason::UnexpectedEnd)),
+        [code, ..] if *code >= EXCEPTION_BIT => {
+            let refusal = decode_exception(pdu)?;
+            Ok(ResponsePdu(Err(refusal)))
+        }
+        _ => {
+            let response = read_response(alloc, pdu)?;
+            Ok(ResponsePdu(Ok(response)))
+        }
+    }
+}
+
+/// The response of a PDU, as `read_response` reads it.
+///
+/// `NoMemory` comes only where memory is refused, and only where the PDU is a response that carries a list
+/// or bytes of its own.
 pub fn decode_response(alloc: Global, pdu: Bytes) -> Result<Response, PduError>
     ensures response { Decodes (λ response. response) result (response_of pdu) }
     ensures memory { result ≡ Err PduError.NoMemory → IsOkAnd (response_of pdu) CarriesMemory }
 {
-    let mut cursor = Cursor::new(pdu.as_slice());
-    let code = cursor.byte()?;
-    answered(alloc, code, &pdu, cursor)
+    read_response(alloc, pdu.as_slice())
 }
 
-/// What a server's PDU stands for: a response, or from the function code `EXCEPTION_BIT` on an exception
-/// (section 7). Else the first reason that refuses it.
+/// What a server's PDU stands for, as `read_response_pdu` reads it: a response or an exception.
 ///
-/// An empty PDU is `UnexpectedEnd`. `NoMemory` comes only where memory is refused, and only where the PDU
-/// is a response that carries a list or bytes of its own.
-#[tactic(auto, unfolding(crate::specs::ResponseOf::response_result_of))]
+/// `NoMemory` comes only where memory is refused, and only where the PDU is a response that carries a list
+/// or bytes of its own.
 pub fn decode_response_pdu(alloc: Global, pdu: Bytes) -> Result<ResponsePdu, PduError>
     ensures result { Decodes (λ answer. answer.0) result (response_result_of pdu) }
     ensures memory { result ≡ Err PduError.NoMemory
         → IsOkAnd (response_result_of pdu) AnswerCarriesMemory }
 {
-    match pdu.as_slice() {
-        [] => Err(PduError::Refused(Reason::UnexpectedEnd)),
-        [code, ..] if *code >= EXCEPTION_BIT => {
-            let refusal = decode_exception(pdu.as_slice())?;
-            Ok(ResponsePdu(Err(refusal)))
-        }
-        _ => {
-            let response = decode_response(alloc, pdu)?;
-            Ok(ResponsePdu(Ok(response)))
-        }
-    }
+    read_response_pdu(alloc, pdu.as_slice())
 }

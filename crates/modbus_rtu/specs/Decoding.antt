@@ -1,5 +1,5 @@
 -- What the decoders take out of a buffer, and what then stands in it and in the record of dropped bytes.
-use Rattle.std.specs.Prelude.{◌≡◌, ◌≢◌, ℕ, ◌+◌, ◌*◌, ◌<◌, ◌≤◌, ◌⊎◌, if◌then◌else◌, nat_lt, List, [], ◌∷◌, ◌++◌, fold, length, take, drop, slice_index, Option, Some, None, Result, Ok, Err, IsOkAnd}
+use Rattle.std.specs.Prelude.{◌≡◌, ◌≢◌, ℕ, ◌+◌, ◌*◌, ◌<◌, ◌≤◌, if◌then◌else◌, nat_lt, List, [], ◌∷◌, ◌++◌, fold, length, take, drop, slice_index, Option, Some, None, Result, Ok, Err, IsOkAnd}
 use Rattle.modbus_frame.specs.declared.fault.Reason.{Reason}
 use Rattle.modbus_frame.specs.declared.fault.PduError.{PduError}
 use Rattle.modbus_frame.specs.declared.fault.PduError.TheVariants as pdu_errors
@@ -63,9 +63,9 @@ abbrev pub error_of : PduError → RtuError
 error_of (pdu_errors.Refused reason) = errors.Invalid reason
 error_of pdu_errors.NoMemory = errors.NoMemory
 
--- The same of a codec, which then reads the PDU of the frame that is taken off: `slave` and `meaning` are what its answer tells of
--- the frame. Where the PDU is refused the frame is gone. Where memory is wanting for the frame it stays. It is gone where memory is
--- wanting for what its PDU stands for, which is then something that carries memory.
+-- The same of a codec, which reads the PDU of the next frame where it lies: `slave` and `meaning` are what its answer tells of the
+-- frame. Where the PDU is refused the frame is gone. Memory is wanting only for a PDU that stands for something that carries memory;
+-- nothing is gone then.
 abbrev pub ReadsBy : {A M : Type 0} → (List ℕ → Verdict) → (List ℕ → Result M Reason) → (M → Type 0) → (A → ℕ) → (A → M) → List ℕ → Result (Option A) RtuError → List ℕ → Type 0
 ReadsBy judge read carries slave meaning old (Ok (Some adu)) new =
     (start : ℕ) × (n : ℕ) × IsNextBy judge old (Frame start n) × (slave adu ≡ slice_index old start) × (read (take n (drop (start + 1) old)) ≡ Ok (meaning adu)) × (new ≡ drop (start + (n + overhead)) old)
@@ -76,5 +76,4 @@ ReadsBy judge read carries slave meaning old (Err errors.TooManyRetries) new =
 ReadsBy judge read carries slave meaning old (Err (errors.Invalid reason)) new =
     (start : ℕ) × (n : ℕ) × IsNextBy judge old (Frame start n) × (read (take n (drop (start + 1) old)) ≡ Err reason) × (new ≡ drop (start + (n + overhead)) old)
 ReadsBy judge read carries slave meaning old (Err errors.NoMemory) new =
-    (start : ℕ) × (n : ℕ) × IsNextBy judge old (Frame start n)
-    × ((new ≡ drop start old) ⊎ (IsOkAnd (read (take n (drop (start + 1) old))) carries × (new ≡ drop (start + (n + overhead)) old)))
+    (start : ℕ) × (n : ℕ) × IsNextBy judge old (Frame start n) × IsOkAnd (read (take n (drop (start + 1) old))) carries × (new ≡ old)

@@ -1,22 +1,28 @@
 -- What stands at the front of the bytes that a reader holds.
 use Rattle.std.specs.Prelude.{◌≡◌, ℕ, ◌+◌, ◌<◌, ◌≤◌, List, [], ◌∷◌, ◌++◌, length, take, drop, slice_index, Result, Ok, Err}
+use Rattle.modbus_rtu.specs.declared.verdict.Verdict.{Verdict}
 use Rattle.modbus_rtu.specs.declared.verdict.Verdict.TheVariants.{Open}
 use Rattle.modbus_rtu.specs.declared.search.Next.TheVariants as next
 use Rattle.modbus_rtu.specs.declared.front.Front.{Front}
 use Rattle.modbus_rtu.specs.declared.front.Front.TheVariants as front
 use Rattle.modbus_rtu.specs.declared.front.Crowd.{Crowd}
-use Rattle.modbus_rtu.specs.Frame.{verdict}
-use Rattle.modbus_rtu.specs.Next.{IsNext}
+use Rattle.modbus_rtu.specs.Frame.{verdict, verdict_of}
+use Rattle.modbus_rtu.specs.Next.{IsNextBy}
 use Rattle.modbus_rtu.specs.Stands.{StandsFor, IsTakenNext, IsFirstCrowd, IsUsedUp}
 use Rattle.modbus_rtu.specs.Limits.{overhead, max_frame, max_retries}
 
--- The next frame, which lies within the held bytes; or so many bad offsets before an open one, with fewer bytes from there on than
--- the longest frame has; or `max_retries` bad offsets.
+-- By what judges the bytes from an offset on: the next frame, which lies within the held bytes; or so many bad offsets before an open
+-- one, with fewer bytes from there on than the longest frame has; or `max_retries` bad offsets.
+abbrev pub FindsBy : (List ℕ → Verdict) → ℕ → List ℕ → Result Front Crowd → Type 0
+FindsBy judge longest held (Ok (front.Frame slave pdu end)) =
+    (start : ℕ) × (n : ℕ) × IsNextBy judge held (next.Frame start n) × (slave ≡ slice_index held start) × (pdu.now ≡ take n (drop (start + 1) held)) × (end ≡ start + (n + overhead)) × (end ≤ length held)
+FindsBy judge longest held (Ok (front.Waiting dropped)) =
+    IsNextBy judge held (next.Waiting dropped) × (dropped ≤ length held) × (length held < dropped + longest)
+FindsBy judge longest held (Err crowd) = IsNextBy judge held next.TooManyRetries × (max_retries ≤ length held)
+
+-- the same for requests
 abbrev pub Finds : List ℕ → Result Front Crowd → Type 0
-Finds held (Ok (front.Frame slave pdu end)) =
-    (start : ℕ) × (n : ℕ) × IsNext held (next.Frame start n) × (slave ≡ slice_index held start) × (pdu.now ≡ take n (drop (start + 1) held)) × (end ≡ start + (n + overhead)) × (end ≤ length held)
-Finds held (Ok (front.Waiting dropped)) = IsNext held (next.Waiting dropped) × (dropped ≤ length held) × (length held < dropped + max_frame)
-Finds held (Err crowd) = IsNext held next.TooManyRetries × (max_retries ≤ length held)
+Finds held result = FindsBy verdict_of max_frame held result
 
 -- what this says of the bytes that were given so far, and what the bytes behind it then stand for
 abbrev pub FindsIn : List ℕ → List ℕ → List (ℕ × List ℕ) → List ℕ → Result Front Crowd → Type 0

@@ -15,32 +15,29 @@ ghost use Rattle.modbus_rtu.specs.Decoding.{ReadsBy};
 ghost use Rattle.modbus_frame.specs.FunctionCodes.{exception_bit};
 ghost use Rattle.modbus_rtu.specs.Limits.{max_frame, longest_identification};
 
-use crate::decoder::{RequestDecoder, ResponseDecoder};
 use crate::encoder::{encode_request_frame, encode_response_frame};
+use crate::front::{Crowd, Front, find_by};
 use crate::inbox::RtuError;
+use crate::length::RequestRule;
+use crate::response_length::ResponseRule;
+use crate::search::MAX_RETRIES;
 use bytes::BytesMut;
-use modbus_frame::{EncodeError, RequestPdu, rtu};
-use modbus_pdu::{decode_request, decode_response_pdu};
+use modbus_frame::{EncodeError, PduError, RequestPdu, rtu};
+use modbus_pdu::{decode_request, read_response_pdu};
 use std::alloc::Global;
 
 /// The codec of a client: it writes the frames of requests, and reads those of responses.
 #[derive(Debug, Default, Drop)]
-pub struct ClientCodec {
-    decoder: ResponseDecoder,
-}
+pub struct ClientCodec;
 
 /// The codec of a server: it reads the frames of requests, and writes those of responses.
 #[derive(Debug, Default, Drop)]
-pub struct ServerCodec {
-    decoder: RequestDecoder,
-}
+pub struct ServerCodec;
 
 impl ClientCodec {
     /// A codec that was given no byte.
     pub fn new() -> ClientCodec {
-        ClientCodec {
-            decoder: ResponseDecoder::new(),
-        }
+        ClientCodec
     }
 
     /// Takes off the next frame of a response, with all bytes before it, and reads its PDU: a response or an exception. `None` where
@@ -48,9 +45,9 @@ impl ClientCodec {
     ///
     /// # Errors
     /// `TooManyRetries` exactly where no frame stands at the first `MAX_RETRIES` offsets; they are dropped. `Invalid` with the
-    /// reason, exactly where the PDU of the next frame is refused; the frame is gone. `NoMemory` where memory is refused for a
-    /// frame; then the bytes before it are gone, and it stays, or is gone too where its PDU is a response that carries a list or
-    /// bytes.
+    /// reason, exactly where the PDU of the next frame is refused, whatever memory there is; the frame is gone. `NoMemory` where
+    /// memory is refused, only for a PDU that is a response that carries a list or bytes; then the buffer stays as it is, so
+    /// that the same frame can be read again.
     #[tactic(auto, unfolding(crate::specs::ResponseHead::response_verdict))]
     pub fn decode(
         &mut self,
@@ -60,14 +57,30 @@ impl ClientCodec {
         ensures reads { ReadsBy response_verdict response_result_of AnswerCarriesMemory (λ adu. adu.hdr.slave_id) (λ adu. adu.pdu.0) buf.old.items result buf.new.items }
         ensures short { result ≡ Ok None → length buf.new.items < longest_identification }
     {
-        let Some((slave_id, pdu)) = self.decoder.decode(alloc, buf)? else {
-            return Ok(None);
-        };
-        let pdu = decode_response_pdu(alloc, pdu)?;
-        Ok(Some(rtu::ResponseAdu {
-            hdr: rtu::Header { slave_id },
-            pdu,
-        }))
+        match find_by(&ResponseRule, buf.as_slice()) {
+            Err(Crowd) => {
+                buf.advance(MAX_RETRIES);
+                Err(RtuError::TooManyRetries)
+            }
+            Ok(Front::Waiting { dropped }) => {
+                buf.advance(dropped);
+                Ok(None)
+            }
+            Ok(Front::Frame { slave, pdu, end }) => match read_response_pdu(alloc, pdu) {
+                Ok(pdu) => {
+                    buf.advance(end);
+                    Ok(Some(rtu::ResponseAdu {
+                        hdr: rtu::Header { slave_id: slave },
+                        pdu,
+                    }))
+                }
+                Err(PduError::Refused(reason)) => {
+                    buf.advance(end);
+                    Err(RtuError::Invalid(reason))
+                }
+                Err(PduError::NoMemory) => Err(RtuError::NoMemory),
+            },
+        }
     }
 
     /// Appends the frame of a request: its slave address, its PDU, and the checksum of both.
@@ -91,9 +104,7 @@ impl ClientCodec {
 impl ServerCodec {
     /// A codec that was given no byte.
     pub fn new() -> ServerCodec {
-        ServerCodec {
-            decoder: RequestDecoder::new(),
-        }
+        ServerCodec
     }
 
     /// Takes off the next frame of a request, with all bytes before it, and reads its PDU. `None` where there is no whole frame; the
@@ -101,8 +112,9 @@ impl ServerCodec {
     ///
     /// # Errors
     /// `TooManyRetries` exactly where no frame stands at the first `MAX_RETRIES` offsets; they are dropped. `Invalid` with the
-    /// reason, exactly where the PDU of the next frame is refused; the frame is gone. `NoMemory` where memory is refused for a
-    /// frame; then the bytes before it are gone, and it stays, or is gone too where its PDU is a request that carries a list.
+    /// reason, exactly where the PDU of the next frame is refused, whatever memory there is; the frame is gone. `NoMemory` where
+    /// memory is refused, only for a PDU that is a request that carries a list; then the buffer stays as it is, so that the
+    /// same frame can be read again.
     #[tactic(auto, unfolding(crate::specs::Frame::verdict_of))]
     pub fn decode(
         &mut self,
@@ -112,14 +124,30 @@ impl ServerCodec {
         ensures reads { ReadsBy verdict_of request_of CarriesList (λ adu. adu.hdr.slave_id) (λ adu. meaning adu.pdu.0) buf.old.items result buf.new.items }
         ensures short { result ≡ Ok None → length buf.new.items < max_frame }
     {
-        let Some((slave_id, pdu)) = self.decoder.decode(alloc, buf)? else {
-            return Ok(None);
-        };
-        let request = decode_request(alloc, pdu.as_slice())?;
-        Ok(Some(rtu::RequestAdu {
-            hdr: rtu::Header { slave_id },
-            pdu: RequestPdu(request),
-        }))
+        match find_by(&RequestRule, buf.as_slice()) {
+            Err(Crowd) => {
+                buf.advance(MAX_RETRIES);
+                Err(RtuError::TooManyRetries)
+            }
+            Ok(Front::Waiting { dropped }) => {
+                buf.advance(dropped);
+                Ok(None)
+            }
+            Ok(Front::Frame { slave, pdu, end }) => match decode_request(alloc, pdu) {
+                Ok(request) => {
+                    buf.advance(end);
+                    Ok(Some(rtu::RequestAdu {
+                        hdr: rtu::Header { slave_id: slave },
+                        pdu: RequestPdu(request),
+                    }))
+                }
+                Err(PduError::Refused(reason)) => {
+                    buf.advance(end);
+                    Err(RtuError::Invalid(reason))
+                }
+                Err(PduError::NoMemory) => Err(RtuError::NoMemory),
+            },
+        }
     }
 
     /// Appends the frame of a response or an exception: its slave address, its PDU, and the checksum of both. The function of an

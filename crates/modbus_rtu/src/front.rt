@@ -1,9 +1,10 @@
 //! What stands at the front of the bytes that a reader holds: the next frame, lent from where it lies.
 ghost use Rattle.std.specs.Prelude.{◌≡◌, ◌+◌, ◌≤◌, ◌++◌, length};
-ghost use Rattle.modbus_rtu.specs.Front.{Finds};
+ghost use Rattle.modbus_rtu.specs.Frame.{judged_by};
+ghost use Rattle.modbus_rtu.specs.Front.{Finds, FindsBy};
 
-use crate::length::OVERHEAD;
-use crate::search::{Next, next_frame};
+use crate::length::{LengthRule, OVERHEAD, RequestRule};
+use crate::search::{Next, next_frame_by};
 use modbus_frame::SlaveId;
 
 /// What a search of the held bytes finds.
@@ -26,12 +27,12 @@ pub enum Front<'a> {
 #[derive(Clone, Copy, Debug, PartialEq, Eq)]
 pub struct Crowd;
 
-/// Searches held bytes for the next frame of a request.
+/// Searches held bytes for the next frame, by a length rule. No byte is copied.
 #[inline(always)]
-pub(crate) fn find(held: &[u8]) -> Result<Front<'_>, Crowd>
-    ensures { Finds held.now result }
+pub(crate) fn find_by<'a, R: LengthRule>(rule: &R, held: &'a [u8]) -> Result<Front<'a>, Crowd>
+    ensures { FindsBy (judged_by R.head) R.longest held.now result }
 {
-    match next_frame(held) {
+    match next_frame_by(rule, held) {
         Next::TooManyRetries => Err(Crowd),
         Next::Waiting { dropped } => Ok(Front::Waiting { dropped }),
         Next::Frame { start, pdu_len } => Ok(Front::Frame {
@@ -40,6 +41,15 @@ pub(crate) fn find(held: &[u8]) -> Result<Front<'_>, Crowd>
             end: start + pdu_len + OVERHEAD,
         }),
     }
+}
+
+/// Searches held bytes for the next frame of a request.
+#[inline(always)]
+#[tactic(auto, unfolding(crate::specs::Frame::verdict_of))]
+pub(crate) fn find(held: &[u8]) -> Result<Front<'_>, Crowd>
+    ensures { Finds held.now result }
+{
+    find_by(&RequestRule, held)
 }
 
 /// Copies two pieces of bytes one behind the other.

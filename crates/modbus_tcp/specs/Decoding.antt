@@ -45,9 +45,9 @@ abbrev pub error_of : PduError → TcpError
 error_of (pdu_errors.Refused reason) = errors.Invalid reason
 error_of pdu_errors.NoMemory = errors.NoMemory
 
--- The same of a codec, which then reads the PDU of the ADU that is taken off: `header` and `meaning` are what its answer tells of
--- the ADU. Where the PDU is refused the ADU is gone. Where memory is wanting for the ADU it stays. It is gone where memory is
--- wanting for what its PDU stands for, which is then something that carries memory.
+-- The same of a codec, which reads the PDU of the first ADU where it lies: `header` and `meaning` are what its answer tells of the
+-- ADU. Where the PDU is refused the ADU is gone. Memory is wanting only for a PDU that stands for something that carries memory;
+-- nothing is gone then.
 abbrev pub ReadsAdu : {A M : Type 0} → (List ℕ → Result M Reason) → (M → Type 0) → (A → Header) → (A → M) → List ℕ → Result (Option A) TcpError → List ℕ → Type 0
 ReadsAdu read carries header meaning old (Ok (Some adu)) new =
     (pdu : List ℕ) × BeginsWith old (header adu, pdu) new × (read pdu ≡ Ok (meaning adu))
@@ -57,4 +57,4 @@ ReadsAdu read carries header meaning old (Err (errors.InvalidProtocol protocol))
 ReadsAdu read carries header meaning old (Err (errors.Invalid reason)) new =
     (message : Header × List ℕ) × BeginsWith old message new × (read message.1 ≡ Err reason)
 ReadsAdu read carries header meaning old (Err errors.NoMemory) new =
-    (message : Header × List ℕ) × (others : List ℕ) × BeginsWith old message others × ((new ≡ old) ⊎ (IsOkAnd (read message.1) carries × (new ≡ others)))
+    (message : Header × List ℕ) × (others : List ℕ) × BeginsWith old message others × IsOkAnd (read message.1) carries × (new ≡ old)

@@ -14,31 +14,27 @@ ghost use Rattle.modbus_tcp.specs.Decoding.{ReadsAdu};
 ghost use Rattle.modbus_tcp.specs.Adu.{adu_of};
 ghost use Rattle.modbus_tcp.specs.Limits.{longest_adu};
 
-use crate::decoder::{AduDecoder, TcpError};
+use crate::decoder::TcpError;
 use crate::encoder::{encode_request_adu, encode_response_adu};
+use crate::mbap::{HEADER, front};
+use crate::stream::{Front, HeaderFault};
 use bytes::BytesMut;
-use modbus_frame::{EncodeError, RequestPdu, tcp};
-use modbus_pdu::{decode_request, decode_response_pdu};
+use modbus_frame::{EncodeError, PduError, RequestPdu, tcp};
+use modbus_pdu::{decode_request, read_response_pdu};
 use std::alloc::Global;
 
 /// The codec of a client: it writes the ADUs of requests, and reads those of responses.
 #[derive(Debug, Default, Drop)]
-pub struct ClientCodec {
-    decoder: AduDecoder,
-}
+pub struct ClientCodec;
 
 /// The codec of a server: it reads the ADUs of requests, and writes those of responses.
 #[derive(Debug, Default, Drop)]
-pub struct ServerCodec {
-    decoder: AduDecoder,
-}
+pub struct ServerCodec;
 
 impl ClientCodec {
     /// A codec that was given no byte.
     pub fn new() -> ClientCodec {
-        ClientCodec {
-            decoder: AduDecoder::new(),
-        }
+        ClientCodec
     }
 
     /// Takes off the next ADU of a response, and reads its PDU: a response or an exception. `None` where the ADU is not whole; the
@@ -47,8 +43,8 @@ impl ClientCodec {
     /// # Errors
     /// `InvalidLength` exactly where the header tells the length 0; the buffer stays. `InvalidProtocol` with the number, exactly
     /// where the ADU is whole and its protocol is not Modbus; its header is gone. `Invalid` with the reason, exactly where
-    /// the PDU of the ADU is refused; the ADU is gone. `NoMemory` where memory is refused for an ADU; it stays, or is gone where its PDU
-    /// is a response that carries a list or bytes.
+    /// the PDU of the ADU is refused, whatever memory there is; the ADU is gone. `NoMemory` where memory is refused, only for a PDU
+    /// that is a response that carries a list or bytes; the buffer then stays, so that the same ADU can be read again.
     pub fn decode(
         &mut self,
         alloc: Global,
@@ -57,11 +53,25 @@ impl ClientCodec {
         ensures reads { ReadsAdu response_result_of AnswerCarriesMemory (λ adu. adu.hdr) (λ adu. adu.pdu.0) buf.old.items result buf.new.items }
         ensures short { result ≡ Ok None → length buf.new.items < longest_adu }
     {
-        let Some((hdr, pdu)) = self.decoder.decode(alloc, buf)? else {
-            return Ok(None);
-        };
-        let pdu = decode_response_pdu(alloc, pdu)?;
-        Ok(Some(tcp::ResponseAdu { hdr, pdu }))
+        match front(buf.as_slice()) {
+            Ok(Front::Adu { header, pdu, end }) => match read_response_pdu(alloc, pdu) {
+                Ok(pdu) => {
+                    buf.advance(end);
+                    Ok(Some(tcp::ResponseAdu { hdr: header, pdu }))
+                }
+                Err(PduError::Refused(reason)) => {
+                    buf.advance(end);
+                    Err(TcpError::Invalid(reason))
+                }
+                Err(PduError::NoMemory) => Err(TcpError::NoMemory),
+            },
+            Ok(Front::Waiting) => Ok(None),
+            Err(HeaderFault::InvalidLength) => Err(TcpError::InvalidLength),
+            Err(HeaderFault::InvalidProtocol(protocol)) => {
+                buf.advance(HEADER);
+                Err(TcpError::InvalidProtocol(protocol))
+            }
+        }
     }
 
     /// Appends the ADU of a request: the header, with the transaction and the unit identifier, and the PDU (section 3.1).
@@ -85,9 +95,7 @@ impl ClientCodec {
 impl ServerCodec {
     /// A codec that was given no byte.
     pub fn new() -> ServerCodec {
-        ServerCodec {
-            decoder: AduDecoder::new(),
-        }
+        ServerCodec
     }
 
     /// Takes off the next ADU of a request, and reads its PDU. `None` where the ADU is not whole; the buffer then stays, and fewer
@@ -96,8 +104,8 @@ impl ServerCodec {
     /// # Errors
     /// `InvalidLength` exactly where the header tells the length 0; the buffer stays. `InvalidProtocol` with the number, exactly
     /// where the ADU is whole and its protocol is not Modbus; its header is gone. `Invalid` with the reason, exactly where
-    /// the PDU of the ADU is refused; the ADU is gone. `NoMemory` where memory is refused for an ADU; it stays, or is gone where its PDU
-    /// is a request that carries a list.
+    /// the PDU of the ADU is refused, whatever memory there is; the ADU is gone. `NoMemory` where memory is refused, only for a PDU
+    /// that is a request that carries a list; the buffer then stays, so that the same ADU can be read again.
     pub fn decode(
         &mut self,
         alloc: Global,
@@ -106,14 +114,28 @@ impl ServerCodec {
         ensures reads { ReadsAdu request_of CarriesList (λ adu. adu.hdr) (λ adu. meaning adu.pdu.0) buf.old.items result buf.new.items }
         ensures short { result ≡ Ok None → length buf.new.items < longest_adu }
     {
-        let Some((hdr, pdu)) = self.decoder.decode(alloc, buf)? else {
-            return Ok(None);
-        };
-        let request = decode_request(alloc, pdu.as_slice())?;
-        Ok(Some(tcp::RequestAdu {
-            hdr,
-            pdu: RequestPdu(request),
-        }))
+        match front(buf.as_slice()) {
+            Ok(Front::Adu { header, pdu, end }) => match decode_request(alloc, pdu) {
+                Ok(request) => {
+                    buf.advance(end);
+                    Ok(Some(tcp::RequestAdu {
+                        hdr: header,
+                        pdu: RequestPdu(request),
+                    }))
+                }
+                Err(PduError::Refused(reason)) => {
+                    buf.advance(end);
+                    Err(TcpError::Invalid(reason))
+                }
+                Err(PduError::NoMemory) => Err(TcpError::NoMemory),
+            },
+            Ok(Front::Waiting) => Ok(None),
+            Err(HeaderFault::InvalidLength) => Err(TcpError::InvalidLength),
+            Err(HeaderFault::InvalidProtocol(protocol)) => {
+                buf.advance(HEADER);
+                Err(TcpError::InvalidProtocol(protocol))
+            }
+        }
     }
 
     /// Appends the ADU of a response or an exception: the header, with the transaction and the unit identifier of the request, and

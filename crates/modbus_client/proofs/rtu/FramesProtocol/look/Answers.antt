@@ -30,9 +30,10 @@ returns-in-Err-Invalid-clause-looks c = λ bytes cuts earlier more s is some.
 
 pub returns-in-Err-NoMemory-clause-looks : goal.returns-in-Err-NoMemory-clause-looks
 returns-in-Err-NoMemory-clause-looks c = λ bytes cuts earlier more s is some.
-    let (start, n, next, wants) = (rw c.in-Err-NoMemory.field-0-is at c.in-Err-NoMemory.ensures).reads in (
+    let (start, n, next, carries, stays) = (rw c.in-Err-NoMemory.field-0-is at c.in-Err-NoMemory.ensures).reads in (
       drop (start + (n + 3)) c.args.held.now.items,
       slave_seen (slice_index c.args.held.now.items start),
       take n (drop (start + 1) c.args.held.now.items),
       looks_reply c.responses_by_front.ensures.end bytes cuts earlier s more c.args.held.now.items is some start n (slave_seen (slice_index c.args.held.now.items start)) (drop (start + (n + 3)) c.args.held.now.items) next refl refl,
+      carries,
     )

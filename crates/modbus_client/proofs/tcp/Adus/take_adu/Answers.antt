@@ -8,4 +8,5 @@ returns-in-Err-Invalid-clause-looks c = λ asked cuts.
 
 pub returns-in-Err-NoMemory-clause-looks : goal.returns-in-Err-NoMemory-clause-looks
 returns-in-Err-NoMemory-clause-looks c = λ asked cuts.
-    let (message, others, begins, wants) = (rw c.in-Err-NoMemory.field-0-is at c.in-Err-NoMemory.ensures).reads in (others, header_seen message.0, message.1, (message.0, begins, refl))
+    let (message, others, begins, carries, stays) = (rw c.in-Err-NoMemory.field-0-is at c.in-Err-NoMemory.ensures).reads in
+    (others, header_seen message.0, message.1, (message.0, begins, refl), carries)
