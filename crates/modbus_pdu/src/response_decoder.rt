@@ -185,6 +185,21 @@ fn read_objects(
     Ok(found)
 }
 
+/// So many objects from the cursor on, whose values share one copy of the PDU.
+fn copied_objects(
+    alloc: Global,
+    pdu: &[u8],
+    cursor: &mut Cursor<'_>,
+    count: u8,
+) -> Result<Vec<DeviceIdObject>, PduError>
+    requires { cursor.old.bytes.now ≡ pdu.now }
+    ensures value { Decodes (λ v. (v.items, cursor.new.at)) result
+        (objects_at count cursor.old.at pdu.now) }
+{
+    let shared = Bytes::copy_from_slice(alloc, pdu)?;
+    read_objects(alloc, &shared, cursor, count)
+}
+
 /// The device identification of a PDU whose function code says that it is one.
 #[tactic(auto, unfolding(crate::specs::ResponseOf::device_identification_of))]
 fn device_identification(
@@ -218,9 +233,7 @@ fn device_identification(
     if objects_end(pdu, cursor.at, count)? < pdu.len() {
         return Err(PduError::Refused(Reason::UndecodedData));
     }
-    // The values of the objects share one copy of the PDU.
-    let shared = Bytes::copy_from_slice(alloc, pdu)?;
-    let found = read_objects(alloc, &shared, &mut cursor, count)?;
+    let found = copied_objects(alloc, pdu, &mut cursor, count)?;
     Ok(ReadDeviceIdentificationResponse {
         read_code,
         conformity_level,
