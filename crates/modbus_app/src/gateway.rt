@@ -37,8 +37,9 @@ pub fn run_gateway<S: Source, K: Sink, L: Link + Send + Drop, E: Sink>(
     line: &mut rtu::Client<L>,
     errors: &mut E,
 ) -> u8
-    ensures ends { EndsBy (Forwarded (meaning_of L.input L.output L.line) line.old line.new (S.input source.old) (S.input source.new)
-        (K.output sink.old) (K.output sink.new) (2 ^ 64 - 1)) (E.output errors.old) (E.output errors.new) result }
+    ensures ends { EndsBy (Forwarded (meaning_of L.input L.output L.line) line.old line.new
+        (S.input source.old) (S.input source.new) (K.output sink.old) (K.output sink.new)
+        (2 ^ 64 - 1)) (E.output errors.old) (E.output errors.new) result }
     ensures complete { IsTrue (S.input source.old).told
         → IsCleanLine tcp (S.input source.old).left → length (S.input source.old).left < 2 ^ 64 - 1
         → (Rose (S.input source.old).faults (S.input source.new).faults → ⊥)
@@ -68,8 +69,10 @@ pub(crate) fn forward_to<C: Connector, S: Source, K: Sink, E: Sink>(
 ) -> u8
 where
     C::Link: Link + Send + Drop,
-    ensures { ForwardsTo (connector_of C.connects C.faults) (meaning_of C.Link.input C.Link.output C.Link.line) (connector.old, connector.new) line
-        (S.input source.old, K.output sink.old) (S.input source.new, K.output sink.new) (E.output errors.old, E.output errors.new) result }
+    ensures { ForwardsTo (connector_of C.connects C.faults)
+        (meaning_of C.Link.input C.Link.output C.Link.line) (connector.old, connector.new) line
+        (S.input source.old, K.output sink.old) (S.input source.new, K.output sink.new)
+        (E.output errors.old, E.output errors.new) result }
 {
     match connector.connect(line, None) {
         Ok(link) => {

@@ -15,8 +15,10 @@ use modbus_store::RegisterStore;
 /// Serving a store over RTU frames that write one entry each takes memory only as it begins: where it wants memory, nothing was read,
 /// nothing was written, and the store is as it was.
 pub fn single_writes_take_no_memory()
-    ensures { (before after : Tables) (from to : Input) (sunk sinks : Output) (turns : ℕ) (ran : Ran rtu device before after from to sunk sinks turns (Err NoMemory))
-        (frames : List ℕ) (stop : ℕ) → IsLeftmost ran.fed frames stop → All (λ f. IsSingleWrite (frame_at ran.fed f)) frames
+    ensures { (before after : Tables) (from to : Input) (sunk sinks : Output) (turns : ℕ)
+        (ran : Ran rtu device before after from to sunk sinks turns (Err NoMemory))
+        (frames : List ℕ) (stop : ℕ) → IsLeftmost ran.fed frames stop
+        → All (λ f. IsSingleWrite (frame_at ran.fed f)) frames
         → (ran.fed ≡ []) × (ran.sent ≡ []) × (after ≡ before) }
 {
     modbus_server::laws::memory_at_the_opening::<RegisterStore>();

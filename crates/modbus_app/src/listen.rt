@@ -39,15 +39,22 @@ where
     requires can { P.can_start spawner.old }
     ensures can { P.can_start spawner.new }
     ensures serves { ServesLinks (parts_with S.pass_of A.accepts P.starts)
-        (record { given = A.given; accept_faults = A.faults; started = P.started; spawn_faults = P.faults }) on_process_error
+        (record {
+          given = A.given;
+          accept_faults = A.faults;
+          started = P.started;
+          spawn_faults = P.faults;
+        }) on_process_error
         (record { acceptor = acceptor.old; hook = S.pass services.old; spawner = spawner.old })
-        (record { acceptor = acceptor.new; hook = S.pass services.new; spawner = spawner.new }) result }
+        (record { acceptor = acceptor.new; hook = S.pass services.new; spawner = spawner.new })
+        result }
 {
     let mut hook = |link: A::Link, _address: SocketAddr| -> Result<
         Option<(S::Service, A::Link)>,
         PassesOut,
     >
-        ensures splits { SplitsFor S.pass_of (S.pass services.entry.now) link result (S.pass services.exit.now) }
+        ensures splits { SplitsFor S.pass_of (S.pass services.entry.now) link result
+            (S.pass services.exit.now) }
         ensures same { services.exit.ghost_name ≡ services.entry.ghost_name }
     {
         let service = services.open()?;
@@ -103,12 +110,22 @@ where
     requires can_rtu { P.Spawner-1.can_start spawner.old }
     requires can_tcp { P.Spawner-2.can_start spawner.old }
     ensures rtu { framing ≡ Rtu → Listened (parts_with S.pass_of A.accepts P.Spawner-1.starts)
-        (record { given = A.given; accept_faults = A.faults; started = P.Spawner-1.started; spawn_faults = P.Spawner-1.faults }) on_process_error
+        (record {
+          given = A.given;
+          accept_faults = A.faults;
+          started = P.Spawner-1.started;
+          spawn_faults = P.Spawner-1.faults;
+        }) on_process_error
         (record { acceptor = acceptor.old; hook = S.pass services.old; spawner = spawner.old })
         (record { acceptor = acceptor.new; hook = S.pass services.new; spawner = spawner.new })
         (E.output errors.old) (E.output errors.new) result }
     ensures tcp { framing ≡ Tcp → Listened (parts_with S.pass_of A.accepts P.Spawner-2.starts)
-        (record { given = A.given; accept_faults = A.faults; started = P.Spawner-2.started; spawn_faults = P.Spawner-2.faults }) on_process_error
+        (record {
+          given = A.given;
+          accept_faults = A.faults;
+          started = P.Spawner-2.started;
+          spawn_faults = P.Spawner-2.faults;
+        }) on_process_error
         (record { acceptor = acceptor.old; hook = S.pass services.old; spawner = spawner.old })
         (record { acceptor = acceptor.new; hook = S.pass services.new; spawner = spawner.new })
         (E.output errors.old) (E.output errors.new) result }

@@ -64,7 +64,8 @@ fn push_frame(
     x: u32,
     frames: &mut BytesMut,
 ) -> Result<(), AllocError>
-    ensures { OnOk result (frames.new.items ≡ frames.old.items ++ frame made_for (request_pdu (request_by x))) }
+    ensures { OnOk result (frames.new.items
+        ≡ frames.old.items ++ frame made_for (request_pdu (request_by x))) }
 {
     modbus_pdu::requests_have_sizes();
     let request = rtu::RequestAdu {

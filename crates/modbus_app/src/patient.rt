@@ -32,8 +32,9 @@ fn accept_patiently<A: Acceptor, G: Keeper>(
 ) -> Result<(A::Link, SocketAddr), Failed>
 where
     A::Link: Drop,
-    ensures { AcceptsPatiently (record { accepts = A.accepts; admits = G.admits; waits = G.waits }) retries
-        (record { acceptor = acceptor.old; keeper = keeper.old }) result (record { acceptor = acceptor.new; keeper = keeper.new }) }
+    ensures { AcceptsPatiently (record { accepts = A.accepts; admits = G.admits; waits = G.waits })
+        retries (record { acceptor = acceptor.old; keeper = keeper.old }) result
+        (record { acceptor = acceptor.new; keeper = keeper.new }) }
 {
     let mut left = retries;
     'accepts: for count in 0..u64::MAX {
@@ -83,7 +84,11 @@ impl<A, G> Model for PatientAcceptor<A, G> {
 impl<A, G> PatientAcceptor<A, G> {
     /// An acceptor over this one, which has given nothing.
     pub fn new(acceptor: A, keeper: G, retries: u32) -> PatientAcceptor<A, G>
-        ensures { result ≡ record { pair = record { acceptor = acceptor; keeper = keeper }; retries = retries; tally = tally_at_start } }
+        ensures { result ≡ record {
+          pair = record { acceptor = acceptor; keeper = keeper };
+          retries = retries;
+          tally = tally_at_start;
+        } }
     {
         PatientAcceptor {
             acceptor,

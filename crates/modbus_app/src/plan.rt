@@ -143,7 +143,8 @@ fn text_of(alloc: Global, reads: &[Read]) -> Result<Vec<u8>, AllocError>
 
 /// The text of the plan for the items that words name.
 fn planned(alloc: Global, words: &[String]) -> Result<Vec<u8>, AllocError>
-    ensures { IfOk result (λ text. IsPlanText (items_named (map string_bytes words.now)) text.items) }
+    ensures { IfOk result (λ text. IsPlanText (items_named (map string_bytes words.now))
+        text.items) }
 {
     let items = items_of(alloc, words)?;
     let plan = plan_of(alloc, items.as_slice())?;
@@ -156,7 +157,8 @@ fn planned(alloc: Global, words: &[String]) -> Result<Vec<u8>, AllocError>
 /// `WriteFault`, only where the sink's count of faults rose; a front of the text was then appended. `NoMemory` where memory was
 /// refused; nothing was appended.
 pub fn tell_plan<K: Sink>(alloc: Global, words: &[String], sink: &mut K) -> Result<(), ProcessError>
-    ensures { TellsPlan (items_named (map string_bytes words.now)) (K.output sink.old) (K.output sink.new) result }
+    ensures { TellsPlan (items_named (map string_bytes words.now)) (K.output sink.old)
+        (K.output sink.new) result }
 {
     let Ok(text) = planned(alloc, words) else {
         return Err(ProcessError::NoMemory);

@@ -182,7 +182,8 @@ where
     N: Sink + Drop,
     requires error_hook { H.IsAlwaysCallable on_process_error }
     ensures { ListenedOver S.pass_of (accepting A.accepts A.faults) on_process_error
-        (acceptor.old, S.pass services.old) (acceptor.new, S.pass services.new) (E.output errors.old) (E.output errors.new) result }
+        (acceptor.old, S.pass services.old) (acceptor.new, S.pass services.new)
+        (E.output errors.old) (E.output errors.new) result }
 {
     let spawners = Spawners {
         rtu: ScopeSpawner::new(
@@ -240,8 +241,9 @@ where
     requires error_hook { H.IsAlwaysCallable on_process_error }
     requires device { (S.pass listening.services).opening ≡ shared_opening framing }
     ensures { ListenedOver S.pass_of (accepting A.accepts A.faults) on_process_error
-        (listening.acceptor, S.pass listening.services) (result.0.acceptor, S.pass result.0.services)
-        (E.output listening.errors) (E.output result.0.errors) result.1 }
+        (listening.acceptor, S.pass listening.services)
+        (result.0.acceptor, S.pass result.0.services) (E.output listening.errors)
+        (E.output result.0.errors) result.1 }
 {
     thread::scope(
         thread::scope_env(),
@@ -249,8 +251,9 @@ where
         |scope| -> (Listening<A, S, E>, u8)
             requires { H.IsAlwaysCallable on_process_error }
             ensures { ListenedOver S.pass_of (accepting A.accepts A.faults) on_process_error
-                (listening.acceptor, S.pass listening.services) (result.0.acceptor, S.pass result.0.services)
-                (E.output listening.errors) (E.output result.0.errors) result.1 }
+                (listening.acceptor, S.pass listening.services)
+                (result.0.acceptor, S.pass result.0.services) (E.output listening.errors)
+                (E.output result.0.errors) result.1 }
         {
             let Listening {
                 acceptor,
@@ -424,8 +427,8 @@ where
     S: Source,
     K: Sink,
     E: Sink,
-    ensures { ForwardsToPort port (S.input source.old, K.output sink.old) (S.input source.new, K.output sink.new)
-        (E.output errors.old, E.output errors.new) result }
+    ensures { ForwardsToPort port (S.input source.old, K.output sink.old)
+        (S.input source.new, K.output sink.new) (E.output errors.old, E.output errors.new) result }
 {
     let mut connector = TcpConnector::new(rt);
     forward_to(alloc, &mut connector, loopback(port), source, sink, errors)

@@ -33,9 +33,12 @@ fn serve<S: Source, K: Sink>(
     source: &mut S,
     sink: &mut K,
 ) -> Result<(), ProcessError>
-    ensures ran { Ran (messages_of mode) device store.old store.new (S.input source.old) (S.input source.new) (K.output sink.old) (K.output sink.new) (2 ^ 64 - 1) result }
+    ensures ran { Ran (messages_of mode) device store.old store.new (S.input source.old)
+        (S.input source.new) (K.output sink.old) (K.output sink.new) (2 ^ 64 - 1) result }
     ensures fits { (size : ℕ) → result ≢ Err (ResponseTooLong size) }
-    ensures complete { IsTrue (S.input source.old).told → IsCleanLine (messages_of mode) (S.input source.old).left → length (S.input source.old).left < 2 ^ 64 - 1
+    ensures complete { IsTrue (S.input source.old).told
+        → IsCleanLine (messages_of mode) (S.input source.old).left
+        → length (S.input source.old).left < 2 ^ 64 - 1
         → (Rose (S.input source.old).faults (S.input source.new).faults → ⊥)
         → (Rose (K.output sink.old).faults (K.output sink.new).faults → ⊥)
         → (result ≡ Ok tt) ⊎ (result ≡ Err ProcessError.NoMemory) }
@@ -59,11 +62,15 @@ fn serve_form<S: Source, K: Sink, E: Sink>(
     requires { form.size ≤ most_entries }
     ensures not_usage { result ≢ 2 }
     ensures ok { result ≡ 0 → IsTrue (S.input source.old).told → IsTrue (K.output sink.old).told
-        → EndsServing form (S.input source.old).left (totals (cuts_made (S.input source.old) (S.input source.new)))
-        (bytes_appended (K.output sink.old) (K.output sink.new)) (Ok tt) × ((S.input source.new).left ≡ []) }
-    ensures ends { Ends form (S.input source.old) (S.input source.new) (K.output sink.old) (K.output sink.new) (E.output errors.old) (E.output errors.new) result }
+        → EndsServing form (S.input source.old).left
+        (totals (cuts_made (S.input source.old) (S.input source.new)))
+        (bytes_appended (K.output sink.old) (K.output sink.new)) (Ok tt)
+        × ((S.input source.new).left ≡ []) }
+    ensures ends { Ends form (S.input source.old) (S.input source.new) (K.output sink.old)
+        (K.output sink.new) (E.output errors.old) (E.output errors.new) result }
     ensures complete { IsTrue (S.input source.old).told
-        → IsCleanLine (messages_of form.mode) (S.input source.old).left → length (S.input source.old).left < 2 ^ 64 - 1
+        → IsCleanLine (messages_of form.mode) (S.input source.old).left
+        → length (S.input source.old).left < 2 ^ 64 - 1
         → (Rose (S.input source.old).faults (S.input source.new).faults → ⊥)
         → (Rose (K.output sink.old).faults (K.output sink.new).faults → ⊥)
         → (result ≡ 0) ⊎ (result ≡ 11) }
@@ -85,7 +92,8 @@ fn serve_form<S: Source, K: Sink, E: Sink>(
 fn sum_up<K: Sink, E: Sink>(alloc: Global, count: u32, sink: &mut K, errors: &mut E) -> u8
     requires { count ≤ most_requests }
     ensures not_usage { result ≢ 2 }
-    ensures makes { (input : Input) → Makes count input input (K.output sink.old) (K.output sink.new) (E.output errors.old) (E.output errors.new) result }
+    ensures makes { (input : Input) → Makes count input input (K.output sink.old)
+        (K.output sink.new) (E.output errors.old) (E.output errors.new) result }
 {
     match make(alloc, count, sink) {
         Ok(()) => 0,
@@ -147,39 +155,49 @@ pub fn run<S: Source, K: Sink, E: Sink>(
 ) -> u8
     ensures usage { (result ≡ 2) ↔ IsUsage (asked words.now) }
     ensures refused { IsUsage (asked words.now)
-        → IsUsageFault (S.input source.old) (S.input source.new) (K.output sink.old) (K.output sink.new) (E.output errors.old) (E.output errors.new) }
+        → IsUsageFault (S.input source.old) (S.input source.new) (K.output sink.old)
+        (K.output sink.new) (E.output errors.old) (E.output errors.new) }
 
     // Status 0: the input ended with no uncovered offset open, with no `:` open, or with nothing left after its ADUs. What was appended is exactly the
     // replies of one run of the device to the leftmost frames, or to the ADUs, of the whole input in order, each framed for its request's
     // slave or under its header.
-    ensures ok { (form : Form) → asked words.now ≡ Some (Serve form) → result ≡ 0 → IsTrue (S.input source.old).told → IsTrue (K.output sink.old).told
-        → EndsServing form (S.input source.old).left (totals (cuts_made (S.input source.old) (S.input source.new)))
-        (bytes_appended (K.output sink.old) (K.output sink.new)) (Ok tt) × ((S.input source.new).left ≡ []) }
+    ensures ok { (form : Form) → asked words.now ≡ Some (Serve form) → result ≡ 0
+        → IsTrue (S.input source.old).told → IsTrue (K.output sink.old).told
+        → EndsServing form (S.input source.old).left
+        (totals (cuts_made (S.input source.old) (S.input source.new)))
+        (bytes_appended (K.output sink.old) (K.output sink.new)) (Ok tt)
+        × ((S.input source.new).left ≡ []) }
 
     // Each status is that of an answer of the server, with its cause, what was answered before it, and its text.
     ensures ends { (form : Form) → asked words.now ≡ Some (Serve form)
-        → Ends form (S.input source.old) (S.input source.new) (K.output sink.old) (K.output sink.new) (E.output errors.old) (E.output errors.new) result }
+        → Ends form (S.input source.old) (S.input source.new) (K.output sink.old)
+        (K.output sink.new) (E.output errors.old) (E.output errors.new) result }
 
     // A clean line is served to its end.
-    ensures complete { (form : Form) → asked words.now ≡ Some (Serve form) → IsTrue (S.input source.old).told
-        → IsCleanLine (messages_of form.mode) (S.input source.old).left → length (S.input source.old).left < 2 ^ 64 - 1
+    ensures complete { (form : Form) → asked words.now ≡ Some (Serve form)
+        → IsTrue (S.input source.old).told
+        → IsCleanLine (messages_of form.mode) (S.input source.old).left
+        → length (S.input source.old).left < 2 ^ 64 - 1
         → (Rose (S.input source.old).faults (S.input source.new).faults → ⊥)
         → (Rose (K.output sink.old).faults (K.output sink.new).faults → ⊥)
         → (result ≡ 0) ⊎ (result ≡ 11) }
 
     // Of `make`, with status 0, the summary of so many requests was appended, and else a front of it; nothing was read, and there is no
     // fault but one of the sink.
-    ensures made { (count : ℕ) → asked words.now ≡ Some (Make count) → result ≡ 0 → IsTrue (K.output sink.old).told
+    ensures made { (count : ℕ) → asked words.now ≡ Some (Make count) → result ≡ 0
+        → IsTrue (K.output sink.old).told
         → bytes_appended (K.output sink.old) (K.output sink.new) ≡ summary count }
     ensures makes { (count : ℕ) → asked words.now ≡ Some (Make count)
-        → Makes count (S.input source.old) (S.input source.new) (K.output sink.old) (K.output sink.new) (E.output errors.old) (E.output errors.new) result }
+        → Makes count (S.input source.old) (S.input source.new) (K.output sink.old)
+        (K.output sink.new) (E.output errors.old) (E.output errors.new) result }
     ensures made_unless { (count : ℕ) → asked words.now ≡ Some (Make count)
         → (Rose (K.output sink.old).faults (K.output sink.new).faults → ⊥)
         → (result ≡ 0) ⊎ (result ≡ 11) }
 
     // Of `plan`, the reads of the plan for the items were told, each on a line, and how many they are; nothing was read, and there is no
     // fault but one of the sink.
-    ensures plans { asked words.now ≡ Some Plan → Plans (items_named (map string_bytes words.now)) (S.input source.old) (S.input source.new)
+    ensures plans { asked words.now ≡ Some Plan
+        → Plans (items_named (map string_bytes words.now)) (S.input source.old) (S.input source.new)
         (K.output sink.old) (K.output sink.new) (E.output errors.old) (E.output errors.new) result }
 {
     match read_words(words) {

@@ -24,7 +24,8 @@ pub trait Services {
     /// `PassesOut` exactly where all 2^32 numbers of passes were drawn, as this pass then knows.
     fn open(&mut self) -> Result<Self::Service, PassesOut>
         ensures rest { pass self.new ≡ record (pass self.old) { drawn = (pass self.new).drawn } }
-        ensures ok { IfOk result (λ service. SplitsOff (pass self.old) (pass self.new).drawn (pass_of service)) }
+        ensures ok { IfOk result (λ service.
+            SplitsOff (pass self.old) (pass self.new).drawn (pass_of service)) }
         ensures err { IfErr result (λ _. (pass self.new).drawn ≡ 2 ^ 32) };
 }
 

@@ -35,8 +35,8 @@ pub fn process_link<L: Source + Sink, V: Answerer>(
     service: &mut V,
     turns: u64,
 ) -> Result<(), ProcessError>
-    ensures ran { Ran ascii V.answering service.old service.new (L.input link.old) (L.input link.new)
-        (L.output link.old) (L.output link.new) turns result }
+    ensures ran { Ran ascii V.answering service.old service.new (L.input link.old)
+        (L.input link.new) (L.output link.old) (L.output link.new) turns result }
     ensures complete { Completes ascii V.answering service.old (L.input link.old) (L.input link.new)
         (L.output link.old) (L.output link.new) turns result }
     ensures causes { IfErr result (λ error. IsOfFraming error → ⊥) }
@@ -68,10 +68,10 @@ pub fn process<S: Source, K: Sink, V: Answerer>(
     service: &mut V,
     turns: u64,
 ) -> Result<(), ProcessError>
-    ensures ran { Ran ascii V.answering service.old service.new (S.input source.old) (S.input source.new)
-        (K.output sink.old) (K.output sink.new) turns result }
-    ensures complete { Completes ascii V.answering service.old (S.input source.old) (S.input source.new)
-        (K.output sink.old) (K.output sink.new) turns result }
+    ensures ran { Ran ascii V.answering service.old service.new (S.input source.old)
+        (S.input source.new) (K.output sink.old) (K.output sink.new) turns result }
+    ensures complete { Completes ascii V.answering service.old (S.input source.old)
+        (S.input source.new) (K.output sink.old) (K.output sink.new) turns result }
     ensures causes { IfErr result (λ error. IsOfFraming error → ⊥) }
 {
     serve::<AsciiBuffer, S, K, V>(alloc, source, sink, service, turns)

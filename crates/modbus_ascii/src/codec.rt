@@ -101,7 +101,8 @@ impl ClientCodec {
     /// `Invalid` with the reason, exactly where the PDU of that frame is refused, whatever memory there is. `NoMemory` where memory is
     /// refused, only for a response that carries a list or bytes. The frame is then gone.
     pub fn feed(&mut self, alloc: Global, byte: u8) -> Result<Option<rtu::ResponseAdu>, AsciiError>
-        ensures reads { (fed : List ℕ) → Decodes fed self.old → Decodes (fed ++ byte ∷ []) self.new }
+        ensures reads { (fed : List ℕ) → Decodes fed self.old
+            → Decodes (fed ++ byte ∷ []) self.new }
         ensures gives { (fed : List ℕ) → Decodes fed self.old → (delivered : List (ℕ × List ℕ))
             × (frames (fed ++ byte ∷ []) ≡ frames fed ++ delivered)
             × AnswersBy response_result_of
@@ -158,7 +159,8 @@ impl ServerCodec {
         alloc: Global,
         byte: u8,
     ) -> Result<Option<rtu::RequestAdu<'static>>, AsciiError>
-        ensures reads { (fed : List ℕ) → Decodes fed self.old → Decodes (fed ++ byte ∷ []) self.new }
+        ensures reads { (fed : List ℕ) → Decodes fed self.old
+            → Decodes (fed ++ byte ∷ []) self.new }
         ensures gives { (fed : List ℕ) → Decodes fed self.old → (delivered : List (ℕ × List ℕ))
             × (frames (fed ++ byte ∷ []) ≡ frames fed ++ delivered)
             × AnswersBy request_of (λ pdu. IsOkAnd (request_of pdu) CarriesList)

@@ -142,7 +142,8 @@ impl AsciiDecoder {
 
     /// A CR follows.
     fn take_return(&mut self)
-        ensures { (fed : List ℕ) → Decodes fed self.old → Decodes (fed ++ carriage_return ∷ []) self.new }
+        ensures { (fed : List ℕ) → Decodes fed self.old
+            → Decodes (fed ++ carriage_return ∷ []) self.new }
     {
         match self.phase {
             Phase::Closed => {}
@@ -162,7 +163,8 @@ impl AsciiDecoder {
 
     /// A LF follows: whether it ends a frame.
     fn take_feed(&mut self) -> bool
-        ensures reads { (fed : List ℕ) → Decodes fed self.old → Decodes (fed ++ line_feed ∷ []) self.new }
+        ensures reads { (fed : List ℕ) → Decodes fed self.old
+            → Decodes (fed ++ line_feed ∷ []) self.new }
         ensures gives { (fed : List ℕ) → Decodes fed self.old
             → frames (fed ++ line_feed ∷ []) ≡ frames fed ++ ended result self.new }
     {
@@ -185,7 +187,8 @@ impl AsciiDecoder {
 
     /// Takes a byte: whether it ended a frame, which `slave` and `pdu` then tell.
     pub(crate) fn take(&mut self, byte: u8) -> bool
-        ensures reads { (fed : List ℕ) → Decodes fed self.old → Decodes (fed ++ byte ∷ []) self.new }
+        ensures reads { (fed : List ℕ) → Decodes fed self.old
+            → Decodes (fed ++ byte ∷ []) self.new }
         ensures gives { (fed : List ℕ) → Decodes fed self.old
             → frames (fed ++ byte ∷ []) ≡ frames fed ++ ended result self.new }
     {
@@ -244,7 +247,8 @@ impl AsciiDecoder {
     pub fn feed(&mut self, byte: u8) -> Option<AsciiFrame>
         // For all bytes that it was fed before this one: it goes on by the byte, and gives the frame that they deliver with the byte and
         // did not deliver without it.
-        ensures reads { (fed : List ℕ) → Decodes fed self.old → Decodes (fed ++ byte ∷ []) self.new }
+        ensures reads { (fed : List ℕ) → Decodes fed self.old
+            → Decodes (fed ++ byte ∷ []) self.new }
         ensures gives { (fed : List ℕ) → Decodes fed self.old
             → frames (fed ++ byte ∷ []) ≡ frames fed ++ given_frames result }
     {

@@ -50,7 +50,8 @@ fn copy_body(bytes: &[u8]) -> ArrayVec<u8, MAX_BODY>
 fn put_frame(buf: &mut BytesMut, bytes: &[u8])
     requires { 2 * (length bytes.now + 1) + 3 ≤ buf.old.spare }
     ensures items { buf.new.items ≡ buf.old.items
-        ++ (colon ∷ text_of (bytes.now ++ check bytes.now ∷ []) ++ carriage_return ∷ line_feed ∷ []) }
+        ++ (colon ∷ text_of (bytes.now ++ check bytes.now ∷ [])
+        ++ carriage_return ∷ line_feed ∷ []) }
     ensures room { length buf.new.items + buf.new.spare ≡ length buf.old.items + buf.old.spare }
 {
     let sum = lrc(bytes);

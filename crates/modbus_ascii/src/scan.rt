@@ -62,7 +62,8 @@ impl Scan {
     fn take(&mut self, byte: u8)
         requires found { self.old.found ≡ false }
         requires room { self.old.fed < usize.MAX }
-        ensures seen { (seen : List ℕ) → HasSeen seen self.old → HasSeen (seen ++ byte ∷ []) self.new }
+        ensures seen { (seen : List ℕ) → HasSeen seen self.old
+            → HasSeen (seen ++ byte ∷ []) self.new }
         ensures fed { self.new.fed ≡ self.old.fed + 1 }
     {
         self.found = self.decoder.take(byte);

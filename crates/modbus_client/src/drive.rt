@@ -23,7 +23,8 @@ fn flush<P: Protocol, L: PolledLink>(
 ) -> std::result::Result<Polled<()>, Failed>
     ensures source { L.input link.new ≡ L.input link.old }
     ensures keeps { call.new ≡ record call.old { unwritten = call.new.unwritten } }
-    ensures sends { Sends (L.output link.old) (L.output link.new) call.old.unwritten call.new.unwritten }
+    ensures sends { Sends (L.output link.old) (L.output link.new) call.old.unwritten
+        call.new.unwritten }
     ensures all { IsFlushed call.new.unwritten result }
     ensures cause { OnErr result (Rose (L.output link.old).faults (L.output link.new).faults) }
     ensures waited { Waited result (L.not_ready link.old) (L.not_ready link.new) }
@@ -113,7 +114,8 @@ pub(crate) fn open<P: Protocol>(
     turns: u64,
     held: &mut BytesMut,
 ) -> std::result::Result<Call<P>, Error>
-    ensures opens { Opens P.protocol header (meaning request.now) turns (opened_with held.new result) }
+    ensures opens { Opens P.protocol header (meaning request.now) turns
+        (opened_with held.new result) }
     ensures empty { held.new.items ≡ [] }
 {
     match Call::<P>::open(alloc, header, request, turns, held) {
@@ -133,7 +135,8 @@ pub(crate) fn send<P: Protocol, L: Source + Sink>(
     request: &Request<'_>,
     held: &mut BytesMut,
 ) -> std::result::Result<(), Error>
-    ensures sent { Sent P.protocol (L.input link.old) (L.input link.new) (L.output link.old) (L.output link.new) header (meaning request.now) held.new.items result }
+    ensures sent { Sent P.protocol (L.input link.old) (L.input link.new) (L.output link.old)
+        (L.output link.new) header (meaning request.now) held.new.items result }
     ensures line { L.line link.new ≡ L.line link.old }
 {
     let mut call = open::<P>(alloc, header, request, 0, held)?;
@@ -153,7 +156,9 @@ pub(crate) fn exchange<P: Protocol, L: Source + Sink>(
     turns: u64,
     held: &mut BytesMut,
 ) -> Result<Response>
-    ensures exchanged { Exchanged P.protocol (L.input link.old) (L.input link.new) (L.output link.old) (L.output link.new) header (meaning request.now) turns held.new.items result }
+    ensures exchanged { Exchanged P.protocol (L.input link.old) (L.input link.new)
+        (L.output link.old) (L.output link.new) header (meaning request.now) turns held.new.items
+        result }
     ensures line { L.line link.new ≡ L.line link.old }
 {
     P::laws();

@@ -28,20 +28,25 @@ use modbus_server::Answerer;
 
 /// In given bytes with given cuts the search of a client of a serial line stands in one way.
 pub fn one_search()
-    ensures { (bytes cuts : List ℕ) (found other : search.SearchState) → search.SearchFinds bytes cuts found → search.SearchFinds bytes cuts other → found ≡ other }
+    ensures { (bytes cuts : List ℕ) (found other : search.SearchState)
+        → search.SearchFinds bytes cuts found → search.SearchFinds bytes cuts other
+        → found ≡ other }
 {}
 
 /// What the search finds in the bytes that a connected call read is what the call tells. Where it waits, the call tells that the turns
 /// ran out or how the input ended.
 pub fn searches_are_told<P: Protocol>()
-    ensures found { (from to : Input) (sunk sinks : Output) (header : P.Header) (asked : Asked) (turns : ℕ) (held : List ℕ) (answer : Answer)
+    ensures found { (from to : Input) (sunk sinks : Output) (header : P.Header) (asked : Asked)
+        (turns : ℕ) (held : List ℕ) (answer : Answer)
         (r : Exchanged P.protocol from to sunk sinks header asked turns held answer) (found : Found)
         → P.protocol.Finds (P.protocol.seen header) r.fed (totals r.made) found
         → IsToldOf (P.protocol.seen header) (function_asked asked) found answer }
-    ensures waiting { (from to : Input) (sunk sinks : Output) (header : P.Header) (asked : Asked) (turns : ℕ) (held kept : List ℕ) (answer : Answer)
+    ensures waiting { (from to : Input) (sunk sinks : Output) (header : P.Header) (asked : Asked)
+        (turns : ℕ) (held kept : List ℕ) (answer : Answer)
         (r : Exchanged P.protocol from to sunk sinks header asked turns held answer)
         → P.protocol.Finds (P.protocol.seen header) r.fed (totals r.made) (waiting kept)
-        → Fits (request_pdu asked) → (Rose from.faults to.faults → ⊥) → (Rose sunk.faults sinks.faults → ⊥)
+        → Fits (request_pdu asked) → (Rose from.faults to.faults → ⊥)
+        → (Rose sunk.faults sinks.faults → ⊥)
         → TellsWaiting kept (length r.made) turns to.left answer }
 {
     P::laws();
@@ -49,8 +54,10 @@ pub fn searches_are_told<P: Protocol>()
 
 /// Every connected call, a polled one too, gives the result of a message alone that belongs to its request.
 pub fn messages_alone_are_answered<P: Protocol>()
-    ensures { (from to : Input) (sunk sinks : Output) (header : P.Header) (asked : Asked) (turns : ℕ) (held : List ℕ) (answer : Answer)
-        → Exchanged P.protocol from to sunk sinks header asked turns held answer → AnswersAlone P.protocol from to sunk sinks header asked turns answer }
+    ensures { (from to : Input) (sunk sinks : Output) (header : P.Header) (asked : Asked)
+        (turns : ℕ) (held : List ℕ) (answer : Answer)
+        → Exchanged P.protocol from to sunk sinks header asked turns held answer
+        → AnswersAlone P.protocol from to sunk sinks header asked turns answer }
 {
     P::laws();
 }
@@ -67,9 +74,12 @@ pub fn matching_answers_are_own()
 
 /// What a call stands for goes on with each write, and stays where its room is made.
 pub fn calls_go_on<P: Protocol>()
-    ensures write { (written bytes cuts : List ℕ) (n : ℕ) (call : CallState) → CallStands P.protocol written bytes cuts call → n ≤ length call.unwritten
-        → CallStands P.protocol (written ++ take n call.unwritten) bytes cuts (record call { unwritten = drop n call.unwritten }) }
-    ensures room { (written bytes cuts : List ℕ) (n : ℕ) (call : CallState) → CallStands P.protocol written bytes cuts call
+    ensures write { (written bytes cuts : List ℕ) (n : ℕ) (call : CallState)
+        → CallStands P.protocol written bytes cuts call → n ≤ length call.unwritten
+        → CallStands P.protocol (written ++ take n call.unwritten) bytes cuts
+        (record call { unwritten = drop n call.unwritten }) }
+    ensures room { (written bytes cuts : List ℕ) (n : ℕ) (call : CallState)
+        → CallStands P.protocol written bytes cuts call
         → CallStands P.protocol written bytes cuts (record call { free = n }) }
 {}
 
@@ -77,7 +87,8 @@ pub fn calls_go_on<P: Protocol>()
 /// gave when it was asked once.
 pub fn outcomes_come_back<V: Answerer>()
     ensures { (before after : V) (slave : ℕ) (asked : Asked) (answer : Answer) → ReadsBack asked
-        → ExchangesLocally V.answering before after slave asked answer → ComesBack V.answering before after slave asked answer }
+        → ExchangesLocally V.answering before after slave asked answer
+        → ComesBack V.answering before after slave asked answer }
 {
     modbus_pdu::responses_have_sizes();
     modbus_pdu::responses_read_back();

@@ -26,7 +26,8 @@ fn receive_all<P: Protocol>(
     requires written { call.old.unwritten ≡ [] }
     requires turns { call.old.turns ≡ 2 ^ 64 - 1 }
     requires stands { CallStands P.protocol call.old.request [] [] (holding call.old held.old) }
-    ensures { ReadsAll P.protocol call.old.asked call.old.function replies.now held.new.items result }
+    ensures { ReadsAll P.protocol call.old.asked call.old.function replies.now held.new.items
+        result }
 {
     let mut left = replies;
     'pieces: while !left.is_empty() {
@@ -72,8 +73,10 @@ pub fn exchange<V: Answerer>(
     request: Request<'_>,
     service: &mut V,
 ) -> Result<Response>
-    ensures exchanges { ExchangesLocally V.answering service.old service.new slave.0 (meaning request.entry) result }
-    ensures comes_back { ComesBack V.answering service.old service.new slave.0 (meaning request.entry) result }
+    ensures exchanges { ExchangesLocally V.answering service.old service.new slave.0
+        (meaning request.entry) result }
+    ensures comes_back { ComesBack V.answering service.old service.new slave.0
+        (meaning request.entry) result }
 {
     Frames::laws();
     modbus_rtu::laws::verdicts_by_offset();

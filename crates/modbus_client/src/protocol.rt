@@ -74,7 +74,8 @@ pub trait Protocol: Drop {
         request: &Request<'_>,
         buf: &mut BytesMut,
     ) -> Result<(), EncodeError>
-        ensures { Encodes (protocol.adu header (request_pdu (meaning request.now))) (request_pdu (meaning request.now)) buf.old.items result buf.new.items };
+        ensures { Encodes (protocol.adu header (request_pdu (meaning request.now)))
+            (request_pdu (meaning request.now)) buf.old.items result buf.new.items };
 
     /// Looks for the reply in the held bytes, after some were appended. `asked` is what is compared of the request's header, for a
     /// protocol that drops the messages of another one. `None` where there is none yet.

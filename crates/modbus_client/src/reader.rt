@@ -22,7 +22,8 @@ pub trait Reader: Client {
     /// Those of `call`. `FunctionCodeMismatch` exactly where the response is of another kind, `PayloadMismatch` exactly where it has
     /// fewer than `cnt` coils.
     fn read_coils(&mut self, addr: Address, cnt: Quantity) -> Result<Vec<Coil>>
-        ensures { Asks Self.answers self.old (asked.ReadCoils addr cnt) (coils_read cnt) (answer_map (λ v. v.items) result) self.new }
+        ensures { Asks Self.answers self.old (asked.ReadCoils addr cnt) (coils_read cnt)
+            (answer_map (λ v. v.items) result) self.new }
     {
         match self.call(Request::ReadCoils(addr, cnt))? {
             Ok(Response::ReadCoils(coils)) => first_coils(coils, cnt, Response::ReadCoils),
@@ -37,7 +38,8 @@ pub trait Reader: Client {
     /// Those of `call`. `FunctionCodeMismatch` exactly where the response is of another kind, `PayloadMismatch` exactly where it has
     /// fewer than `cnt` inputs.
     fn read_discrete_inputs(&mut self, addr: Address, cnt: Quantity) -> Result<Vec<Coil>>
-        ensures { Asks Self.answers self.old (asked.ReadDiscreteInputs addr cnt) (discrete_inputs_read cnt) (answer_map (λ v. v.items) result) self.new }
+        ensures { Asks Self.answers self.old (asked.ReadDiscreteInputs addr cnt)
+            (discrete_inputs_read cnt) (answer_map (λ v. v.items) result) self.new }
     {
         match self.call(Request::ReadDiscreteInputs(addr, cnt))? {
             Ok(Response::ReadDiscreteInputs(inputs)) => {
@@ -54,7 +56,8 @@ pub trait Reader: Client {
     /// Those of `call`. `FunctionCodeMismatch` exactly where the response is of another kind, `PayloadMismatch` exactly where it has
     /// not `cnt` registers.
     fn read_holding_registers(&mut self, addr: Address, cnt: Quantity) -> Result<Vec<Word>>
-        ensures { Asks Self.answers self.old (asked.ReadHoldingRegisters addr cnt) (holding_registers_read cnt) (answer_map (λ v. v.items) result) self.new }
+        ensures { Asks Self.answers self.old (asked.ReadHoldingRegisters addr cnt)
+            (holding_registers_read cnt) (answer_map (λ v. v.items) result) self.new }
     {
         match self.call(Request::ReadHoldingRegisters(addr, cnt))? {
             Ok(Response::ReadHoldingRegisters(words)) => {
@@ -71,7 +74,8 @@ pub trait Reader: Client {
     /// Those of `call`. `FunctionCodeMismatch` exactly where the response is of another kind, `PayloadMismatch` exactly where it has
     /// not `cnt` registers.
     fn read_input_registers(&mut self, addr: Address, cnt: Quantity) -> Result<Vec<Word>>
-        ensures { Asks Self.answers self.old (asked.ReadInputRegisters addr cnt) (input_registers_read cnt) (answer_map (λ v. v.items) result) self.new }
+        ensures { Asks Self.answers self.old (asked.ReadInputRegisters addr cnt)
+            (input_registers_read cnt) (answer_map (λ v. v.items) result) self.new }
     {
         match self.call(Request::ReadInputRegisters(addr, cnt))? {
             Ok(Response::ReadInputRegisters(words)) => {
@@ -95,8 +99,9 @@ pub trait Reader: Client {
         write_addr: Address,
         write_data: &[Word],
     ) -> Result<Vec<Word>>
-        ensures { Asks Self.answers self.old (asked.ReadWriteMultipleRegisters read_addr read_count write_addr write_data.now) (registers_read_after_write read_count)
-            (answer_map (λ v. v.items) result) self.new }
+        ensures { Asks Self.answers self.old
+            (asked.ReadWriteMultipleRegisters read_addr read_count write_addr write_data.now)
+            (registers_read_after_write read_count) (answer_map (λ v. v.items) result) self.new }
     {
         match self.call(Request::ReadWriteMultipleRegisters(
             read_addr,
@@ -117,7 +122,8 @@ pub trait Reader: Client {
     /// # Errors
     /// Those of `call`. `FunctionCodeMismatch` exactly where the response is of another kind.
     fn read_fifo_queue(&mut self, addr: Address) -> Result<Vec<Word>>
-        ensures { Asks Self.answers self.old (asked.ReadFifoQueue addr) queue_read (answer_map (λ v. v.items) result) self.new }
+        ensures { Asks Self.answers self.old (asked.ReadFifoQueue addr) queue_read
+            (answer_map (λ v. v.items) result) self.new }
     {
         match self.call(Request::ReadFifoQueue(addr))? {
             Ok(Response::ReadFifoQueue(words)) => Ok(Ok(words.into_vec())),
@@ -135,7 +141,8 @@ pub trait Reader: Client {
         read_code: ReadCode,
         object_id: ObjectId,
     ) -> Result<ReadDeviceIdentificationResponse>
-        ensures { Asks Self.answers self.old (asked.ReadDeviceIdentification read_code object_id) identification_read result self.new }
+        ensures { Asks Self.answers self.old (asked.ReadDeviceIdentification read_code object_id)
+            identification_read result self.new }
     {
         match self.call(Request::ReadDeviceIdentification(read_code, object_id))? {
             Ok(Response::ReadDeviceIdentification(found)) => Ok(Ok(found)),

@@ -99,7 +99,8 @@ impl PolledCall {
         request: Request<'_>,
         turns: u64,
     ) -> std::result::Result<PolledCall, Error>
-        ensures { OpensPolled rtu_protocol (record { slave_id = slave.0 }) (meaning request.entry) turns result }
+        ensures { OpensPolled rtu_protocol (record { slave_id = slave.0 }) (meaning request.entry)
+            turns result }
     {
         let header = Header { slave_id: slave.0 };
         PolledCall::open(alloc, header, &request, turns)

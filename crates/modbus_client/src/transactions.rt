@@ -49,7 +49,8 @@ fn end_of_another(asked: HeaderSeen, bytes: &[u8]) -> Option<usize>
 /// Drops the ADUs at the front of the held bytes that are of another transaction or unit than was asked. Their PDUs are not read, and no
 /// memory is taken.
 fn drop_others(asked: HeaderSeen, held: &mut BytesMut)
-    ensures dropped { (adus : List (Header × List ℕ)) × Drops asked held.old.items adus held.new.items }
+    ensures dropped { (adus : List (Header × List ℕ))
+        × Drops asked held.old.items adus held.new.items }
     ensures all { EndsOfAnother asked held.new.items None }
 {
     'others: while let Some(end) = end_of_another(asked, held.as_slice()) {

@@ -32,9 +32,11 @@ pub(crate) fn first_coils<F: FnOnce(Coils) -> Response>(
     kind: F,
 ) -> Result<Vec<Coil>>
     requires { F.IsAlwaysCallable kind }
-    ensures enough { IfOk result (λ answer. (count ≤ length coils) × IsOkAnd answer (λ first. first.items ≡ take count coils)) }
-    ensures few { IfErr result (λ fault. (length coils < count) × (response : Response) × F.post kind coils response
-        × (fault ≡ Error.Protocol (ProtocolError.PayloadMismatch response))) }
+    ensures enough { IfOk result (λ answer. (count ≤ length coils)
+        × IsOkAnd answer (λ first. first.items ≡ take count coils)) }
+    ensures few { IfErr result (λ fault. (length coils < count) × (response : Response)
+        × F.post kind coils response × (fault
+        ≡ Error.Protocol (ProtocolError.PayloadMismatch response))) }
 {
     if coils.as_slice().len() < usize::from(count) {
         return Err(unequal(kind(coils)));
@@ -54,9 +56,11 @@ pub(crate) fn all_words<F: FnOnce(Words) -> Response>(
     kind: F,
 ) -> Result<Vec<Word>>
     requires { F.IsAlwaysCallable kind }
-    ensures all { IfOk result (λ answer. (length words ≡ count) × IsOkAnd answer (λ all. all.items ≡ words)) }
-    ensures unequal { IfErr result (λ fault. (length words ≢ count) × (response : Response) × F.post kind words response
-        × (fault ≡ Error.Protocol (ProtocolError.PayloadMismatch response))) }
+    ensures all { IfOk result (λ answer. (length words ≡ count)
+        × IsOkAnd answer (λ all. all.items ≡ words)) }
+    ensures unequal { IfErr result (λ fault. (length words ≢ count) × (response : Response)
+        × F.post kind words response × (fault
+        ≡ Error.Protocol (ProtocolError.PayloadMismatch response))) }
 {
     if words.as_slice().len() != usize::from(count) {
         return Err(unequal(kind(words)));
@@ -69,7 +73,8 @@ pub(crate) fn all_words<F: FnOnce(Words) -> Response>(
 /// # Errors
 /// `PayloadMismatch` exactly where it tells something else.
 pub(crate) fn confirmed(tells_it: bool, response: Response) -> Result<()>
-    ensures { result ≡ (if tells_it then Ok (Ok tt) else Err (Error.Protocol (ProtocolError.PayloadMismatch response))) }
+    ensures { result ≡ (if tells_it then Ok (Ok tt) else Err
+        (Error.Protocol (ProtocolError.PayloadMismatch response))) }
 {
     if !tells_it {
         return Err(unequal(response));

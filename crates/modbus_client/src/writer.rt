@@ -20,7 +20,8 @@ pub trait Writer: Client {
     /// Those of `call`. `FunctionCodeMismatch` exactly where the response is of another kind, `PayloadMismatch` exactly where it tells
     /// another address or another state.
     fn write_single_coil(&mut self, addr: Address, coil: Coil) -> Result<()>
-        ensures { Asks Self.answers self.old (asked.WriteSingleCoil addr coil) (coil_written addr coil) result self.new }
+        ensures { Asks Self.answers self.old (asked.WriteSingleCoil addr coil)
+            (coil_written addr coil) result self.new }
     {
         match self.call(Request::WriteSingleCoil(addr, coil))? {
             Ok(Response::WriteSingleCoil(at, state)) => confirmed(
@@ -38,7 +39,8 @@ pub trait Writer: Client {
     /// Those of `call`. `FunctionCodeMismatch` exactly where the response is of another kind, `PayloadMismatch` exactly where it tells
     /// another address or another content.
     fn write_single_register(&mut self, addr: Address, word: Word) -> Result<()>
-        ensures { Asks Self.answers self.old (asked.WriteSingleRegister addr word) (register_written addr word) result self.new }
+        ensures { Asks Self.answers self.old (asked.WriteSingleRegister addr word)
+            (register_written addr word) result self.new }
     {
         match self.call(Request::WriteSingleRegister(addr, word))? {
             Ok(Response::WriteSingleRegister(at, content)) => confirmed(
@@ -56,7 +58,8 @@ pub trait Writer: Client {
     /// Those of `call`. `FunctionCodeMismatch` exactly where the response is of another kind, `PayloadMismatch` exactly where it tells
     /// another address, or that not as many were written.
     fn write_multiple_coils(&mut self, addr: Address, coils: &[Coil]) -> Result<()>
-        ensures { Asks Self.answers self.old (asked.WriteMultipleCoils addr coils.now) (coils_written addr (length coils.now)) result self.new }
+        ensures { Asks Self.answers self.old (asked.WriteMultipleCoils addr coils.now)
+            (coils_written addr (length coils.now)) result self.new }
     {
         match self.call(Request::WriteMultipleCoils(addr, CowSlice::Borrowed(coils)))? {
             Ok(Response::WriteMultipleCoils(at, count)) => confirmed(
@@ -74,7 +77,8 @@ pub trait Writer: Client {
     /// Those of `call`. `FunctionCodeMismatch` exactly where the response is of another kind, `PayloadMismatch` exactly where it tells
     /// another address, or that not as many were written.
     fn write_multiple_registers(&mut self, addr: Address, words: &[Word]) -> Result<()>
-        ensures { Asks Self.answers self.old (asked.WriteMultipleRegisters addr words.now) (registers_written addr (length words.now)) result self.new }
+        ensures { Asks Self.answers self.old (asked.WriteMultipleRegisters addr words.now)
+            (registers_written addr (length words.now)) result self.new }
     {
         match self.call(Request::WriteMultipleRegisters(addr, CowSlice::Borrowed(words)))? {
             Ok(Response::WriteMultipleRegisters(at, count)) => confirmed(
@@ -93,7 +97,8 @@ pub trait Writer: Client {
     /// Those of `call`. `FunctionCodeMismatch` exactly where the response is of another kind, `PayloadMismatch` exactly where it tells
     /// another address or another mask.
     fn masked_write_register(&mut self, addr: Address, and_mask: Word, or_mask: Word) -> Result<()>
-        ensures { Asks Self.answers self.old (asked.MaskWriteRegister addr and_mask or_mask) (register_masked addr and_mask or_mask) result self.new }
+        ensures { Asks Self.answers self.old (asked.MaskWriteRegister addr and_mask or_mask)
+            (register_masked addr and_mask or_mask) result self.new }
     {
         match self.call(Request::MaskWriteRegister(addr, and_mask, or_mask))? {
             Ok(Response::MaskWriteRegister(at, and, or)) => confirmed(

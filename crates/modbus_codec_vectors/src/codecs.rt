@@ -7,9 +7,9 @@ use modbus_rtu::{
     FrameDecoder, Inbox, NoLength, RequestDecoder, ResponseDecoder, next_frame, request_pdu_len,
     response_pdu_len,
 };
-use modbus_tcp::{AduDecoder, TransactionIds, front};
 use modbus_table::outside::read_outside;
 use modbus_table::text::{bytes, hex, number, shown, told};
+use modbus_tcp::{AduDecoder, TransactionIds, front};
 use std::alloc::{AllocError, Global};
 
 fn length(

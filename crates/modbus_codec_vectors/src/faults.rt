@@ -5,8 +5,8 @@ use modbus_frame::{
     ParseSlaveError, PduError, ProtocolError, Reason, Response, ShutdownFault, TransportError,
 };
 use modbus_server::ProcessError;
-use modbus_tcp::TcpError;
 use modbus_table::text::told;
+use modbus_tcp::TcpError;
 use std::alloc::{AllocError, Global};
 
 fn transport(name: &str) -> Option<TransportError> {

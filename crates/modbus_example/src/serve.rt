@@ -25,13 +25,16 @@ pub fn serve_singles<S: Source, K: Sink>(
     counter: &mut Counter,
 ) -> Result<(), ProcessError>
     // Each promise of a server, as one record.
-    ensures ran { Ran singles counting counter.old counter.new (S.input source.old) (S.input source.new) (K.output sink.old) (K.output sink.new) (2 ^ 64 - 1) result }
+    ensures ran { Ran singles counting counter.old counter.new (S.input source.old)
+        (S.input source.new) (K.output sink.old) (K.output sink.new) (2 ^ 64 - 1) result }
 
     // Bytes that are not 0 are served to their end.
-    ensures complete { Completes singles counting counter.old (S.input source.old) (S.input source.new) (K.output sink.old) (K.output sink.new) (2 ^ 64 - 1) result }
+    ensures complete { Completes singles counting counter.old (S.input source.old)
+        (S.input source.new) (K.output sink.old) (K.output sink.new) (2 ^ 64 - 1) result }
 
     // What a caller reads off it: after Ok the input ended, and what was appended is exactly the replies to all its bytes.
-    ensures ended { result ≡ Ok tt → IsTrue (S.input source.old).told → (S.input source.new).left ≡ [] }
+    ensures ended { result ≡ Ok tt → IsTrue (S.input source.old).told
+        → (S.input source.new).left ≡ [] }
 {
     serve::<Singles, S, K, Counter>(alloc, source, sink, counter, u64::MAX)
 }

@@ -102,7 +102,8 @@ pub fn same_request(a: &Request<'_>, b: &Request<'_>) -> bool
 
 /// Requests with their slaves are equal exactly where the slaves and the meanings are.
 pub fn same_slave_request(a: &SlaveRequest<'_>, b: &SlaveRequest<'_>) -> bool
-    ensures { IsTrue result ↔ ((a.now.slave ≡ b.now.slave) × (meaning a.now.request ≡ meaning b.now.request)) }
+    ensures { IsTrue result ↔ ((a.now.slave ≡ b.now.slave)
+        × (meaning a.now.request ≡ meaning b.now.request)) }
 {
     a == b
 }
@@ -144,7 +145,8 @@ pub fn same_optional_pdu(a: &OptionalResponsePdu, b: &OptionalResponsePdu) -> bo
 
 /// RTU requests are equal exactly where the slaves and the meanings are.
 pub fn same_rtu_request(a: &rtu::RequestAdu<'_>, b: &rtu::RequestAdu<'_>) -> bool
-    ensures { IsTrue result ↔ ((a.now.hdr ≡ b.now.hdr) × (meaning a.now.pdu.0 ≡ meaning b.now.pdu.0)) }
+    ensures { IsTrue result ↔ ((a.now.hdr ≡ b.now.hdr)
+        × (meaning a.now.pdu.0 ≡ meaning b.now.pdu.0)) }
 {
     a == b
 }
@@ -158,7 +160,8 @@ pub fn same_rtu_response(a: &rtu::ResponseAdu, b: &rtu::ResponseAdu) -> bool
 
 /// TCP requests are equal exactly where the headers and the meanings are.
 pub fn same_tcp_request(a: &tcp::RequestAdu<'_>, b: &tcp::RequestAdu<'_>) -> bool
-    ensures { IsTrue result ↔ ((a.now.hdr ≡ b.now.hdr) × (meaning a.now.pdu.0 ≡ meaning b.now.pdu.0)) }
+    ensures { IsTrue result ↔ ((a.now.hdr ≡ b.now.hdr)
+        × (meaning a.now.pdu.0 ≡ meaning b.now.pdu.0)) }
 {
     a == b
 }

@@ -97,7 +97,8 @@ impl Source for MemorySource {
         requires { 0 < length room.old }
         ensures bound { ReadsAtMost result room.new }
         ensures source { Advances (source_input self.old) (source_input self.new) }
-        ensures told { IsTrue (source_input self.old).told → ReadIsTold (source_input self.old) (source_input self.new) room.old room.new result }
+        ensures told { IsTrue (source_input self.old).told
+            → ReadIsTold (source_input self.old) (source_input self.new) room.old room.new result }
 
         ensures reads { MemoryReads self.old self.new (length room.old) result }
     {
@@ -193,7 +194,9 @@ impl Sink for MemorySink {
         ensures bound { WritesAtMost result piece.now }
         ensures some { IfOk result (λ count. 0 < length piece.now → 0 < count) }
         ensures sink { Extends (sink_output self.old) (sink_output self.new) }
-        ensures told { IsTrue (sink_output self.old).told → bytes_appended (sink_output self.old) (sink_output self.new) ≡ front_of result piece.now }
+        ensures told { IsTrue (sink_output self.old).told
+            → bytes_appended (sink_output self.old) (sink_output self.new)
+            ≡ front_of result piece.now }
 
         ensures writes { MemoryWrites self.old self.new (length piece.now) result }
     {

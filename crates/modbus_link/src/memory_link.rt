@@ -38,7 +38,12 @@ impl Model for MemoryLink {
 impl MemoryLink {
     /// A link of these ends. A shutdown fails exactly where `shutdown_fails`.
     pub fn new(source: MemorySource, sink: MemorySink, shutdown_fails: bool) -> MemoryLink
-        ensures { result ≡ record { source = source; sink = sink; shutdown_fails = shutdown_fails; line = line_at_start } }
+        ensures { result ≡ record {
+          source = source;
+          sink = sink;
+          shutdown_fails = shutdown_fails;
+          line = line_at_start;
+        } }
     {
         MemoryLink {
             source,
@@ -85,7 +90,9 @@ impl Source for MemoryLink {
         requires { 0 < length room.old }
         ensures bound { ReadsAtMost result room.new }
         ensures source { Advances (source_input self.old.source) (source_input self.new.source) }
-        ensures told { IsTrue (source_input self.old.source).told → ReadIsTold (source_input self.old.source) (source_input self.new.source) room.old room.new result }
+        ensures told { IsTrue (source_input self.old.source).told
+            → ReadIsTold (source_input self.old.source) (source_input self.new.source) room.old
+            room.new result }
 
         ensures reads { MemoryReads self.old.source self.new.source (length room.old) result }
         ensures others { self.new ≡ record self.old { source = self.new.source } }
@@ -99,7 +106,9 @@ impl Sink for MemoryLink {
         ensures bound { WritesAtMost result piece.now }
         ensures some { IfOk result (λ count. 0 < length piece.now → 0 < count) }
         ensures sink { Extends (sink_output self.old.sink) (sink_output self.new.sink) }
-        ensures told { IsTrue (sink_output self.old.sink).told → bytes_appended (sink_output self.old.sink) (sink_output self.new.sink) ≡ front_of result piece.now }
+        ensures told { IsTrue (sink_output self.old.sink).told
+            → bytes_appended (sink_output self.old.sink) (sink_output self.new.sink)
+            ≡ front_of result piece.now }
 
         ensures writes { MemoryWrites self.old.sink self.new.sink (length piece.now) result }
         ensures others { self.new ≡ record self.old { sink = self.new.sink } }
@@ -123,7 +132,9 @@ impl Link for MemoryLink {
     }
 
     fn set_timeout(&mut self, duration: Option<Duration>)
-        ensures set { self.new ≡ record self.old { line = record self.old.line { timeout = duration } } }
+        ensures set { self.new ≡ record self.old {
+          line = record self.old.line { timeout = duration };
+        } }
     {
         self.timeout = duration;
     }

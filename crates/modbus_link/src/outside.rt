@@ -31,8 +31,10 @@ pub trait Source: Ends {
         requires { 0 < length room.old }
         ensures bound { ReadsAtMost result room.new }
         ensures source { Advances (Self.input self.old) (Self.input self.new) }
-        ensures told { IsTrue (Self.input self.old).told → ReadIsTold (Self.input self.old) (Self.input self.new) room.old room.new result }
-        ensures cause { OnErr result (Rose (Self.input self.old).faults (Self.input self.new).faults) }
+        ensures told { IsTrue (Self.input self.old).told
+            → ReadIsTold (Self.input self.old) (Self.input self.new) room.old room.new result }
+        ensures cause { OnErr result (Rose (Self.input self.old).faults
+            (Self.input self.new).faults) }
 
         // An object that is a sink too keeps what was written.
         ensures sink { Self.output self.new ≡ Self.output self.old }
@@ -51,8 +53,11 @@ pub trait Sink: Ends {
         ensures bound { WritesAtMost result piece.now }
         ensures some { IfOk result (λ count. 0 < length piece.now → 0 < count) }
         ensures sink { Extends (Self.output self.old) (Self.output self.new) }
-        ensures told { IsTrue (Self.output self.old).told → bytes_appended (Self.output self.old) (Self.output self.new) ≡ front_of result piece.now }
-        ensures cause { OnErr result (Rose (Self.output self.old).faults (Self.output self.new).faults) }
+        ensures told { IsTrue (Self.output self.old).told
+            → bytes_appended (Self.output self.old) (Self.output self.new)
+            ≡ front_of result piece.now }
+        ensures cause { OnErr result (Rose (Self.output self.old).faults
+            (Self.output self.new).faults) }
 
         // An object that is a source too keeps what is left to read.
         ensures source { Self.input self.new ≡ Self.input self.old }

@@ -44,8 +44,11 @@ pub trait PolledLink: Ends {
         requires { 0 < length room.old }
         ensures bound { ReadsAtMost (at_once result) room.new }
         ensures source { Advances (Self.input self.old) (Self.input self.new) }
-        ensures told { IsTrue (Self.input self.old).told → ReadIsTold (Self.input self.old) (Self.input self.new) room.old room.new (at_once result) }
-        ensures cause { OnErr result (Rose (Self.input self.old).faults (Self.input self.new).faults) }
+        ensures told { IsTrue (Self.input self.old).told
+            → ReadIsTold (Self.input self.old) (Self.input self.new) room.old room.new
+            (at_once result) }
+        ensures cause { OnErr result (Rose (Self.input self.old).faults
+            (Self.input self.new).faults) }
         ensures waited { Waited result (not_ready self.old) (not_ready self.new) }
         ensures later { not_ready self.old ≤ not_ready self.new }
         ensures sink { Self.output self.new ≡ Self.output self.old }
@@ -59,8 +62,11 @@ pub trait PolledLink: Ends {
         ensures bound { WritesAtMost (at_once result) piece.now }
         ensures some { IfOk (at_once result) (λ count. 0 < length piece.now → 0 < count) }
         ensures sink { Extends (Self.output self.old) (Self.output self.new) }
-        ensures told { IsTrue (Self.output self.old).told → bytes_appended (Self.output self.old) (Self.output self.new) ≡ front_of (at_once result) piece.now }
-        ensures cause { OnErr result (Rose (Self.output self.old).faults (Self.output self.new).faults) }
+        ensures told { IsTrue (Self.output self.old).told
+            → bytes_appended (Self.output self.old) (Self.output self.new)
+            ≡ front_of (at_once result) piece.now }
+        ensures cause { OnErr result (Rose (Self.output self.old).faults
+            (Self.output self.new).faults) }
         ensures waited { Waited result (not_ready self.old) (not_ready self.new) }
         ensures later { not_ready self.old ≤ not_ready self.new }
         ensures source { Self.input self.new ≡ Self.input self.old }
@@ -154,8 +160,11 @@ impl PolledLink for PolledMemoryLink {
     fn poll_read(&mut self, room: &mut [u8]) -> Result<Polled<usize>, Failed>
         requires { 0 < length room.old }
         ensures bound { ReadsAtMost (at_once result) room.new }
-        ensures source { Advances (source_input self.old.link.source) (source_input self.new.link.source) }
-        ensures told { IsTrue (source_input self.old.link.source).told → ReadIsTold (source_input self.old.link.source) (source_input self.new.link.source) room.old room.new (at_once result) }
+        ensures source { Advances (source_input self.old.link.source)
+            (source_input self.new.link.source) }
+        ensures told { IsTrue (source_input self.old.link.source).told
+            → ReadIsTold (source_input self.old.link.source) (source_input self.new.link.source)
+            room.old room.new (at_once result) }
         ensures later { self.old.not_ready ≤ self.new.not_ready }
 
         ensures reads { MemoryPolls (LinkReads (length room.old)) self.old self.new result }
@@ -171,7 +180,9 @@ impl PolledLink for PolledMemoryLink {
         ensures bound { WritesAtMost (at_once result) piece.now }
         ensures some { IfOk (at_once result) (λ count. 0 < length piece.now → 0 < count) }
         ensures sink { Extends (sink_output self.old.link.sink) (sink_output self.new.link.sink) }
-        ensures told { IsTrue (sink_output self.old.link.sink).told → bytes_appended (sink_output self.old.link.sink) (sink_output self.new.link.sink) ≡ front_of (at_once result) piece.now }
+        ensures told { IsTrue (sink_output self.old.link.sink).told
+            → bytes_appended (sink_output self.old.link.sink) (sink_output self.new.link.sink)
+            ≡ front_of (at_once result) piece.now }
         ensures later { self.old.not_ready ≤ self.new.not_ready }
 
         ensures writes { MemoryPolls (LinkWrites (length piece.now)) self.old self.new result }

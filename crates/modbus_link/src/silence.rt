@@ -94,8 +94,11 @@ impl PolledLink for TimedMemoryLink {
     fn poll_read(&mut self, room: &mut [u8]) -> Result<Polled<usize>, Failed>
         requires { 0 < length room.old }
         ensures bound { ReadsAtMost (at_once result) room.new }
-        ensures source { Advances (source_input self.old.link.source) (source_input self.new.link.source) }
-        ensures told { IsTrue (source_input self.old.link.source).told → ReadIsTold (source_input self.old.link.source) (source_input self.new.link.source) room.old room.new (at_once result) }
+        ensures source { Advances (source_input self.old.link.source)
+            (source_input self.new.link.source) }
+        ensures told { IsTrue (source_input self.old.link.source).told
+            → ReadIsTold (source_input self.old.link.source) (source_input self.new.link.source)
+            room.old room.new (at_once result) }
         ensures later { self.old.told ≤ self.new.told }
 
         ensures reads { SilenceReads (length room.old) self.old self.new result }
@@ -112,7 +115,9 @@ impl PolledLink for TimedMemoryLink {
         ensures bound { WritesAtMost (at_once result) piece.now }
         ensures some { IfOk (at_once result) (λ count. 0 < length piece.now → 0 < count) }
         ensures sink { Extends (sink_output self.old.link.sink) (sink_output self.new.link.sink) }
-        ensures told { IsTrue (sink_output self.old.link.sink).told → bytes_appended (sink_output self.old.link.sink) (sink_output self.new.link.sink) ≡ front_of (at_once result) piece.now }
+        ensures told { IsTrue (sink_output self.old.link.sink).told
+            → bytes_appended (sink_output self.old.link.sink) (sink_output self.new.link.sink)
+            ≡ front_of (at_once result) piece.now }
         ensures waited { Waited result self.old.told self.new.told }
         ensures later { self.old.told ≤ self.new.told }
 
@@ -175,7 +180,8 @@ impl<R: Read, W: Write> PolledLink for TerminalLink<R, W> {
     fn poll_read(&mut self, room: &mut [u8]) -> Result<Polled<usize>, Failed>
         requires { 0 < length room.old }
         ensures bound { ReadsAtMost (at_once result) room.new }
-        ensures source { Advances (untold_input self.old.read_faults) (untold_input self.new.read_faults) }
+        ensures source { Advances (untold_input self.old.read_faults)
+            (untold_input self.new.read_faults) }
         ensures later { self.old.silences ≤ self.new.silences }
 
         // It never ends.
@@ -197,7 +203,8 @@ impl<R: Read, W: Write> PolledLink for TerminalLink<R, W> {
     fn poll_write(&mut self, piece: &[u8]) -> Result<Polled<usize>, Failed>
         ensures bound { WritesAtMost (at_once result) piece.now }
         ensures some { IfOk (at_once result) (λ count. 0 < length piece.now → 0 < count) }
-        ensures sink { Extends (untold_output self.old.write_faults) (untold_output self.new.write_faults) }
+        ensures sink { Extends (untold_output self.old.write_faults)
+            (untold_output self.new.write_faults) }
         ensures waited { Waited result self.old.silences self.new.silences }
         ensures later { self.old.silences ≤ self.new.silences }
 
@@ -257,7 +264,8 @@ impl PolledLink for TimedTcpLink {
     fn poll_read(&mut self, room: &mut [u8]) -> Result<Polled<usize>, Failed>
         requires { 0 < length room.old }
         ensures bound { ReadsAtMost (at_once result) room.new }
-        ensures source { Advances (untold_input self.old.link.read_faults) (untold_input self.new.link.read_faults) }
+        ensures source { Advances (untold_input self.old.link.read_faults)
+            (untold_input self.new.link.read_faults) }
         ensures later { self.old.silences ≤ self.new.silences }
 
         ensures reads { TcpReads self.old self.new result }
@@ -278,7 +286,8 @@ impl PolledLink for TimedTcpLink {
     fn poll_write(&mut self, piece: &[u8]) -> Result<Polled<usize>, Failed>
         ensures bound { WritesAtMost (at_once result) piece.now }
         ensures some { IfOk (at_once result) (λ count. 0 < length piece.now → 0 < count) }
-        ensures sink { Extends (untold_output self.old.link.write_faults) (untold_output self.new.link.write_faults) }
+        ensures sink { Extends (untold_output self.old.link.write_faults)
+            (untold_output self.new.link.write_faults) }
         ensures waited { Waited result self.old.silences self.new.silences }
         ensures later { self.old.silences ≤ self.new.silences }
 

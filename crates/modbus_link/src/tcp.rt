@@ -81,7 +81,8 @@ impl TcpLink {
     }
 
     fn count_read_fault(&mut self) -> Failed
-        ensures source { Advances (untold_input self.old.read_faults) (untold_input self.new.read_faults) }
+        ensures source { Advances (untold_input self.old.read_faults)
+            (untold_input self.new.read_faults) }
         ensures counts { self.new ≡ record self.old { read_faults = counted self.old.read_faults } }
     {
         self.read_faults = self.read_faults.saturating_add(1);
@@ -102,8 +103,12 @@ impl TcpLink {
     /// `Failed` where the stream failed in another way, or refused the timeout.
     pub(crate) fn read_in_time(&mut self, room: &mut [u8]) -> Result<Polled<usize>, Failed>
         ensures bound { ReadsAtMost (at_once result) room.new }
-        ensures source { Advances (untold_input self.old.read_faults) (untold_input self.new.read_faults) }
-        ensures counts { self.new ≡ record self.old { read_faults = faults_after result self.old.read_faults } }
+        ensures source { Advances (untold_input self.old.read_faults)
+            (untold_input self.new.read_faults) }
+        ensures counts { self.new ≡ record self.old {
+          read_faults = faults_after result
+              self.old.read_faults;
+        } }
     {
         match self.try_read(room) {
             Ok(count) => Ok(Polled::Ready(count)),
@@ -136,9 +141,13 @@ impl Source for TcpLink {
     /// `Failed` where the stream failed, gave nothing within the timeout, or refused the timeout, as it does one of no length.
     fn read(&mut self, room: &mut [u8]) -> Result<usize, Failed>
         ensures bound { ReadsAtMost result room.new }
-        ensures source { Advances (untold_input self.old.read_faults) (untold_input self.new.read_faults) }
+        ensures source { Advances (untold_input self.old.read_faults)
+            (untold_input self.new.read_faults) }
 
-        ensures counts { self.new ≡ record self.old { read_faults = faults_after result self.old.read_faults } }
+        ensures counts { self.new ≡ record self.old {
+          read_faults = faults_after result
+              self.old.read_faults;
+        } }
     {
         match self.try_read(room) {
             Ok(count) => Ok(count),
@@ -156,9 +165,13 @@ impl Sink for TcpLink {
     fn write(&mut self, piece: &[u8]) -> Result<usize, Failed>
         ensures bound { WritesAtMost result piece.now }
         ensures some { IfOk result (λ count. 0 < length piece.now → 0 < count) }
-        ensures sink { Extends (untold_output self.old.write_faults) (untold_output self.new.write_faults) }
+        ensures sink { Extends (untold_output self.old.write_faults)
+            (untold_output self.new.write_faults) }
 
-        ensures counts { self.new ≡ record self.old { write_faults = faults_after result self.old.write_faults } }
+        ensures counts { self.new ≡ record self.old {
+          write_faults = faults_after result
+              self.old.write_faults;
+        } }
     {
         match self.try_write(piece) {
             Ok(count) if count > 0 || piece.is_empty() => Ok(count),
@@ -202,7 +215,9 @@ impl Link for TcpLink {
     }
 
     fn set_timeout(&mut self, duration: Option<Duration>)
-        ensures set { self.new ≡ record self.old { line = record self.old.line { timeout = duration } } }
+        ensures set { self.new ≡ record self.old {
+          line = record self.old.line { timeout = duration };
+        } }
     {
         self.timeout = duration;
         self.is_timeout_applied = false;

@@ -105,8 +105,9 @@ fn request_of_other_fields(
     cursor: Cursor<'_>,
 ) -> Result<Request<'static>, PduError>
     requires start { cursor.at ≡ 1 }
-    requires other { (code ≢ read_coils) × (code ≢ read_discrete_inputs) × (code ≢ read_holding_registers)
-        × (code ≢ read_input_registers) × (code ≢ write_single_coil) × (code ≢ write_single_register) }
+    requires other { (code ≢ read_coils) × (code ≢ read_discrete_inputs)
+        × (code ≢ read_holding_registers) × (code ≢ read_input_registers)
+        × (code ≢ write_single_coil) × (code ≢ write_single_register) }
     ensures value { Decodes meaning result (asked_by code cursor.entry.bytes.now) }
     ensures memory { result ≡ Err PduError.NoMemory
         → IsOkAnd (asked_by code cursor.entry.bytes.now) CarriesList }
@@ -208,7 +209,8 @@ pub(crate) fn single_coil(mut cursor: Cursor<'_>) -> Result<(Address, Coil), Rea
 fn coils_written(alloc: Global, mut cursor: Cursor<'_>) -> Result<(Address, Coils), PduError>
     requires { cursor.at ≡ 1 }
     ensures value { Decodes (λ x. (x.0, x.1)) result (coils_written_of cursor.entry.bytes.now) }
-    ensures memory { result ≡ Err PduError.NoMemory → IsOk (coils_written_of cursor.entry.bytes.now) }
+    ensures memory { result ≡ Err PduError.NoMemory
+        → IsOk (coils_written_of cursor.entry.bytes.now) }
 {
     cursor.check_size()?;
     let address = cursor.word()?;
@@ -231,8 +233,10 @@ fn coils_written(alloc: Global, mut cursor: Cursor<'_>) -> Result<(Address, Coil
 #[tactic(auto, using(crate::proofs::Registers::registers_missing), unfolding(crate::specs::RequestOf::words_written_of))]
 fn words_written(alloc: Global, mut cursor: Cursor<'_>) -> Result<(Address, Vec<Word>), PduError>
     requires { cursor.at ≡ 1 }
-    ensures value { Decodes (λ x. (x.0, x.1.items)) result (words_written_of cursor.entry.bytes.now) }
-    ensures memory { result ≡ Err PduError.NoMemory → IsOk (words_written_of cursor.entry.bytes.now) }
+    ensures value { Decodes (λ x. (x.0, x.1.items)) result
+        (words_written_of cursor.entry.bytes.now) }
+    ensures memory { result ≡ Err PduError.NoMemory
+        → IsOk (words_written_of cursor.entry.bytes.now) }
 {
     cursor.check_size()?;
     let address = cursor.word()?;

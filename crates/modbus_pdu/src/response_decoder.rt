@@ -152,7 +152,8 @@ fn objects_end(pdu: &[u8], place: usize, count: u8) -> Result<usize, Reason>
 #[tactic(auto, unfolding(crate::specs::ResponseOf::object_at))]
 fn next_object(pdu: &Bytes, cursor: &mut Cursor<'_>) -> Result<DeviceIdObject, PduError>
     requires { cursor.old.bytes.now ≡ pdu.now }
-    ensures value { Decodes (λ object. (object, cursor.new.at)) result (object_at cursor.old.at pdu.now) }
+    ensures value { Decodes (λ object. (object, cursor.new.at)) result
+        (object_at cursor.old.at pdu.now) }
     ensures bytes { cursor.new.bytes.now ≡ cursor.old.bytes.now }
 {
     let id = cursor.byte()?;
@@ -174,7 +175,8 @@ fn read_objects(
     count: u8,
 ) -> Result<Vec<DeviceIdObject>, PduError>
     requires { cursor.old.bytes.now ≡ pdu.now }
-    ensures value { Decodes (λ v. (v.items, cursor.new.at)) result (objects_at count cursor.old.at pdu.now) }
+    ensures value { Decodes (λ v. (v.items, cursor.new.at)) result
+        (objects_at count cursor.old.at pdu.now) }
     ensures bytes { cursor.new.bytes.now ≡ cursor.old.bytes.now }
 {
     let mut found = Vec::new(alloc);
@@ -249,7 +251,8 @@ fn answered(alloc: Global, code: u8, pdu: &[u8], cursor: Cursor<'_>) -> Result<R
     requires bytes { cursor.bytes.now ≡ pdu.now }
     requires at { cursor.at ≡ 1 }
     ensures value { Decodes (λ response. response) result (answered_by code pdu.now) }
-    ensures memory { result ≡ Err PduError.NoMemory → IsOkAnd (answered_by code pdu.now) CarriesMemory }
+    ensures memory { result ≡ Err PduError.NoMemory
+        → IsOkAnd (answered_by code pdu.now) CarriesMemory }
 {
     match code {
         function_code::READ_COILS => {

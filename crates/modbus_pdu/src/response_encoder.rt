@@ -114,7 +114,8 @@ pub fn response_result_pdu_size(
 fn put_coils_read(buf: &mut BytesMut, code: u8, coils: &[Coil])
     requires fits { packed_size (length coils.now) < 256 }
     requires room { 2 + packed_size (length coils.now) ≤ buf.old.spare }
-    ensures items { buf.new.items ≡ buf.old.items ++ code ∷ packed_size (length coils.now) ∷ packed coils.now }
+    ensures items { buf.new.items ≡ buf.old.items
+        ++ code ∷ packed_size (length coils.now) ∷ packed coils.now }
     ensures spare { buf.new.spare + 2 + packed_size (length coils.now) ≡ buf.old.spare }
 {
     put_byte(buf, code);
@@ -126,7 +127,8 @@ fn put_coils_read(buf: &mut BytesMut, code: u8, coils: &[Coil])
 fn put_words_read(buf: &mut BytesMut, code: u8, registers: &[Word])
     requires fits { 2 * length registers.now < 256 }
     requires room { 2 + 2 * length registers.now ≤ buf.old.spare }
-    ensures items { buf.new.items ≡ buf.old.items ++ code ∷ (2 * length registers.now) ∷ words registers.now }
+    ensures items { buf.new.items ≡ buf.old.items
+        ++ code ∷ (2 * length registers.now) ∷ words registers.now }
     ensures spare { buf.new.spare + 2 + 2 * length registers.now ≡ buf.old.spare }
 {
     put_byte(buf, code);
@@ -280,7 +282,8 @@ pub fn encode_response_pdu(
     requires { Fits (response_pdu response.now) }
     ensures ok { OnOk result (buf.new.items ≡ buf.old.items ++ response_pdu response.now) }
     ensures err { OnErr result (buf.new.items ≡ buf.old.items) }
-    ensures spare { UsesSpare result buf.old.spare buf.new.spare (length (response_pdu response.now)) }
+    ensures spare { UsesSpare result buf.old.spare buf.new.spare
+        (length (response_pdu response.now)) }
 {
     buf.reserve(response_len(response))?;
     put_response(buf, response);
@@ -303,7 +306,8 @@ pub fn encode_response_result_pdu(
     requires fits { Fits (response_result_pdu answer.now) }
     ensures ok { OnOk result (buf.new.items ≡ buf.old.items ++ response_result_pdu answer.now) }
     ensures err { OnErr result (buf.new.items ≡ buf.old.items) }
-    ensures spare { UsesSpare result buf.old.spare buf.new.spare (length (response_result_pdu answer.now)) }
+    ensures spare { UsesSpare result buf.old.spare buf.new.spare
+        (length (response_result_pdu answer.now)) }
 {
     match answer {
         Ok(response) => encode_response_pdu(alloc, buf, response),

@@ -129,7 +129,8 @@ pub fn csv_line(alloc: Global, values: &[Value]) -> Result<Vec<u8>, AllocError>
 /// Writes a value of JSON.
 fn put_value(alloc: Global, writer: &mut Writer, value: &Value) -> Result<(), AllocError>
     ensures before { OnOk result (writer.new.before ≡ writer.old.before) }
-    ensures tokens { OnOk result (writer.new.tokens ≡ writer.old.tokens ++ json_value value.now ∷ []) }
+    ensures tokens { OnOk result (writer.new.tokens
+        ≡ writer.old.tokens ++ json_value value.now ∷ []) }
 {
     match value {
         Value::Unsigned(number) => writer.u64(*number),

@@ -148,7 +148,10 @@ where
             (meaning_by P.protocol P.heading (connector_of C.connects C.faults)
             (meaning_of C.Link.input C.Link.output C.Link.line))
             self.old.address self.old.settings result }
-        ensures rest { self.new ≡ record self.old { connector = self.new.connector; client = None } }
+        ensures rest { self.new ≡ record self.old {
+          connector = self.new.connector;
+          client = None;
+        } }
     {
         if let Some(client) = self.client.take() {
             return Some(client);

@@ -85,7 +85,9 @@ impl<P: Protocol, L> SettlingClient<P, L> {
 
     /// How many reads of a call may give bytes from then on; `TURNS` at first.
     pub fn set_turns(&mut self, turns: u64)
-        ensures { self.new ≡ record self.old { settings = record self.old.settings { turns = turns } } }
+        ensures { self.new ≡ record self.old {
+          settings = record self.old.settings { turns = turns };
+        } }
     {
         self.turns = turns;
     }

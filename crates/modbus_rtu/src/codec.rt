@@ -54,7 +54,8 @@ impl ClientCodec {
         alloc: Global,
         buf: &mut BytesMut,
     ) -> Result<Option<rtu::ResponseAdu>, RtuError>
-        ensures reads { ReadsBy response_verdict response_result_of AnswerCarriesMemory (λ adu. adu.hdr.slave_id) (λ adu. adu.pdu.0) buf.old.items result buf.new.items }
+        ensures reads { ReadsBy response_verdict response_result_of AnswerCarriesMemory
+            (λ adu. adu.hdr.slave_id) (λ adu. adu.pdu.0) buf.old.items result buf.new.items }
         ensures short { result ≡ Ok None → length buf.new.items < longest_identification }
     {
         match find_by(&ResponseRule, buf.as_slice()) {
@@ -94,7 +95,9 @@ impl ClientCodec {
         adu: rtu::RequestAdu<'_>,
         buf: &mut BytesMut,
     ) -> Result<(), EncodeError>
-        ensures encodes { Encodes (frame adu.entry.hdr.slave_id (request_pdu (meaning adu.entry.pdu.0))) (request_pdu (meaning adu.entry.pdu.0)) buf.old.items result buf.new.items }
+        ensures encodes { Encodes (frame adu.entry.hdr.slave_id
+            (request_pdu (meaning adu.entry.pdu.0))) (request_pdu (meaning adu.entry.pdu.0))
+            buf.old.items result buf.new.items }
         ensures kept { self.new ≡ self.old }
     {
         encode_request_frame(alloc, adu.hdr.slave_id, &adu.pdu.0, buf)
@@ -121,7 +124,8 @@ impl ServerCodec {
         alloc: Global,
         buf: &mut BytesMut,
     ) -> Result<Option<rtu::RequestAdu<'static>>, RtuError>
-        ensures reads { ReadsBy verdict_of request_of CarriesList (λ adu. adu.hdr.slave_id) (λ adu. meaning adu.pdu.0) buf.old.items result buf.new.items }
+        ensures reads { ReadsBy verdict_of request_of CarriesList (λ adu. adu.hdr.slave_id)
+            (λ adu. meaning adu.pdu.0) buf.old.items result buf.new.items }
         ensures short { result ≡ Ok None → length buf.new.items < max_frame }
     {
         match find_by(&RequestRule, buf.as_slice()) {
@@ -163,8 +167,10 @@ impl ServerCodec {
         buf: &mut BytesMut,
     ) -> Result<(), EncodeError>
         requires { ForErr adu.pdu.0 (λ refusal. function_number refusal.function < exception_bit) }
-        ensures encodes { Encodes (frame adu.hdr.slave_id (response_result_pdu adu.pdu.0)) (response_result_pdu adu.pdu.0) buf.old.items result buf.new.items }
-        ensures memory { result ≡ Err EncodeError.NoMemory → buf.old.spare < length (frame adu.hdr.slave_id (response_result_pdu adu.pdu.0)) }
+        ensures encodes { Encodes (frame adu.hdr.slave_id (response_result_pdu adu.pdu.0))
+            (response_result_pdu adu.pdu.0) buf.old.items result buf.new.items }
+        ensures memory { result ≡ Err EncodeError.NoMemory
+            → buf.old.spare < length (frame adu.hdr.slave_id (response_result_pdu adu.pdu.0)) }
         ensures kept { self.new ≡ self.old }
     {
         encode_response_frame(alloc, adu.hdr.slave_id, &adu.pdu.0, buf)

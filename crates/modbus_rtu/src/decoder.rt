@@ -129,7 +129,8 @@ impl FrameDecoder {
         pdu_len: usize,
     ) -> Result<Option<(SlaveId, Bytes)>, FrameFault>
         requires { pdu_len + overhead ≤ usize.MAX }
-        ensures decodes { DecodesFrame pdu_len buf.old.items self.old result buf.new.items self.new }
+        ensures decodes { DecodesFrame pdu_len buf.old.items self.old result buf.new.items
+            self.new }
     {
         if buf.len() < pdu_len + OVERHEAD {
             return Ok(None);
@@ -171,7 +172,8 @@ impl FrameDecoder {
         rule: &R,
         buf: &mut BytesMut,
     ) -> Result<Option<(SlaveId, Bytes)>, RtuError>
-        ensures decodes { DecodesBy (judged_by R.head) buf.old.items self.old result buf.new.items self.new }
+        ensures decodes { DecodesBy (judged_by R.head) buf.old.items self.old result buf.new.items
+            self.new }
         ensures short { result ≡ Ok None → length buf.new.items < R.longest }
     {
         match next_frame_by(rule, buf.as_slice()) {
@@ -256,7 +258,8 @@ impl<R: LengthRule> Decoder<R> {
         _alloc: Global,
         buf: &mut BytesMut,
     ) -> Result<Option<(SlaveId, Bytes)>, RtuError>
-        ensures decodes { DecodesBy (judged_by R.head) buf.old.items self.old result buf.new.items self.new }
+        ensures decodes { DecodesBy (judged_by R.head) buf.old.items self.old result buf.new.items
+            self.new }
         ensures short { result ≡ Ok None → length buf.new.items < R.longest }
     {
         self.frames.decode_by(&self.rule, buf)

@@ -24,7 +24,8 @@ use std::alloc::Global;
 fn put_checksum(buf: &mut BytesMut, start: usize)
     requires start { start ≤ length buf.old.items }
     requires room { 2 ≤ buf.old.spare }
-    ensures items { buf.new.items ≡ buf.old.items ++ crc (drop start buf.old.items) % 256 ∷ crc (drop start buf.old.items) / 256 ∷ [] }
+    ensures items { buf.new.items ≡ buf.old.items
+        ++ crc (drop start buf.old.items) % 256 ∷ crc (drop start buf.old.items) / 256 ∷ [] }
     ensures spare { buf.new.spare + 2 ≡ buf.old.spare }
 {
     let sum = calc_crc(&buf.as_slice()[start..]);
@@ -43,7 +44,8 @@ pub fn encode_request_frame(
     request: &Request<'_>,
     buf: &mut BytesMut,
 ) -> Result<(), EncodeError>
-    ensures { Encodes (frame slave (request_pdu (meaning request.now))) (request_pdu (meaning request.now)) buf.old.items result buf.new.items }
+    ensures { Encodes (frame slave (request_pdu (meaning request.now)))
+        (request_pdu (meaning request.now)) buf.old.items result buf.new.items }
 {
     let pdu_len = request_pdu_size(request)?;
     // One growth for the whole frame.
@@ -70,8 +72,10 @@ pub fn encode_response_frame(
     buf: &mut BytesMut,
 ) -> Result<(), EncodeError>
     requires { ForErr answer.now (λ refusal. function_number refusal.function < exception_bit) }
-    ensures encodes { Encodes (frame slave (response_result_pdu answer.now)) (response_result_pdu answer.now) buf.old.items result buf.new.items }
-    ensures memory { result ≡ Err EncodeError.NoMemory → buf.old.spare < length (frame slave (response_result_pdu answer.now)) }
+    ensures encodes { Encodes (frame slave (response_result_pdu answer.now))
+        (response_result_pdu answer.now) buf.old.items result buf.new.items }
+    ensures memory { result ≡ Err EncodeError.NoMemory
+        → buf.old.spare < length (frame slave (response_result_pdu answer.now)) }
 
     // All in all the buffer has as much room as it had.
     ensures room { length buf.old.items + buf.old.spare ≤ length buf.new.items + buf.new.spare }

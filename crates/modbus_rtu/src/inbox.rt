@@ -101,7 +101,8 @@ fn copy_pdu(pdu: &[u8]) -> ArrayVec<u8, MAX_PDU>
 fn read_piece<S: Source>(source: &mut S, buffer: &mut [u8]) -> Result<usize, Failed>
     requires { 0 < length buffer.old }
     ensures within { IfOk result (λ count. count ≤ length buffer.new) }
-    ensures reads { ReadsPiece (S.input source.old) (S.input source.new) (length buffer.old) (front_of result buffer.new) result }
+    ensures reads { ReadsPiece (S.input source.old) (S.input source.new) (length buffer.old)
+        (front_of result buffer.new) result }
     ensures cause { OnErr result (Rose (S.input source.old).faults (S.input source.new).faults) }
     ensures sink { S.output source.new ≡ S.output source.old }
 {
@@ -172,16 +173,21 @@ impl Inbox {
     /// `Failed`, only where the source's count of faults rose; then nothing was read, and the same bytes are held.
     pub fn fill<S: Source>(&mut self, source: &mut S) -> Result<usize, Failed>
         requires { length self.old < max_frame }
-        ensures reads { (piece : List ℕ) × ReadsPiece (S.input source.old) (S.input source.new) (max_frame - length self.old) piece result × (self.new ≡ self.old ++ piece) }
+        ensures reads { (piece : List ℕ) × ReadsPiece (S.input source.old) (S.input source.new)
+            (max_frame - length self.old) piece result × (self.new ≡ self.old ++ piece) }
         ensures sink { S.output source.new ≡ S.output source.old }
-        ensures cause { OnErr result (Rose (S.input source.old).faults (S.input source.new).faults) }
+        ensures cause { OnErr result (Rose (S.input source.old).faults
+            (S.input source.new).faults) }
         ensures err { OnErr result (self.new ≡ self.old) }
 
         // Whatever the source tells, no more is held than fits.
         ensures most { length self.new ≤ max_frame }
 
         // Where nothing can be taken off, what the inbox stands for goes on by the piece that was read.
-        ensures stands { (piece : List ℕ) → self.new ≡ self.old ++ piece → 0 < length piece → (bytes cuts : List ℕ) (taken : List (ℕ × List ℕ)) → StandsFor bytes cuts self.old taken → verdict self.old 0 ≡ Open → StandsFor (bytes ++ piece) (cuts ++ length (bytes ++ piece) ∷ []) self.new taken }
+        ensures stands { (piece : List ℕ) → self.new ≡ self.old ++ piece → 0 < length piece
+            → (bytes cuts : List ℕ) (taken : List (ℕ × List ℕ))
+            → StandsFor bytes cuts self.old taken → verdict self.old 0 ≡ Open
+            → StandsFor (bytes ++ piece) (cuts ++ length (bytes ++ piece) ∷ []) self.new taken }
     {
         let mut buffer = [0; MAX_FRAME];
         let room = self.room();
@@ -205,7 +211,8 @@ impl Inbox {
         ensures most { length self.now ≤ max_frame }
 
         // In terms of all bytes that were given so far: which frame it is, and what the bytes behind it then stand for.
-        ensures stands { (bytes cuts : List ℕ) (taken : List (ℕ × List ℕ)) → StandsFor bytes cuts self.now taken → FindsIn bytes cuts taken self.now result }
+        ensures stands { (bytes cuts : List ℕ) (taken : List (ℕ × List ℕ))
+            → StandsFor bytes cuts self.now taken → FindsIn bytes cuts taken self.now result }
     {
         let (first, second) = self.ring.as_slices();
         find_in_two(first, second, seam)
@@ -243,15 +250,19 @@ impl Inbox {
     pub fn next(&mut self) -> Result<Option<RtuFrame>, RtuError>
         ensures gives { TakesFrame self.old result self.new }
         ensures causes { IfErr result (λ error. error ≡ RtuError.TooManyRetries) }
-        ensures shrinks { IfOk result (λ found. IfSome found (λ frame. length self.new < length self.old)) }
+        ensures shrinks { IfOk result (λ found.
+            IfSome found (λ frame. length self.new < length self.old)) }
 
         // Where there is no frame, a read has room, and what is held begins with the open offset.
         ensures room { IfOk result (λ found. IfNone found (length self.new < max_frame)) }
         ensures open { result ≡ Ok None → verdict self.new 0 ≡ Open }
 
         // In terms of all bytes that were given so far: which frame it is, and what the inbox then stands for.
-        ensures taken { IfOk result (λ found. IfSome found (λ frame. (bytes cuts : List ℕ) (taken : List (ℕ × List ℕ)) → StandsFor bytes cuts self.old taken → IsTakenNext bytes cuts taken (parts frame))) }
-        ensures stands { (bytes cuts : List ℕ) (taken : List (ℕ × List ℕ)) → StandsFor bytes cuts self.old taken → StandsAfter bytes cuts taken result self.new }
+        ensures taken { IfOk result (λ found.
+            IfSome found (λ frame. (bytes cuts : List ℕ) (taken : List (ℕ × List ℕ))
+            → StandsFor bytes cuts self.old taken → IsTakenNext bytes cuts taken (parts frame))) }
+        ensures stands { (bytes cuts : List ℕ) (taken : List (ℕ × List ℕ))
+            → StandsFor bytes cuts self.old taken → StandsAfter bytes cuts taken result self.new }
     {
         self.take_next()
     }

@@ -61,7 +61,8 @@ pub(crate) fn answer<I: Framing, V: Answerer>(
 ) -> Result<Answer, AnswerError>
     requires empty { reply.old.items ≡ [] }
     requires space { I.framing.reply_room ≤ reply.old.spare }
-    ensures answers { AnswersAs I.framing V.answering (I.header_of header, pdu.now) service.old result service.new reply.new.items }
+    ensures answers { AnswersAs I.framing V.answering (I.header_of header, pdu.now) service.old
+        result service.new reply.new.items }
     ensures space { I.framing.reply_room ≤ length reply.new.items + reply.new.spare }
 {
     let request = match decode_request(alloc, pdu) {

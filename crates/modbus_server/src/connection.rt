@@ -76,10 +76,16 @@ fn take_next<I: Framing, V: Answerer>(
     requires seam { I.framing.seam ≤ length seam.old }
     requires empty { reply.old.items ≡ [] }
     requires space { I.framing.reply_room ≤ reply.old.spare }
-    ensures stands { (bytes cuts written : List ℕ) (opening : V) (exchanges : List (Exchange I.framing)) → Stands I.framing V.answering bytes cuts (I.held intake.old) opening service.old written [] exchanges
-        → TakesAs I.framing V.answering I.told bytes cuts (I.held intake.new) opening service.new written reply.new.items exchanges result }
-    ensures keeps { KeepsAs I.framing.Waits (I.held intake.old) (I.held intake.new) reply.new.items service.old service.new result }
-    ensures memory { result ≡ Err NextError.NoMemory → (bytes cuts : List ℕ) (taken : List (Message I.framing)) → I.framing.StandsFor bytes cuts (I.held intake.old) taken
+    ensures stands { (bytes cuts written : List ℕ) (opening : V)
+        (exchanges : List (Exchange I.framing))
+        → Stands I.framing V.answering bytes cuts (I.held intake.old) opening service.old written []
+        exchanges → TakesAs I.framing V.answering I.told bytes cuts (I.held intake.new) opening
+        service.new written reply.new.items exchanges result }
+    ensures keeps { KeepsAs I.framing.Waits (I.held intake.old) (I.held intake.new) reply.new.items
+        service.old service.new result }
+    ensures memory { result ≡ Err NextError.NoMemory
+        → (bytes cuts : List ℕ) (taken : List (Message I.framing))
+        → I.framing.StandsFor bytes cuts (I.held intake.old) taken
         → NextTakesMemory I.framing V.answering bytes cuts taken service.old service.new }
     ensures space { I.framing.reply_room ≤ length reply.new.items + reply.new.spare }
 {
@@ -105,7 +111,8 @@ fn take_next<I: Framing, V: Answerer>(
 fn poll_piece<L: PolledLink>(link: &mut L, buffer: &mut [u8]) -> Result<Polled<usize>, Failed>
     requires { 0 < length buffer.old }
     ensures within { IfOk (at_once result) (λ count. count ≤ length buffer.new) }
-    ensures reads { ReadsPiece (L.input link.old) (L.input link.new) (length buffer.old) (front_of (at_once result) buffer.new) (at_once result) }
+    ensures reads { ReadsPiece (L.input link.old) (L.input link.new) (length buffer.old)
+        (front_of (at_once result) buffer.new) (at_once result) }
     ensures sink { L.output link.new ≡ L.output link.old }
     ensures cause { OnErr result (Rose (L.input link.old).faults (L.input link.new).faults) }
     ensures waited { Waited result (L.not_ready link.old) (L.not_ready link.new) }
@@ -127,7 +134,8 @@ fn fill_from<I: Framing, L: PolledLink>(
     requires waits { I.framing.Waits (I.held intake.old) }
     requires free { I.framing.room (I.held intake.old) ≤ I.free intake.old }
     requires buffer { I.framing.longest_read ≤ length buffer.old }
-    ensures fills { Fills I.framing (L.input link.old) (L.input link.new) (I.held intake.old) (I.held intake.new) (at_once result) }
+    ensures fills { Fills I.framing (L.input link.old) (L.input link.new) (I.held intake.old)
+        (I.held intake.new) (at_once result) }
     ensures sink { L.output link.new ≡ L.output link.old }
     ensures cause { OnErr result (Rose (L.input link.old).faults (L.input link.new).faults) }
     ensures waited { Waited result (L.not_ready link.old) (L.not_ready link.new) }
@@ -185,7 +193,8 @@ impl<I: Framing> Connection<I> {
     ) -> Result<Next, NextError<I::Fault>>
         requires open { IsTrue self.old.is_open }
         requires written { self.old.waiting ≡ [] }
-        ensures { Took I.framing V.answering I.told self.old self.new service.old service.new result }
+        ensures { Took I.framing V.answering I.told self.old self.new service.old service.new
+            result }
     {
         self.reply.clear();
         self.written = 0;
@@ -222,8 +231,8 @@ impl<I: Framing> Connection<I> {
         ensures exact { result ≡ I.framing.room self.now.held }
         ensures some { 0 < result }
         ensures within { result ≤ I.framing.longest_read }
-        ensures rooms { (bytes cuts : List ℕ) (taken : List (Message I.framing)) → I.framing.StandsFor bytes cuts self.now.held taken
-            → I.framing.HasRoom bytes result }
+        ensures rooms { (bytes cuts : List ℕ) (taken : List (Message I.framing))
+            → I.framing.StandsFor bytes cuts self.now.held taken → I.framing.HasRoom bytes result }
     {
         self.intake.room()
     }
@@ -261,7 +270,8 @@ impl<I: Framing> Connection<I> {
     pub(crate) fn fill<L: PolledLink>(&mut self, link: &mut L) -> Result<Polled<usize>, Failed>
         requires waits { I.framing.Waits self.old.held }
         requires free { I.framing.room self.old.held ≤ self.old.free }
-        ensures fills { Fills I.framing (L.input link.old) (L.input link.new) self.old.held self.new.held (at_once result) }
+        ensures fills { Fills I.framing (L.input link.old) (L.input link.new) self.old.held
+            self.new.held (at_once result) }
         ensures keeps { self.new ≡ record self.old { held = self.new.held; free = self.new.free } }
         ensures sink { L.output link.new ≡ L.output link.old }
         ensures cause { OnErr result (Rose (L.input link.old).faults (L.input link.new).faults) }

@@ -34,7 +34,8 @@ fn flush<I: Framing, L: PolledLink>(
 ) -> Result<Polled<()>, Failed>
     ensures source { L.input link.new ≡ L.input link.old }
     ensures keeps { connection.new ≡ record connection.old { waiting = connection.new.waiting } }
-    ensures sends { Sends (L.output link.old) (L.output link.new) connection.old.waiting connection.new.waiting }
+    ensures sends { Sends (L.output link.old) (L.output link.new) connection.old.waiting
+        connection.new.waiting }
     ensures all { IsFlushed connection.new.waiting result }
     ensures cause { OnErr result (Rose (L.output link.old).faults (L.output link.new).faults) }
     ensures waited { Waited result (L.not_ready link.old) (L.not_ready link.new) }
@@ -55,9 +56,11 @@ pub(crate) fn send<I: Framing, L: PolledLink>(
     link: &mut L,
 ) -> Result<Polled<Step>, ProcessError>
     ensures source { L.input link.new ≡ L.input link.old }
-    ensures sends { Sends (L.output link.old) (L.output link.new) connection.old.waiting connection.new.waiting }
+    ensures sends { Sends (L.output link.old) (L.output link.new) connection.old.waiting
+        connection.new.waiting }
     ensures writes { PollWrites connection.old connection.new result }
-    ensures cause { result ≡ Err ProcessError.WriteFault → Rose (L.output link.old).faults (L.output link.new).faults }
+    ensures cause { result ≡ Err ProcessError.WriteFault
+        → Rose (L.output link.old).faults (L.output link.new).faults }
     ensures waited { Waited result (L.not_ready link.old) (L.not_ready link.new) }
     ensures later { L.not_ready link.old ≤ L.not_ready link.new }
 {
@@ -79,7 +82,8 @@ fn read_more<I: Framing, L: PolledLink>(
 ) -> Result<Polled<Step>, ProcessError>
     requires { I.framing.Waits connection.old.held }
     ensures sink { L.output link.new ≡ L.output link.old }
-    ensures reads { PollReads I.framing (L.input link.old) (L.input link.new) connection.old connection.new result }
+    ensures reads { PollReads I.framing (L.input link.old) (L.input link.new) connection.old
+        connection.new result }
     ensures waited { Waited result (L.not_ready link.old) (L.not_ready link.new) }
     ensures later { L.not_ready link.old ≤ L.not_ready link.new }
 {
@@ -116,7 +120,9 @@ pub(crate) fn poll_step<I: Framing, L: PolledLink, V: Answerer>(
 ) -> Result<Polled<Step>, ProcessError>
     requires open { IsTrue connection.old.is_open }
     requires written { connection.old.waiting ≡ [] }
-    ensures steps { PollSteps I.framing V.answering connection.old connection.new service.old service.new (L.input link.old) (L.input link.new) (L.output link.old) (L.output link.new) may_read result }
+    ensures steps { PollSteps I.framing V.answering connection.old connection.new service.old
+        service.new (L.input link.old) (L.input link.new) (L.output link.old) (L.output link.new)
+        may_read result }
     ensures waited { Waited result (L.not_ready link.old) (L.not_ready link.new) }
     ensures later { L.not_ready link.old ≤ L.not_ready link.new }
 {
@@ -150,7 +156,9 @@ impl<I: Framing> Connection<I> {
     ) -> Result<Step, ProcessError>
         requires open { IsTrue self.old.is_open }
         requires written { self.old.waiting ≡ [] }
-        ensures { Stepped I.framing V.answering self.old self.new service.old service.new (L.input link.old) (L.input link.new) (L.output link.old) (L.output link.new) may_read result }
+        ensures { Stepped I.framing V.answering self.old self.new service.old service.new
+            (L.input link.old) (L.input link.new) (L.output link.old) (L.output link.new) may_read
+            result }
     {
         match poll_step(self, alloc, link, service, may_read) {
             Ok(Polled::Ready(step)) => Ok(step),
@@ -173,7 +181,9 @@ impl<I: Framing> Connection<I> {
     ) -> Result<Step, ProcessError>
         requires open { IsTrue self.old.is_open }
         requires written { self.old.waiting ≡ [] }
-        ensures { Stepped I.framing V.answering self.old self.new service.old service.new (S.input source.old) (S.input source.new) (K.output sink.old) (K.output sink.new) may_read result }
+        ensures { Stepped I.framing V.answering self.old self.new service.old service.new
+            (S.input source.old) (S.input source.new) (K.output sink.old) (K.output sink.new)
+            may_read result }
     {
         self.step_link(alloc, &mut Both::new(source, sink), service, may_read)
     }

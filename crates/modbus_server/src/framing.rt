@@ -81,11 +81,13 @@ pub trait Framing: Drop {
         reply: &mut BytesMut,
     ) -> Result<(), EncodeError>
         requires { ForErr answer.now (λ refusal. function_number refusal.function < 0x80) }
-        ensures encodes { Encodes (framing.adu (header_of header) (response_result_pdu answer.now)) (response_result_pdu answer.now) reply.old.items result reply.new.items }
+        ensures encodes { Encodes (framing.adu (header_of header) (response_result_pdu answer.now))
+            (response_result_pdu answer.now) reply.old.items result reply.new.items }
         ensures memory { result ≡ Err EncodeError.NoMemory → reply.old.spare < framing.reply_room }
 
         // All in all the buffer has as much room as it had.
-        ensures room { length reply.old.items + reply.old.spare ≤ length reply.new.items + reply.new.spare };
+        ensures room { length reply.old.items + reply.old.spare
+            ≤ length reply.new.items + reply.new.spare };
 
     /// One that holds no byte.
     ///
@@ -106,7 +108,8 @@ pub trait Framing: Drop {
     /// The fault that stands there.
     fn front<'a>(&'a self, seam: &'a mut [u8]) -> Result<Front<'a, Self::Header>, Self::Fault>
         requires { framing.seam ≤ length seam.old }
-        ensures finds { (bytes cuts : List ℕ) (taken : List (Message framing)) → framing.StandsFor bytes cuts (held self.now) taken
+        ensures finds { (bytes cuts : List ℕ) (taken : List (Message framing))
+            → framing.StandsFor bytes cuts (held self.now) taken
             → FindsNext framing header_of told bytes cuts taken (held self.now) result }
         ensures within { IsFrontWithin framing.Waits (held self.now) result };
 
@@ -121,8 +124,8 @@ pub trait Framing: Drop {
         ensures exact { result ≡ framing.room (held self.now) }
         ensures some { 0 < result }
         ensures within { result ≤ framing.longest_read }
-        ensures rooms { (bytes cuts : List ℕ) (taken : List (Message framing)) → framing.StandsFor bytes cuts (held self.now) taken
-            → framing.HasRoom bytes result };
+        ensures rooms { (bytes cuts : List ℕ) (taken : List (Message framing))
+            → framing.StandsFor bytes cuts (held self.now) taken → framing.HasRoom bytes result };
 
     /// Makes the room of the next read.
     ///
@@ -143,16 +146,20 @@ pub trait Framing: Drop {
         ensures most { length (held self.new) ≤ framing.most }
 
         // What it stands for goes on by the piece.
-        ensures grows { (bytes cuts : List ℕ) (taken : List (Message framing)) → framing.StandsFor bytes cuts (held self.old) taken → 0 < length piece.now
-            → framing.StandsFor (bytes ++ piece.now) (cuts ++ length (bytes ++ piece.now) ∷ []) (held self.new) taken };
+        ensures grows { (bytes cuts : List ℕ) (taken : List (Message framing))
+            → framing.StandsFor bytes cuts (held self.old) taken → 0 < length piece.now
+            → framing.StandsFor (bytes ++ piece.now) (cuts ++ length (bytes ++ piece.now) ∷ [])
+            (held self.new) taken };
 
     /// What holds of the bytes that begin a clean line, in whatever pieces they came: they have no fault, a message that comes next is the
     /// next of the line, and where they are all of it nothing is left behind its messages. It has no code.
     fn laws()
-        ensures calm { (read rest cuts : List ℕ) (messages before : List (Message framing)) (fault : ProcessError)
-            → framing.IsClean (read ++ rest) messages → framing.IsBroken read cuts before fault → ⊥ }
-        ensures next { (read rest cuts : List ℕ) (messages before : List (Message framing)) (message : Message framing)
-            → framing.IsClean (read ++ rest) messages → framing.IsNext read cuts before message
+        ensures calm { (read rest cuts : List ℕ) (messages before : List (Message framing))
+            (fault : ProcessError) → framing.IsClean (read ++ rest) messages
+            → framing.IsBroken read cuts before fault → ⊥ }
+        ensures next { (read rest cuts : List ℕ) (messages before : List (Message framing))
+            (message : Message framing) → framing.IsClean (read ++ rest) messages
+            → framing.IsNext read cuts before message
             → (later : List (Message framing)) × (messages ≡ (before ++ message ∷ []) ++ later) }
         ensures used { (read cuts left : List ℕ) (messages before : List (Message framing))
             → framing.IsClean read messages → framing.IsAll read cuts left before → left ≡ [] };

@@ -26,11 +26,15 @@ use modbus_service::Answerer;
 /// What a call over RTU frames names is what fails first in what it read, by offset, in the very run that it made; it names nothing
 /// where nothing fails.
 pub fn failing_place<V: Answerer>()
-    ensures run { (bytes cuts written : List ℕ) (opening now : V) (halt : Halt) (s : Served rtu V.answering bytes cuts opening now written halt)
-        → Run rtu V.answering opening (all_asked rtu V.answering bytes cuts opening now written halt s) now }
-    ensures first { (bytes cuts written : List ℕ) (opening now : V) (halt : Halt) (s : Served rtu V.answering bytes cuts opening now written halt)
-        (frames : List ℕ) (stop : ℕ) → IsLeftmost bytes frames stop
-        → IsFirstFault bytes cuts frames (all_asked rtu V.answering bytes cuts opening now written halt s) halt }
+    ensures run { (bytes cuts written : List ℕ) (opening now : V) (halt : Halt)
+        (s : Served rtu V.answering bytes cuts opening now written halt)
+        → Run rtu V.answering opening (all_asked rtu V.answering bytes cuts opening now written halt
+        s) now }
+    ensures first { (bytes cuts written : List ℕ) (opening now : V) (halt : Halt)
+        (s : Served rtu V.answering bytes cuts opening now written halt) (frames : List ℕ)
+        (stop : ℕ) → IsLeftmost bytes frames stop
+        → IsFirstFault bytes cuts frames (all_asked rtu V.answering bytes cuts opening now written
+        halt s) halt }
 {
     modbus_rtu::laws::one_reading();
 }
@@ -38,11 +42,14 @@ pub fn failing_place<V: Answerer>()
 /// The failing place is one: two kinds of fault are not both the first, and none is first where there is none. So a call whose
 /// bytes have a failing place names it, unless a fault of the source or sink or refused memory came before.
 pub fn one_failing_place()
-    ensures one { (bytes cuts frames : List ℕ) (all : List (Exchange rtu)) (stop place at : ℕ) (fault other : Halt) → IsLeftmost bytes frames stop
+    ensures one { (bytes cuts frames : List ℕ) (all : List (Exchange rtu)) (stop place at : ℕ)
+        (fault other : Halt) → IsLeftmost bytes frames stop
         → HasFault bytes cuts frames all place fault → HasFault bytes cuts frames all at other
-        → IsFirstFault bytes cuts frames all fault → IsFirstFault bytes cuts frames all other → fault ≡ other }
-    ensures none { (bytes cuts frames left : List ℕ) (all : List (Exchange rtu)) (place : ℕ) (fault : Halt)
-        → IsFirstFault bytes cuts frames all (remaining left) → HasFault bytes cuts frames all place fault → ⊥ }
+        → IsFirstFault bytes cuts frames all fault → IsFirstFault bytes cuts frames all other
+        → fault ≡ other }
+    ensures none { (bytes cuts frames left : List ℕ) (all : List (Exchange rtu)) (place : ℕ)
+        (fault : Halt) → IsFirstFault bytes cuts frames all (remaining left)
+        → HasFault bytes cuts frames all place fault → ⊥ }
 {
     modbus_rtu::laws::crowds_stay();
 }
@@ -50,11 +57,15 @@ pub fn one_failing_place()
 /// What a call over TCP names is what fails first in what it read, ADU by ADU and then the rest, in the very run that it made; it
 /// names nothing where nothing fails.
 pub fn failing_adu<V: Answerer>()
-    ensures run { (bytes cuts written : List ℕ) (opening now : V) (halt : Halt) (s : Served tcp V.answering bytes cuts opening now written halt)
-        → Run tcp V.answering opening (all_asked tcp V.answering bytes cuts opening now written halt s) now }
-    ensures first { (bytes cuts written : List ℕ) (opening now : V) (halt : Halt) (s : Served tcp V.answering bytes cuts opening now written halt)
+    ensures run { (bytes cuts written : List ℕ) (opening now : V) (halt : Halt)
+        (s : Served tcp V.answering bytes cuts opening now written halt)
+        → Run tcp V.answering opening (all_asked tcp V.answering bytes cuts opening now written halt
+        s) now }
+    ensures first { (bytes cuts written : List ℕ) (opening now : V) (halt : Halt)
+        (s : Served tcp V.answering bytes cuts opening now written halt)
         (adus : List (Header × List ℕ)) (rest : List ℕ) (kind : Rest) → IsSplit bytes adus rest kind
-        → IsFirstAduFault adus kind (all_asked tcp V.answering bytes cuts opening now written halt s) halt }
+        → IsFirstAduFault adus kind (all_asked tcp V.answering bytes cuts opening now written halt
+        s) halt }
 {
     modbus_tcp::laws::one_splitting();
     modbus_tcp::laws::adus_come_first();
@@ -63,23 +74,29 @@ pub fn failing_adu<V: Answerer>()
 /// What fails first in a stream of ADUs is one, so a call whose bytes have it names it, unless a fault of the source or sink or
 /// refused memory came before.
 pub fn one_failing_adu()
-    ensures one { (adus : List (Header × List ℕ)) (kind : Rest) (all : List (Exchange tcp)) (place at : ℕ) (fault other : Halt)
-        → HasAduFault adus kind all place fault → HasAduFault adus kind all at other
-        → IsFirstAduFault adus kind all fault → IsFirstAduFault adus kind all other → fault ≡ other }
-    ensures none { (adus : List (Header × List ℕ)) (kind : Rest) (left : List ℕ) (all : List (Exchange tcp)) (place : ℕ) (fault : Halt)
-        → IsFirstAduFault adus kind all (remaining left) → HasAduFault adus kind all place fault → ⊥ }
+    ensures one { (adus : List (Header × List ℕ)) (kind : Rest) (all : List (Exchange tcp))
+        (place at : ℕ) (fault other : Halt) → HasAduFault adus kind all place fault
+        → HasAduFault adus kind all at other → IsFirstAduFault adus kind all fault
+        → IsFirstAduFault adus kind all other → fault ≡ other }
+    ensures none { (adus : List (Header × List ℕ)) (kind : Rest) (left : List ℕ)
+        (all : List (Exchange tcp)) (place : ℕ) (fault : Halt)
+        → IsFirstAduFault adus kind all (remaining left) → HasAduFault adus kind all place fault
+        → ⊥ }
 {}
 
 /// A polled server that was just opened stands for no bytes, with all of its turns left.
 pub fn polled_servers_begin<I: Framing, V: Answerer>()
-    ensures { (turns : ℕ) (start : V) (state : State) → state.held ≡ [] → state.waiting ≡ [] → I.framing.StandsFor [] [] [] []
+    ensures { (turns : ℕ) (start : V) (state : State) → state.held ≡ [] → state.waiting ≡ []
+        → I.framing.StandsFor [] [] [] []
         → PollStands I.framing V.answering turns [] [] [] start start state turns }
 {}
 
 /// Every call that runs to its end, a polled one too, serves a clean line to its end.
 pub fn clean_lines_are_served<I: Framing, V: Answerer>()
-    ensures { (before after : V) (from to : Input) (sunk sinks : Output) (turns : ℕ) (result : Result (Unit {0}) ProcessError)
-        → Ran I.framing V.answering before after from to sunk sinks turns result → Completes I.framing V.answering before from to sunk sinks turns result }
+    ensures { (before after : V) (from to : Input) (sunk sinks : Output) (turns : ℕ)
+        (result : Result (Unit {0}) ProcessError)
+        → Ran I.framing V.answering before after from to sunk sinks turns result
+        → Completes I.framing V.answering before from to sunk sinks turns result }
 {
     I::laws();
 }
@@ -87,7 +104,9 @@ pub fn clean_lines_are_served<I: Framing, V: Answerer>()
 /// Where no delivered frame takes memory, it is wanting only as a connection is opened: nothing was read then, and nothing written. A
 /// frame takes none where its request carries no list, and the service wants none for it.
 pub fn memory_at_the_opening<V: Answerer>()
-    ensures { (before after : V) (from to : Input) (sunk sinks : Output) (turns : ℕ) (ran : Ran rtu V.answering before after from to sunk sinks turns (Err errors.NoMemory))
-        (frames : List ℕ) (stop : ℕ) → IsLeftmost ran.fed frames stop → All (λ f. TakesNone rtu V.answering (frame_at ran.fed f)) frames
+    ensures { (before after : V) (from to : Input) (sunk sinks : Output) (turns : ℕ)
+        (ran : Ran rtu V.answering before after from to sunk sinks turns (Err errors.NoMemory))
+        (frames : List ℕ) (stop : ℕ) → IsLeftmost ran.fed frames stop
+        → All (λ f. TakesNone rtu V.answering (frame_at ran.fed f)) frames
         → (ran.fed ≡ []) × (ran.sent ≡ []) × (after ≡ before) }
 {}

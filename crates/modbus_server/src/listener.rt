@@ -39,12 +39,29 @@ where
     requires can { P.can_start spawner.old }
     ensures hook { C.IsAlwaysCallable on_connected.new }
     ensures can { P.can_start spawner.new }
-    ensures counted { Counted (record { accepts = A.accepts; connects = C.step; starts = P.starts }) (record { given = A.given; accept_faults = A.faults; started = P.started; spawn_faults = P.faults })
+    ensures counted { Counted (record { accepts = A.accepts; connects = C.step; starts = P.starts })
+        (record {
+          given = A.given;
+          accept_faults = A.faults;
+          started = P.started;
+          spawn_faults = P.faults;
+        }) (record {
+          acceptor = acceptor.old;
+          hook = on_connected.old;
+          spawner = spawner.old;
+        }) (record {
+          acceptor = acceptor.new;
+          hook = on_connected.new;
+          spawner = spawner.new;
+        }) result }
+    ensures accepts_one { AcceptsOne (record {
+      accepts = A.accepts;
+      connects = C.step;
+      starts = P.starts;
+    }) on_process_error
         (record { acceptor = acceptor.old; hook = on_connected.old; spawner = spawner.old })
-        (record { acceptor = acceptor.new; hook = on_connected.new; spawner = spawner.new }) result }
-    ensures accepts_one { AcceptsOne (record { accepts = A.accepts; connects = C.step; starts = P.starts }) on_process_error
-        (record { acceptor = acceptor.old; hook = on_connected.old; spawner = spawner.old })
-        (record { acceptor = acceptor.new; hook = on_connected.new; spawner = spawner.new }) result }
+        (record { acceptor = acceptor.new; hook = on_connected.new; spawner = spawner.new })
+        result }
 {
     let Ok((link, address)) = acceptor.accept() else {
         return Err(ServeError::AcceptFault);
@@ -92,9 +109,22 @@ where
     ensures hook { C.IsAlwaysCallable on_connected.new }
     ensures can { P.can_start spawner.new }
     ensures serves { Serves (record { accepts = A.accepts; connects = C.step; starts = P.starts })
-        (record { given = A.given; accept_faults = A.faults; started = P.started; spawn_faults = P.faults }) (record { stops = X.stops; looks = X.looks }) on_process_error
-        (record { acceptor = acceptor.old; hook = on_connected.old; spawner = spawner.old }, abort_signal.old)
-        (record { acceptor = acceptor.new; hook = on_connected.new; spawner = spawner.new }, abort_signal.new) result }
+        (record {
+          given = A.given;
+          accept_faults = A.faults;
+          started = P.started;
+          spawn_faults = P.faults;
+        }) (record { stops = X.stops; looks = X.looks }) on_process_error (
+          record { acceptor = acceptor.old; hook = on_connected.old; spawner = spawner.old },
+          abort_signal.old,
+        ) (
+          record {
+            acceptor = acceptor.new;
+            hook = on_connected.new;
+            spawner = spawner.new;
+          },
+          abort_signal.new,
+        ) result }
 {
     'accepts: for _ in rt.forever() {
         if abort_signal.is_set() {
@@ -142,9 +172,22 @@ where
     ensures hook { C.IsAlwaysCallable on_connected.new }
     ensures can { P.can_start spawner.new }
     ensures serves { Serves (record { accepts = A.accepts; connects = C.step; starts = P.starts })
-        (record { given = A.given; accept_faults = A.faults; started = P.started; spawn_faults = P.faults }) (record { stops = X.stops; looks = X.looks }) on_process_error
-        (record { acceptor = acceptor.old; hook = on_connected.old; spawner = spawner.old }, abort_signal.old)
-        (record { acceptor = acceptor.new; hook = on_connected.new; spawner = spawner.new }, abort_signal.new) result }
+        (record {
+          given = A.given;
+          accept_faults = A.faults;
+          started = P.started;
+          spawn_faults = P.faults;
+        }) (record { stops = X.stops; looks = X.looks }) on_process_error (
+          record { acceptor = acceptor.old; hook = on_connected.old; spawner = spawner.old },
+          abort_signal.old,
+        ) (
+          record {
+            acceptor = acceptor.new;
+            hook = on_connected.new;
+            spawner = spawner.new;
+          },
+          abort_signal.new,
+        ) result }
 {
     let Ok(flag) = FlagStop::new(alloc) else {
         return Err(ServeError::NoMemory);
@@ -220,10 +263,19 @@ impl<I: Framing, A: Acceptor> Server<I, A> {
         ensures hook { C.IsAlwaysCallable on_connected.new }
         ensures can { P.can_start spawner.new }
         ensures ok { result ≢ Ok tt }
-        ensures serves { Serves (record { accepts = A.accepts; connects = C.step; starts = P.starts })
-            (record { given = A.given; accept_faults = A.faults; started = P.started; spawn_faults = P.faults }) unsignalled on_process_error
+        ensures serves { Serves (record {
+          accepts = A.accepts;
+          connects = C.step;
+          starts = P.starts;
+        }) (record {
+          given = A.given;
+          accept_faults = A.faults;
+          started = P.started;
+          spawn_faults = P.faults;
+        }) unsignalled on_process_error
             (record { acceptor = self.old; hook = on_connected.old; spawner = spawner.old }, tt)
-            (record { acceptor = self.new; hook = on_connected.new; spawner = spawner.new }, tt) (as_stopped result) }
+            (record { acceptor = self.new; hook = on_connected.new; spawner = spawner.new }, tt)
+            (as_stopped result) }
     {
         serve_acceptor(
             rt,
@@ -271,10 +323,27 @@ impl<I: Framing, A: Acceptor> Server<I, A> {
         requires can { P.can_start spawner.old }
         ensures hook { C.IsAlwaysCallable on_connected.new }
         ensures can { P.can_start spawner.new }
-        ensures serves { Serves (record { accepts = A.accepts; connects = C.step; starts = P.starts })
-            (record { given = A.given; accept_faults = A.faults; started = P.started; spawn_faults = P.faults }) (record { stops = X.stops; looks = X.looks }) on_process_error
-            (record { acceptor = self.old; hook = on_connected.old; spawner = spawner.old }, abort_signal.old)
-            (record { acceptor = self.new; hook = on_connected.new; spawner = spawner.new }, abort_signal.new) result }
+        ensures serves { Serves (record {
+          accepts = A.accepts;
+          connects = C.step;
+          starts = P.starts;
+        }) (record {
+          given = A.given;
+          accept_faults = A.faults;
+          started = P.started;
+          spawn_faults = P.faults;
+        })
+            (record { stops = X.stops; looks = X.looks }) on_process_error (
+              record { acceptor = self.old; hook = on_connected.old; spawner = spawner.old },
+              abort_signal.old,
+            ) (
+              record {
+                acceptor = self.new;
+                hook = on_connected.new;
+                spawner = spawner.new;
+              },
+              abort_signal.new,
+            ) result }
     {
         accept_until(
             rt,
@@ -316,9 +385,15 @@ where
     ensures can { P.can_start spawner.new }
     ensures ok { result ≢ Ok tt }
     ensures serves { Serves (record { accepts = A.accepts; connects = C.step; starts = P.starts })
-        (record { given = A.given; accept_faults = A.faults; started = P.started; spawn_faults = P.faults }) unsignalled on_process_error
+        (record {
+          given = A.given;
+          accept_faults = A.faults;
+          started = P.started;
+          spawn_faults = P.faults;
+        }) unsignalled on_process_error
         (record { acceptor = acceptor.old; hook = on_connected.old; spawner = spawner.old }, tt)
-        (record { acceptor = acceptor.new; hook = on_connected.new; spawner = spawner.new }, tt) (as_stopped result) }
+        (record { acceptor = acceptor.new; hook = on_connected.new; spawner = spawner.new }, tt)
+        (as_stopped result) }
 {
     let outcome = accept_until(
         rt,
@@ -364,9 +439,11 @@ where
     requires error_hook { H.IsAlwaysCallable on_process_error }
     ensures hook { C.IsAlwaysCallable on_connected.new }
     ensures ok { result ≢ Ok tt }
-    ensures accept_fault { result ≡ Err ServeError.AcceptFault → Rose (A.faults server.old) (A.faults server.new) }
+    ensures accept_fault { result ≡ Err ServeError.AcceptFault
+        → Rose (A.faults server.old) (A.faults server.new) }
     ensures accepts { Accepts (unspawned A.accepts C.step) never_set on_process_error
-        (without_spawner server.old on_connected.old) tt (without_spawner server.new on_connected.new) tt (as_stopped result) }
+        (without_spawner server.old on_connected.old) tt
+        (without_spawner server.new on_connected.new) tt (as_stopped result) }
 {
     let mut spawner = ScopeSpawner::new(
         |worker: ConnectionWorker<I, L, V, H, FlagStop>| -> bool
@@ -391,7 +468,8 @@ where
     N: FnMut(SocketAddr) -> Result<Option<V>, E>,
     requires { N.IsAlwaysCallable new_service.old }
     ensures again { N.IsAlwaysCallable new_service.new }
-    ensures made { (made : Result (Option V) E) × N.step new_service.old socket_addr made new_service.new × (result ≡ made_for link made) }
+    ensures made { (made : Result (Option V) E)
+        × N.step new_service.old socket_addr made new_service.new × (result ≡ made_for link made) }
 {
     match new_service(socket_addr) {
         Err(error) => Err(error),

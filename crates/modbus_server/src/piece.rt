@@ -36,7 +36,8 @@ fn serve_held<I: Framing, V: Answerer>(
 ) -> Result<(), ProcessError>
     requires open { IsTrue connection.old.is_open }
     requires written { connection.old.waiting ≡ [] }
-    ensures { ServedHeld I.framing V.answering connection.old.held service.old service.new replies.old.items replies.new.items result }
+    ensures { ServedHeld I.framing V.answering connection.old.held service.old service.new
+        replies.old.items replies.new.items result }
 {
     'messages: loop {
         match connection.next(alloc, service) {
@@ -73,7 +74,8 @@ pub fn serve_piece<I: Framing, V: Answerer>(
     requires some { 0 < length piece.now }
     requires waits { I.framing.Waits [] }
     requires fits { length piece.now ≤ I.framing.room [] }
-    ensures served { ServedPiece I.framing V.answering piece.now service.old service.new replies.old.items replies.new.items result }
+    ensures served { ServedPiece I.framing V.answering piece.now service.old service.new
+        replies.old.items replies.new.items result }
     ensures complete { CompletesPiece I.framing V.answering service.old piece.now result }
 {
     I::laws();

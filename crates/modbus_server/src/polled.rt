@@ -21,7 +21,9 @@ fn poll_connection<I: Framing, L: PolledLink, V: Answerer>(
     service: &mut V,
 ) -> Polled<Result<(), ProcessError>>
     requires { IsTrue connection.old.is_open }
-    ensures { PolledTo I.framing V.answering connection.old connection.new left.old left.new service.old service.new (L.input link.old) (L.input link.new) (L.output link.old) (L.output link.new) (L.not_ready link.old) (L.not_ready link.new) result }
+    ensures { PolledTo I.framing V.answering connection.old connection.new left.old left.new
+        service.old service.new (L.input link.old) (L.input link.new) (L.output link.old)
+        (L.output link.new) (L.not_ready link.old) (L.not_ready link.new) result }
 {
     match send(connection, link) {
         Err(error) => return Polled::Ready(Err(error)),
@@ -100,8 +102,13 @@ impl<I: Framing> PolledProcess<I> {
         service: &mut V,
     ) -> Polled<Result<(), ProcessError>>
         requires { IsTrue self.old.connection.is_open }
-        ensures polled { PolledTo I.framing V.answering self.old.connection self.new.connection self.old.left self.new.left service.old service.new (L.input link.old) (L.input link.new) (L.output link.old) (L.output link.new) (L.not_ready link.old) (L.not_ready link.new) result }
-        ensures ran { RunsWhole I.framing V.answering self.old.connection self.old.left service.old service.new (L.input link.old) (L.input link.new) (L.output link.old) (L.output link.new) result }
+        ensures polled { PolledTo I.framing V.answering self.old.connection self.new.connection
+            self.old.left self.new.left service.old service.new (L.input link.old)
+            (L.input link.new) (L.output link.old) (L.output link.new) (L.not_ready link.old)
+            (L.not_ready link.new) result }
+        ensures ran { RunsWhole I.framing V.answering self.old.connection self.old.left service.old
+            service.new (L.input link.old) (L.input link.new) (L.output link.old)
+            (L.output link.new) result }
     {
         clean_lines_are_served::<I, V>();
         poll_connection(

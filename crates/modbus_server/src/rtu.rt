@@ -155,8 +155,10 @@ impl<L: Link> Server<L> {
         alloc: Global,
         service: &mut V,
     ) -> Result<(), ProcessError>
-        ensures ran { Ran rtu V.answering service.old service.new (L.input self.old) (L.input self.new) (L.output self.old) (L.output self.new) (2 ^ 64 - 1) result }
-        ensures complete { Completes rtu V.answering service.old (L.input self.old) (L.input self.new) (L.output self.old) (L.output self.new) (2 ^ 64 - 1) result }
+        ensures ran { Ran rtu V.answering service.old service.new (L.input self.old)
+            (L.input self.new) (L.output self.old) (L.output self.new) (2 ^ 64 - 1) result }
+        ensures complete { Completes rtu V.answering service.old (L.input self.old)
+            (L.input self.new) (L.output self.old) (L.output self.new) (2 ^ 64 - 1) result }
     {
         process_link(alloc, &mut self.link, service, u64::MAX)
     }
@@ -175,8 +177,12 @@ impl<L: Link> Server<L> {
         service: &mut V,
         abort_signal: &mut X,
     ) -> Result<Terminated, ProcessError>
-        ensures ran { RanUntil rtu V.answering X.stops X.looks service.old service.new (L.input self.old) (L.input self.new) (L.output self.old) (L.output self.new) (2 ^ 64 - 1) abort_signal.old abort_signal.new result }
-        ensures complete { Completes rtu V.answering service.old (L.input self.old) (L.input self.new) (L.output self.old) (L.output self.new) (2 ^ 64 - 1) (to_the_end result) }
+        ensures ran { RanUntil rtu V.answering X.stops X.looks service.old service.new
+            (L.input self.old) (L.input self.new) (L.output self.old) (L.output self.new)
+            (2 ^ 64 - 1) abort_signal.old abort_signal.new result }
+        ensures complete { Completes rtu V.answering service.old (L.input self.old)
+            (L.input self.new) (L.output self.old) (L.output self.new) (2 ^ 64 - 1)
+            (to_the_end result) }
     {
         serve_until::<Inbox, L, V, X>(alloc, &mut self.link, service, abort_signal, u64::MAX)
     }

@@ -27,8 +27,10 @@ pub fn process_link<L: Source + Sink, V: Answerer>(
     service: &mut V,
     turns: u64,
 ) -> Result<(), ProcessError>
-    ensures ran { Ran rtu V.answering service.old service.new (L.input link.old) (L.input link.new) (L.output link.old) (L.output link.new) turns result }
-    ensures complete { Completes rtu V.answering service.old (L.input link.old) (L.input link.new) (L.output link.old) (L.output link.new) turns result }
+    ensures ran { Ran rtu V.answering service.old service.new (L.input link.old) (L.input link.new)
+        (L.output link.old) (L.output link.new) turns result }
+    ensures complete { Completes rtu V.answering service.old (L.input link.old) (L.input link.new)
+        (L.output link.old) (L.output link.new) turns result }
 {
     serve_link::<Inbox, L, V>(alloc, link, service, turns)
 }
@@ -57,8 +59,10 @@ pub fn process<S: Source, K: Sink, V: Answerer>(
     service: &mut V,
     turns: u64,
 ) -> Result<(), ProcessError>
-    ensures ran { Ran rtu V.answering service.old service.new (S.input source.old) (S.input source.new) (K.output sink.old) (K.output sink.new) turns result }
-    ensures complete { Completes rtu V.answering service.old (S.input source.old) (S.input source.new) (K.output sink.old) (K.output sink.new) turns result }
+    ensures ran { Ran rtu V.answering service.old service.new (S.input source.old)
+        (S.input source.new) (K.output sink.old) (K.output sink.new) turns result }
+    ensures complete { Completes rtu V.answering service.old (S.input source.old)
+        (S.input source.new) (K.output sink.old) (K.output sink.new) turns result }
 {
     serve::<Inbox, S, K, V>(alloc, source, sink, service, turns)
 }

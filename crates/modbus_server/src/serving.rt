@@ -48,7 +48,9 @@ fn run<I: Framing, L: Source + Sink, V: Answerer, X: Stop>(
     requires written { connection.old.waiting ≡ [] }
     requires ready { IsTrue connection.old.is_open }
     requires stands { I.framing.StandsFor [] [] [] [] }
-    ensures { RanUntil I.framing V.answering X.stops X.looks service.old service.new (L.input link.old) (L.input link.new) (L.output link.old) (L.output link.new) turns abort_signal.old abort_signal.new result }
+    ensures { RanUntil I.framing V.answering X.stops X.looks service.old service.new
+        (L.input link.old) (L.input link.new) (L.output link.old) (L.output link.new) turns
+        abort_signal.old abort_signal.new result }
 {
     let mut left = turns;
     'steps: loop {
@@ -80,8 +82,11 @@ pub fn serve_until<I: Framing, L: Source + Sink, V: Answerer, X: Stop>(
     abort_signal: &mut X,
     turns: u64,
 ) -> Result<Terminated, ProcessError>
-    ensures ran { RanUntil I.framing V.answering X.stops X.looks service.old service.new (L.input link.old) (L.input link.new) (L.output link.old) (L.output link.new) turns abort_signal.old abort_signal.new result }
-    ensures complete { Completes I.framing V.answering service.old (L.input link.old) (L.input link.new) (L.output link.old) (L.output link.new) turns (to_the_end result) }
+    ensures ran { RanUntil I.framing V.answering X.stops X.looks service.old service.new
+        (L.input link.old) (L.input link.new) (L.output link.old) (L.output link.new) turns
+        abort_signal.old abort_signal.new result }
+    ensures complete { Completes I.framing V.answering service.old (L.input link.old)
+        (L.input link.new) (L.output link.old) (L.output link.new) turns (to_the_end result) }
 {
     clean_lines_are_served::<I, V>();
     match Connection::<I>::open(alloc) {
@@ -100,8 +105,10 @@ pub fn serve_link<I: Framing, L: Source + Sink, V: Answerer>(
     service: &mut V,
     turns: u64,
 ) -> Result<(), ProcessError>
-    ensures ran { Ran I.framing V.answering service.old service.new (L.input link.old) (L.input link.new) (L.output link.old) (L.output link.new) turns result }
-    ensures complete { Completes I.framing V.answering service.old (L.input link.old) (L.input link.new) (L.output link.old) (L.output link.new) turns result }
+    ensures ran { Ran I.framing V.answering service.old service.new (L.input link.old)
+        (L.input link.new) (L.output link.old) (L.output link.new) turns result }
+    ensures complete { Completes I.framing V.answering service.old (L.input link.old)
+        (L.input link.new) (L.output link.old) (L.output link.new) turns result }
 {
     match serve_until::<I, L, V, Never>(alloc, link, service, &mut Never, turns) {
         Ok(Terminated::Finished) => Ok(()),
@@ -121,8 +128,10 @@ pub fn serve<I: Framing, S: Source, K: Sink, V: Answerer>(
     service: &mut V,
     turns: u64,
 ) -> Result<(), ProcessError>
-    ensures ran { Ran I.framing V.answering service.old service.new (S.input source.old) (S.input source.new) (K.output sink.old) (K.output sink.new) turns result }
-    ensures complete { Completes I.framing V.answering service.old (S.input source.old) (S.input source.new) (K.output sink.old) (K.output sink.new) turns result }
+    ensures ran { Ran I.framing V.answering service.old service.new (S.input source.old)
+        (S.input source.new) (K.output sink.old) (K.output sink.new) turns result }
+    ensures complete { Completes I.framing V.answering service.old (S.input source.old)
+        (S.input source.new) (K.output sink.old) (K.output sink.new) turns result }
 {
     clean_lines_are_served::<I, V>();
     serve_link::<I, Both<'_, '_, S, K>, V>(alloc, &mut Both::new(source, sink), service, turns)

@@ -147,8 +147,10 @@ pub fn process_link<L: Source + Sink, V: Answerer>(
     service: &mut V,
     turns: u64,
 ) -> Result<(), ProcessError>
-    ensures ran { Ran tcp V.answering service.old service.new (L.input link.old) (L.input link.new) (L.output link.old) (L.output link.new) turns result }
-    ensures complete { Completes tcp V.answering service.old (L.input link.old) (L.input link.new) (L.output link.old) (L.output link.new) turns result }
+    ensures ran { Ran tcp V.answering service.old service.new (L.input link.old) (L.input link.new)
+        (L.output link.old) (L.output link.new) turns result }
+    ensures complete { Completes tcp V.answering service.old (L.input link.old) (L.input link.new)
+        (L.output link.old) (L.output link.new) turns result }
 {
     serve_link::<AduBuffer, L, V>(alloc, link, service, turns)
 }
@@ -179,8 +181,10 @@ pub fn process<S: Source, K: Sink, V: Answerer>(
     service: &mut V,
     turns: u64,
 ) -> Result<(), ProcessError>
-    ensures ran { Ran tcp V.answering service.old service.new (S.input source.old) (S.input source.new) (K.output sink.old) (K.output sink.new) turns result }
-    ensures complete { Completes tcp V.answering service.old (S.input source.old) (S.input source.new) (K.output sink.old) (K.output sink.new) turns result }
+    ensures ran { Ran tcp V.answering service.old service.new (S.input source.old)
+        (S.input source.new) (K.output sink.old) (K.output sink.new) turns result }
+    ensures complete { Completes tcp V.answering service.old (S.input source.old)
+        (S.input source.new) (K.output sink.old) (K.output sink.new) turns result }
 {
     serve::<AduBuffer, S, K, V>(alloc, source, sink, service, turns)
 }

@@ -55,7 +55,12 @@ impl<I: Framing, L: Link, V: Answerer, H: Fn(ProcessError), X: Stop> ConnectionW
         on_process_error: H,
         abort_signal: X,
     ) -> ConnectionWorker<I, L, V, H, X>
-        ensures { result ≡ record { link = link; service = service; on_process_error = on_process_error; signal = abort_signal } }
+        ensures { result ≡ record {
+          link = link;
+          service = service;
+          on_process_error = on_process_error;
+          signal = abort_signal;
+        } }
     {
         ConnectionWorker {
             alloc,
@@ -77,8 +82,13 @@ impl<I: Framing, L: Link, V: Answerer, H: Fn(ProcessError), X: Stop> ConnectionW
     /// # Errors
     /// Those of `process`, with the same causes, where no look said that the signal is set.
     pub fn work(&mut self) -> Result<Terminated, ProcessError>
-        ensures ran { RanUntil I.framing V.answering X.stops X.looks self.old.service self.new.service (L.input self.old.link) (L.input self.new.link) (L.output self.old.link) (L.output self.new.link) (2 ^ 64 - 1) self.old.signal self.new.signal result }
-        ensures complete { Completes I.framing V.answering self.old.service (L.input self.old.link) (L.input self.new.link) (L.output self.old.link) (L.output self.new.link) (2 ^ 64 - 1) (to_the_end result) }
+        ensures ran { RanUntil I.framing V.answering X.stops X.looks self.old.service
+            self.new.service (L.input self.old.link) (L.input self.new.link)
+            (L.output self.old.link) (L.output self.new.link) (2 ^ 64 - 1) self.old.signal
+            self.new.signal result }
+        ensures complete { Completes I.framing V.answering self.old.service (L.input self.old.link)
+            (L.input self.new.link) (L.output self.old.link) (L.output self.new.link) (2 ^ 64 - 1)
+            (to_the_end result) }
         ensures hook { self.new.on_process_error ≡ self.old.on_process_error }
     {
         serve_until::<I, L, V, X>(
@@ -114,8 +124,10 @@ impl<
     /// Serves the link as `work` does, once, and hands its error to the hook.
     fn run(mut self)
         requires ready { H.IsAlwaysCallable self.on_process_error }
-        ensures worked { WorksOnce (λ (after : WorkerState L V H X) result. RanUntil I.framing V.answering X.stops X.looks self.service after.service (L.input self.link) (L.input after.link) (L.output self.link) (L.output after.link) (2 ^ 64 - 1) self.signal after.signal result)
-            (H.post self.on_process_error) }
+        ensures worked { WorksOnce (λ (after : WorkerState L V H X) result. RanUntil I.framing
+            V.answering X.stops X.looks self.service after.service (L.input self.link)
+            (L.input after.link) (L.output self.link) (L.output after.link) (2 ^ 64 - 1) self.signal
+            after.signal result) (H.post self.on_process_error) }
     {
         let answer = self.work();
         self.tell(answer);

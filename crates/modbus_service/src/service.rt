@@ -49,7 +49,8 @@ pub trait Answerer {
         alloc: Global,
         request: SlaveRequest<'_>,
     ) -> Result<Option<Response>, ServiceError>
-        ensures { Keeps answering self.old request.entry.slave (meaning request.entry.request) result self.new };
+        ensures { Keeps answering self.old request.entry.slave (meaning request.entry.request)
+            result self.new };
 }
 
 /// What answers the requests of a server, and is as it was where memory was refused.
@@ -69,7 +70,8 @@ pub trait Service {
         alloc: Global,
         request: SlaveRequest<'_>,
     ) -> Result<Option<Response>, ServiceError>
-        ensures { Keeps (steady answers takes_memory) self.old request.entry.slave (meaning request.entry.request) result self.new };
+        ensures { Keeps (steady answers takes_memory) self.old request.entry.slave
+            (meaning request.entry.request) result self.new };
 }
 
 impl<V: Service> Answerer for V {

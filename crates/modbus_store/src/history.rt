@@ -71,7 +71,8 @@ impl History {
 
     /// The entry at a place, counted from 0; `None` exactly at and past the end.
     pub fn entry(&self, place: usize) -> Option<&Entry>
-        ensures { MatchOption result (slice_get self.now place ≡ None) (λ found. slice_get self.now place ≡ Some found.now) }
+        ensures { MatchOption result (slice_get self.now place ≡ None)
+            (λ found. slice_get self.now place ≡ Some found.now) }
     {
         self.entries.get(place)
     }

@@ -48,15 +48,18 @@ pub(crate) trait Target<'a> {
 
     /// Takes in coils one after another.
     fn set_coils(&mut self, first: Address, coils: &'a [Coil])
-        ensures { becomes self.old (changed (tables self.old) (change.Coils first coils.entry)) self.new };
+        ensures { becomes self.old (changed (tables self.old) (change.Coils first coils.entry))
+            self.new };
 
     /// Takes in one holding register.
     fn set_register(&mut self, address: Address, word: Word)
-        ensures { becomes self.old (changed (tables self.old) (change.Register address word)) self.new };
+        ensures { becomes self.old (changed (tables self.old) (change.Register address word))
+            self.new };
 
     /// Takes in holding registers one after another.
     fn set_registers(&mut self, first: Address, words: &'a [Word])
-        ensures { becomes self.old (changed (tables self.old) (change.Registers first words.entry)) self.new };
+        ensures { becomes self.old (changed (tables self.old) (change.Registers first words.entry))
+            self.new };
 }
 
 impl<'a> Target<'a> for RegisterStore {

@@ -49,7 +49,8 @@ pub(crate) fn read_after_write(
     write_address: Address,
     words: &[Word],
 ) -> Result<Vec<Word>, ServiceError>
-    ensures { ReadsAfter (λ found. found.items) table.now address quantity write_address words.now result }
+    ensures { ReadsAfter (λ found. found.items) table.now address quantity write_address words.now
+        result }
 {
     check_both(table.len(), address, quantity, write_address, words.len())?;
     let start = usize::from(address);

@@ -113,7 +113,8 @@ fn count_as<E: Adds>(
     request: &SlaveRequest<'_>,
     outcome: &Outcome,
 )
-    requires call { call number request.now.slave (meaning request.now.request) (outcome_of outcome.now) ≡ E.added }
+    requires call { call number request.now.slave (meaning request.now.request)
+        (outcome_of outcome.now) ≡ E.added }
     requires desk { (seat.old.table_id ≡ desk.now.table_id) × IsDesk desk.now.table_id }
     requires turn { HasTurn number (known_of seat.old.me.0.stage) seat.old.me }
     requires legal { MayCount (known_of seat.old.me.0.stage) E.added seat.old.me.0 }
@@ -136,9 +137,16 @@ pub(crate) fn count(
 )
     requires desk { (seat.old.table_id ≡ desk.now.table_id) × IsDesk desk.now.table_id }
     requires turn { HasTurn number (known_of seat.old.me.0.stage) seat.old.me }
-    requires legal { MayCount (known_of seat.old.me.0.stage) (call number request.now.slave (meaning request.now.request) (outcome_of outcome.now)) seat.old.me.0 }
+    requires legal { MayCount (known_of seat.old.me.0.stage)
+        (call number request.now.slave (meaning request.now.request) (outcome_of outcome.now))
+        seat.old.me.0 }
     ensures desk { seat.new.table_id ≡ seat.old.table_id }
-    ensures counted { seat.new.me ≡ (counted (call number request.now.slave (meaning request.now.request) (outcome_of outcome.now)) seat.old.me.0, seat.old.me.1) }
+    ensures counted { seat.new.me ≡ (
+      counted
+          (call number request.now.slave (meaning request.now.request) (outcome_of outcome.now))
+          seat.old.me.0,
+      seat.old.me.1,
+    ) }
 {
     count_as::<Brand>(desk, seat, number, request, outcome);
 }
@@ -150,8 +158,10 @@ pub(crate) fn load_drawn(desk: &Desk, seat: &mut Spot, number: u32) -> u64
     ensures desk { seat.new.table_id ≡ seat.old.table_id }
     ensures drawn { seat.new.me ≡ (drew result seat.old.me.0, seat.old.me.1) }
     ensures within { (result ≤ 2 ^ 32) × (number < result) }
-    ensures known { IsLegal seat.old.me.0.opening.tables seat.old.me.0.seen × (calls_by number seat.old.me.0.seen ≡ seat.old.me.0.mine) }
-    ensures fronts { StartsWith seat.old.me.0.seen seat.old.me.0.left × StartsWith seat.old.me.0.seen seat.old.me.0.right }
+    ensures known { IsLegal seat.old.me.0.opening.tables seat.old.me.0.seen
+        × (calls_by number seat.old.me.0.seen ≡ seat.old.me.0.mine) }
+    ensures fronts { StartsWith seat.old.me.0.seen seat.old.me.0.left
+        × StartsWith seat.old.me.0.seen seat.old.me.0.right }
 {
     let _ = number;
     desk.load::<LoadDrawn>(seat, SEATS)
@@ -162,7 +172,8 @@ pub(crate) fn draw_number(desk: &Desk, seat: &mut Spot, number: u64) -> bool
     requires desk { (seat.old.table_id ≡ desk.now.table_id) × IsDesk desk.now.table_id }
     requires none { (seat.old.me.0.number ≡ None) × (number < 2 ^ 32) }
     ensures desk { seat.new.table_id ≡ seat.old.table_id }
-    ensures drawn { MatchBool result ((seat.new.me ≡ (numbered number seat.old.me.0, seat.old.me.1)) × (calls_by number seat.old.me.0.seen ≡ [])) (seat.new.me ≡ seat.old.me) }
+    ensures drawn { MatchBool result ((seat.new.me ≡ (numbered number seat.old.me.0, seat.old.me.1))
+        × (calls_by number seat.old.me.0.seen ≡ [])) (seat.new.me ≡ seat.old.me) }
     ensures first { seat.old.me.0.first ≡ true → number ≡ 0 → result ≡ true }
 {
     desk.compare_exchange::<DrawNumber>(seat, SEATS, number, number + 1) == number
@@ -181,9 +192,11 @@ fn copy(desk: &Desk, seat: &mut Spot, number: u32) -> Spot
 
 /// Takes in what the other has seen.
 pub(crate) fn glue(desk: &Desk, seat: &mut Spot, other: Spot)
-    requires desk { (seat.old.table_id ≡ desk.now.table_id) × (other.table_id ≡ desk.now.table_id) × IsDesk desk.now.table_id }
+    requires desk { (seat.old.table_id ≡ desk.now.table_id) × (other.table_id ≡ desk.now.table_id)
+        × IsDesk desk.now.table_id }
     requires other { (other.me.0.stage ≡ resting) × (other.me.1 ≡ []) }
-    ensures { (seat.new.table_id ≡ seat.old.table_id) × (seat.new.me ≡ (glued seat.old.me.0 other.me.0, seat.old.me.1)) }
+    ensures { (seat.new.table_id ≡ seat.old.table_id)
+        × (seat.new.me ≡ (glued seat.old.me.0 other.me.0, seat.old.me.1)) }
 {
     desk.join_seat::<Glues>(seat, other);
 }
@@ -199,7 +212,8 @@ pub(crate) fn split<R: Wait>(
     requires rests { Rests number seat.old.me }
     ensures desk { seat.new.table_id ≡ seat.old.table_id }
     ensures old { seat.new.me ≡ (drew result.0 seat.old.me.0, []) }
-    ensures some { IfSome result.1 (λ t. (t.0.table_id ≡ seat.old.table_id) × IsGiven number t.1 seat.old.me.0 t.0.me × (result.0 ≡ t.1)) }
+    ensures some { IfSome result.1 (λ t. (t.0.table_id ≡ seat.old.table_id)
+        × IsGiven number t.1 seat.old.me.0 t.0.me × (result.0 ≡ t.1)) }
     ensures none { IfNone result.1 (result.0 ≡ 2 ^ 32) }
 {
     let mut drawn = load_drawn(desk, seat, number);

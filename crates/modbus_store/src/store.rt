@@ -71,8 +71,9 @@ impl RegisterStore {
     /// # Errors
     /// `BadSize` exactly where a size is not 1 to 65536; else `NoMemory` where memory was refused.
     pub fn new(alloc: Global, sizes: Sizes, broadcast: bool) -> Result<RegisterStore, StoreError>
-        ensures { Opens (fits_table sizes.coils && fits_table sizes.discrete_inputs && fits_table sizes.holding_registers && fits_table sizes.input_registers)
-            (zeros_of sizes broadcast) result }
+        ensures { Opens (fits_table sizes.coils && fits_table sizes.discrete_inputs && fits_table
+            sizes.holding_registers && fits_table sizes.input_registers) (zeros_of sizes broadcast)
+            result }
     {
         if !is_size(sizes.coils as usize)
             || !is_size(sizes.discrete_inputs as usize)
@@ -99,8 +100,15 @@ impl RegisterStore {
         input_registers: &[Word],
         broadcast: bool,
     ) -> Result<RegisterStore, StoreError>
-        ensures { Opens (fits_table (length coils.now) && fits_table (length discrete_inputs.now) && fits_table (length holding_registers.now) && fits_table (length input_registers.now))
-            (record { coils = coils.now; discrete_inputs = discrete_inputs.now; holding_registers = holding_registers.now; input_registers = input_registers.now; broadcast = broadcast }) result }
+        ensures { Opens (fits_table (length coils.now) && fits_table (length discrete_inputs.now) &&
+            fits_table (length holding_registers.now) && fits_table (length input_registers.now))
+            (record {
+              coils = coils.now;
+              discrete_inputs = discrete_inputs.now;
+              holding_registers = holding_registers.now;
+              input_registers = input_registers.now;
+              broadcast = broadcast;
+            }) result }
     {
         if !is_size(coils.len())
             || !is_size(discrete_inputs.len())
@@ -155,7 +163,9 @@ impl RegisterStore {
     /// # Errors
     /// `OutOfRange` exactly past the end; the store is then as it was.
     pub fn set_discrete(&mut self, address: Address, state: Coil) -> Result<(), OutOfRange>
-        ensures { Sets (inside (length self.old.discrete_inputs) address 1) self.old (with_discrete_inputs self.old (written address (state ∷ []) self.old.discrete_inputs)) result self.new }
+        ensures { Sets (inside (length self.old.discrete_inputs) address 1) self.old
+            (with_discrete_inputs self.old (written address (state ∷ []) self.old.discrete_inputs))
+            result self.new }
     {
         write_entries(self.discrete_inputs.as_mut_slice(), address, &[state])
     }
@@ -165,7 +175,9 @@ impl RegisterStore {
     /// # Errors
     /// `OutOfRange` exactly past the end; the store is then as it was.
     pub fn set_input(&mut self, address: Address, word: Word) -> Result<(), OutOfRange>
-        ensures { Sets (inside (length self.old.input_registers) address 1) self.old (with_input_registers self.old (written address (word ∷ []) self.old.input_registers)) result self.new }
+        ensures { Sets (inside (length self.old.input_registers) address 1) self.old
+            (with_input_registers self.old (written address (word ∷ []) self.old.input_registers))
+            result self.new }
     {
         write_entries(self.input_registers.as_mut_slice(), address, &[word])
     }
@@ -186,7 +198,8 @@ impl RegisterStore {
         alloc: Global,
         request: SlaveRequest<'_>,
     ) -> Result<Option<Response>, ServiceError>
-        ensures { Keeps device self.old request.entry.slave (meaning request.entry.request) result self.new }
+        ensures { Keeps device self.old request.entry.slave (meaning request.entry.request) result
+            self.new }
     {
         let is_silent = self.broadcast && request.slave == 0;
         match step(self, alloc, &request.request) {
@@ -234,7 +247,14 @@ fn copies(
     input_registers: &[Word],
     broadcast: bool,
 ) -> Result<RegisterStore, AllocError>
-    ensures { IfOk result (λ store. store ≡ record { coils = coils.now; discrete_inputs = discrete_inputs.now; holding_registers = holding_registers.now; input_registers = input_registers.now; broadcast = broadcast }) }
+    ensures { IfOk result (λ store. store
+        ≡ record {
+          coils = coils.now;
+          discrete_inputs = discrete_inputs.now;
+          holding_registers = holding_registers.now;
+          input_registers = input_registers.now;
+          broadcast = broadcast;
+        }) }
 {
     Ok(RegisterStore {
         coils: Vec::from_slice(alloc, coils)?,

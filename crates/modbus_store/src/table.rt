@@ -64,7 +64,8 @@ impl StoreTable {
     /// # Errors
     /// Refused memory; the store is then dropped.
     pub fn open(alloc: Global, store: RegisterStore) -> Result<(StoreTable, StorePass), AllocError>
-        ensures table { IfOk result (λ r. r.0.opening ≡ record { tables = store; recorded = true }) }
+        ensures table { IfOk result (λ r. r.0.opening
+            ≡ record { tables = store; recorded = true }) }
         ensures pass { IfOk result (λ r. r.1 ≡ opened r.0.table r.0.opening) }
     {
         let history = Some(History::new(alloc));
@@ -79,7 +80,8 @@ impl StoreTable {
         alloc: Global,
         store: RegisterStore,
     ) -> Result<(StoreTable, StorePass), AllocError>
-        ensures table { IfOk result (λ r. r.0.opening ≡ record { tables = store; recorded = false }) }
+        ensures table { IfOk result (λ r. r.0.opening
+            ≡ record { tables = store; recorded = false }) }
         ensures pass { IfOk result (λ r. r.1 ≡ opened r.0.table r.0.opening) }
     {
         open_with(alloc, store, None)
@@ -100,7 +102,8 @@ impl StoreTable {
         request: SlaveRequest<'_>,
     ) -> Result<Option<Response>, ServiceError>
         requires { IsPassOf self.now pass.old }
-        ensures answer { Keeps caller pass.old request.entry.slave (meaning request.entry.request) result pass.new }
+        ensures answer { Keeps caller pass.old request.entry.slave (meaning request.entry.request)
+            result pass.new }
         ensures same_store { IsPassOf self.now pass.new }
         ensures none_added { AddsNoCall result pass.old pass.new }
     {
@@ -190,7 +193,8 @@ fn open_with(
     history: Option<History>,
 ) -> Result<(StoreTable, StorePass), AllocError>
     requires { IfSome history (λ kept. kept ≡ []) }
-    ensures table { IfOk result (λ r. r.0.opening ≡ record { tables = store; recorded = is_some history }) }
+    ensures table { IfOk result (λ r. r.0.opening
+        ≡ record { tables = store; recorded = is_some history }) }
     ensures pass { IfOk result (λ r. r.1 ≡ opened r.0.table r.0.opening) }
 {
     let stored = Stored {

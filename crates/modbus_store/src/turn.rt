@@ -34,7 +34,9 @@ fn file(
     request: &SlaveRequest<'_>,
     outcome: &Outcome,
 ) -> Result<Option<Filed>, (Option<History>, AllocError)>
-    ensures ok { IfOk result (λ filed. Files history (call number request.now.slave (meaning request.now.request) (outcome_of outcome.now)) filed) }
+    ensures ok { IfOk result (λ filed.
+        Files history (call number request.now.slave (meaning request.now.request)
+        (outcome_of outcome.now)) filed) }
     ensures err { IfErr result (λ e. e.0 ≡ history) }
 {
     let Some(history) = history else {
@@ -56,7 +58,8 @@ fn entry_of(
     request: &SlaveRequest<'_>,
     outcome: &Outcome,
 ) -> Result<Entry, AllocError>
-    ensures { IfOk result (λ entry. entry ≡ call number request.now.slave (meaning request.now.request) (outcome_of outcome.now)) }
+    ensures { IfOk result (λ entry. entry
+        ≡ call number request.now.slave (meaning request.now.request) (outcome_of outcome.now)) }
 {
     let copy = request.request.try_clone(alloc)?;
     let request_kept = copy.into_owned(alloc)?;
@@ -102,7 +105,8 @@ fn serve(
     number: u32,
     request: &SlaveRequest<'_>,
 ) -> Result<(Stored, Outcome), (Stored, AllocError)>
-    ensures ok { IfOk result (λ done. Serves stored (call number request.now.slave (meaning request.now.request) (outcome_of done.1)) done.0) }
+    ensures ok { IfOk result (λ done. Serves stored
+        (call number request.now.slave (meaning request.now.request) (outcome_of done.1)) done.0) }
     ensures err { IfErr result (λ e. e.0 ≡ stored) }
 {
     let Stored {
@@ -164,7 +168,9 @@ pub(crate) fn turn<R: Wait>(
     requires rests { Rests number seat.old.me }
     ensures desk { seat.new.table_id ≡ seat.old.table_id }
     ensures rests { Rests number seat.new.me }
-    ensures ok { IfOk result (λ r. Extends (call number request.now.slave (meaning request.now.request) (outcome_of r.0)) seat.old.me.0 seat.new.me.0 × (r.1 ≡ length seat.new.me.0.seen)) }
+    ensures ok { IfOk result (λ r. Extends
+        (call number request.now.slave (meaning request.now.request) (outcome_of r.0)) seat.old.me.0
+        seat.new.me.0 × (r.1 ≡ length seat.new.me.0.seen)) }
     ensures err { IfErr result (λ _. seat.new.me ≡ seat.old.me) }
 {
     let stored = take_turn(desk, rt, seat, number);

@@ -50,7 +50,8 @@ impl ClientCodec {
         alloc: Global,
         buf: &mut BytesMut,
     ) -> Result<Option<tcp::ResponseAdu>, TcpError>
-        ensures reads { ReadsAdu response_result_of AnswerCarriesMemory (λ adu. adu.hdr) (λ adu. adu.pdu.0) buf.old.items result buf.new.items }
+        ensures reads { ReadsAdu response_result_of AnswerCarriesMemory (λ adu. adu.hdr)
+            (λ adu. adu.pdu.0) buf.old.items result buf.new.items }
         ensures short { result ≡ Ok None → length buf.new.items < longest_adu }
     {
         match front(buf.as_slice()) {
@@ -86,7 +87,8 @@ impl ClientCodec {
         adu: tcp::RequestAdu<'_>,
         buf: &mut BytesMut,
     ) -> Result<(), EncodeError>
-        ensures { Encodes (adu_of adu.entry.hdr (request_pdu (meaning adu.entry.pdu.0))) (request_pdu (meaning adu.entry.pdu.0)) buf.old.items result buf.new.items }
+        ensures { Encodes (adu_of adu.entry.hdr (request_pdu (meaning adu.entry.pdu.0)))
+            (request_pdu (meaning adu.entry.pdu.0)) buf.old.items result buf.new.items }
     {
         encode_request_adu(alloc, adu.hdr, &adu.pdu.0, buf)
     }
@@ -111,7 +113,8 @@ impl ServerCodec {
         alloc: Global,
         buf: &mut BytesMut,
     ) -> Result<Option<tcp::RequestAdu<'static>>, TcpError>
-        ensures reads { ReadsAdu request_of CarriesList (λ adu. adu.hdr) (λ adu. meaning adu.pdu.0) buf.old.items result buf.new.items }
+        ensures reads { ReadsAdu request_of CarriesList (λ adu. adu.hdr) (λ adu. meaning adu.pdu.0)
+            buf.old.items result buf.new.items }
         ensures short { result ≡ Ok None → length buf.new.items < longest_adu }
     {
         match front(buf.as_slice()) {
@@ -152,7 +155,8 @@ impl ServerCodec {
         buf: &mut BytesMut,
     ) -> Result<(), EncodeError>
         requires { ForErr adu.pdu.0 (λ refusal. function_number refusal.function < exception_bit) }
-        ensures { Encodes (adu_of adu.hdr (response_result_pdu adu.pdu.0)) (response_result_pdu adu.pdu.0) buf.old.items result buf.new.items }
+        ensures { Encodes (adu_of adu.hdr (response_result_pdu adu.pdu.0))
+            (response_result_pdu adu.pdu.0) buf.old.items result buf.new.items }
     {
         encode_response_adu(alloc, adu.hdr, &adu.pdu.0, buf)
     }

@@ -47,7 +47,8 @@ pub fn encode_request_adu(
     request: &Request<'_>,
     buf: &mut BytesMut,
 ) -> Result<(), EncodeError>
-    ensures { Encodes (adu_of header (request_pdu (meaning request.now))) (request_pdu (meaning request.now)) buf.old.items result buf.new.items }
+    ensures { Encodes (adu_of header (request_pdu (meaning request.now)))
+        (request_pdu (meaning request.now)) buf.old.items result buf.new.items }
 {
     let pdu_len = request_pdu_size(request)?;
     // One growth for the whole ADU.
@@ -72,8 +73,10 @@ pub fn encode_response_adu(
     buf: &mut BytesMut,
 ) -> Result<(), EncodeError>
     requires { ForErr answer.now (λ refusal. function_number refusal.function < exception_bit) }
-    ensures encodes { Encodes (adu_of header (response_result_pdu answer.now)) (response_result_pdu answer.now) buf.old.items result buf.new.items }
-    ensures memory { result ≡ Err EncodeError.NoMemory → buf.old.spare < length (adu_of header (response_result_pdu answer.now)) }
+    ensures encodes { Encodes (adu_of header (response_result_pdu answer.now))
+        (response_result_pdu answer.now) buf.old.items result buf.new.items }
+    ensures memory { result ≡ Err EncodeError.NoMemory
+        → buf.old.spare < length (adu_of header (response_result_pdu answer.now)) }
 
     // All in all the buffer has as much room as it had.
     ensures room { length buf.old.items + buf.old.spare ≤ length buf.new.items + buf.new.spare }
