@@ -1,3 +1,6 @@
 pub mod Outcome
 pub mod Answering
 pub mod Exchange
+pub mod OnlyUnit
+pub mod Units
+pub mod Shared

@@ -5,6 +5,11 @@
 //! gateway that has written to a line.
 #![tactic(auto)]
 
+pub mod laws;
+mod only_unit;
 mod service;
+mod units;
 
+pub use crate::only_unit::OnlyUnit;
 pub use crate::service::{Answerer, Forward, Service, ServiceError};
+pub use crate::units::{Units, UnitsError};
