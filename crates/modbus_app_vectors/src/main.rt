@@ -3,6 +3,7 @@
 
 mod program;
 mod store;
+mod units;
 
 use modbus_table::{Calls, answer_table};
 use std::alloc::{AllocError, Global};
@@ -19,6 +20,9 @@ impl Calls for AppCalls {
         words: &[&str],
     ) -> Result<Option<String>, AllocError> {
         if let Some(found) = store::answer(alloc, call, words)? {
+            return Ok(Some(found));
+        }
+        if let Some(found) = units::answer(alloc, call, words)? {
             return Ok(Some(found));
         }
         program::answer(alloc, call, words)
