@@ -15,7 +15,7 @@ use Rattle.modbus_pdu.specs.RequestPdu.{request_pdu}
 use Rattle.modbus_client.specs.Protocol.{Protocol, waiting}
 use Rattle.modbus_client.specs.Matching.{Answer}
 use Rattle.modbus_client.specs.Sending.{WritesRequest, IsOfSending}
-use Rattle.modbus_client.specs.Calling.{CallEndsAs, CallEndsRead, CameLast, call_spending, Sent, Exchanged}
+use Rattle.modbus_client.specs.Calling.{CallEndsAs, CallEndsRead, CameLast, call_spending, Sent, Exchanged, ExchangedDropping}
 use Rattle.modbus_client.specs.Polled.{IsRefused}
 
 module _ (X : Type 0) {H : Type 0} (P : Protocol H) (header : H) (asked : Asked) (held : List ℕ) (empty : held ≡ []) where
@@ -105,3 +105,11 @@ module _ (X : Type 0) {H : Type 0} (P : Protocol H) (opening : (seen : HeaderSee
   exchanged_unsent NoMemory s =
       unsent NoMemory s (inl ([], opening (P.seen header))) tt tt (omega arith)
       (λ n. (λ e. cc, λ told. let bad = (s.too_long n).1 told in cc)) (λ s. s.writes) (λ e. cc) (λ e. cc)
+
+  -- it dropped no message of another request
+  pub unsent_dropping : (e : Error) → ((seen : HeaderSeen) → P.Counts seen [] [] 0) → SentAs e → ExchangedDropping P a b k m header asked turns held 0 (Err e)
+  unsent_dropping (protocol fault) none s = absurd s.only
+  unsent_dropping (Transport (transport.RequestTooLong size)) none s = (exchanged_unsent (Transport (transport.RequestTooLong size)) s, none (P.seen header))
+  unsent_dropping (Transport transport.WriteFault) none s = (exchanged_unsent (Transport transport.WriteFault) s, none (P.seen header))
+  unsent_dropping (Transport _) none s = absurd s.only
+  unsent_dropping NoMemory none s = (exchanged_unsent NoMemory s, none (P.seen header))

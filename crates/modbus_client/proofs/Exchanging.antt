@@ -84,7 +84,7 @@ module _ {H : Type 0} (P : Protocol H) (bytes : List ℕ) where
       fed_as =
           let s = g.stands in
           let stood : CallStands P first.request (take (g.reads * read_room) bytes) (full_cuts g.reads bytes) mid =
-          subst (λ c. CallStands P first.request (take (g.reads * read_room) bytes) (full_cuts g.reads bytes) c) (sym same) (record { wrote = s.wrote; first = s.first; finds = s.finds; counted = s.counted }) in
+          subst (λ c. CallStands P first.request (take (g.reads * read_room) bytes) (full_cuts g.reads bytes) c) (sym same) (record { wrote = s.wrote; first = s.first; finds = s.finds; counted = s.counted; counts = s.counts }) in
           subst (λ b. FeedsAs P first.request b (full_cuts (suc g.reads) bytes) new answer) bytes_more
           (subst (λ c. FeedsAs P first.request (take (g.reads * read_room) bytes ++ piece) c new answer) cuts_more
           (fed.stands first.request (take (g.reads * read_room) bytes) (full_cuts g.reads bytes) stood))
@@ -113,6 +113,6 @@ module _ {H : Type 0} (P : Protocol H) (bytes : List ℕ) where
             ends =
                 subst (λ (asked : HeaderSeen). CallEndsAs P asked first.function (take (suc g.reads * read_room) bytes) (full_cuts (suc g.reads) bytes) new.held answer) all.asked
                 (subst (λ (function : FunctionCode). CallEndsAs P new.asked function (take (suc g.reads * read_room) bytes) (full_cuts (suc g.reads) bytes) new.held answer) all.function
-                (answered_ends P new.asked new.function (take (suc g.reads * read_room) bytes) (full_cuts (suc g.reads) bytes) new.held answer (fed_as free mid new same piece is (Some answer) fed)));
+                (answered_ends P new.asked new.function (take (suc g.reads * read_room) bytes) (full_cuts (suc g.reads) bytes) new.held answer (fed_as free mid new same piece is (Some answer) fed).0));
             ended = fed_goes (Some answer) (drop (suc g.reads * read_room) bytes) fed.late;
           }

@@ -1,5 +1,5 @@
 -- The first ADU of the transaction and the unit that were asked, after those of others.
-use Rattle.std.proofs.Common.{◌≡◌, ◌≢◌, inl, ℕ, List, [], ◌∷◌, ◌++◌, drop, Option, Some, None, Result, Ok, Err, refl, sym, ap, ◌∙◌, subst, append-nil, append_assoc}
+use Rattle.std.proofs.Common.{◌≡◌, ◌≢◌, inl, ℕ, ◌+◌, ◌-◌, ◌^◌, min, List, [], ◌∷◌, ◌++◌, length, drop, Option, Some, None, Result, Ok, Err, refl, sym, ap, ◌∙◌, subst, arith, append-nil, append_assoc, length-append}
 use Rattle.std.proofs.lemmas.List.Elements.{All-append, All-cons, All-nil, All-head, All-tail}
 use Rattle.std.proofs.lemmas.Grind.{flat_map-append}
 use Rattle.modbus_link.specs.Outside.{Input, Output}
@@ -20,7 +20,7 @@ use Rattle.modbus_client.specs.Protocol.{Found, waiting, reply, broken, IsOfMess
 use Rattle.modbus_client.specs.Matching.{Answer}
 use Rattle.modbus_client.specs.Call.{LooksAs}
 use Rattle.modbus_client.specs.Calling.{CallEndsAs, Exchanged}
-use Rattle.modbus_client.specs.Tcp.{header_seen, FindsAdu, tcp_protocol, IsOfAnother, Drops, EndsOfAnother, IsUnder, FindsOwnAdu, matching_protocol}
+use Rattle.modbus_client.specs.Tcp.{header_seen, FindsAdu, tcp_protocol, IsOfAnother, Drops, EndsOfAnother, IsUnder, FindsOwnAdu, counted, CountsOthers, matching_protocol}
 use Rattle.modbus_client.proofs.OneAdu.{OneBegins, OneRest, AreApart, not_waiting, not_broken, one_adu, adu_alone}
 
 abbrev Adus : Type 0
@@ -52,10 +52,14 @@ module _ (asked : HeaderSeen) where
         others = All-append (IsOfAnother asked) adus more a.others b.others;
       }
 
-  -- the next ADU is of another too
-  pub drops_next : (bytes held : List ℕ) (adus : Adus) (end : ℕ) → Drops asked bytes adus held → EndsOfAnother asked held (Some end) → (all : Adus) × Drops asked bytes all (drop end held)
-  drops_next bytes held adus end d (some, within, message, begins, other) =
-      (adus ++ message ∷ [], drops_both bytes held (drop end held) adus (message ∷ []) d (drops_one held (drop end held) message begins other))
+  -- the next ADU is of another too, and is counted
+  pub drops_next : (bytes held : List ℕ) (adus : Adus) (end : ℕ) → Drops asked bytes adus held → EndsOfAnother asked held (Some end)
+      → (all : Adus) × Drops asked bytes all (drop end held) × (length all ≡ length adus + 1)
+  drops_next bytes held adus end d (some, within, message, begins, other) = (
+    adus ++ message ∷ [],
+    drops_both bytes held (drop end held) adus (message ∷ []) d (drops_one held (drop end held) message begins other),
+    length-append adus (message ∷ []),
+  )
 
   drops_on : (bytes left more : List ℕ) (adus : Adus) → Drops asked bytes adus left → Drops asked (bytes ++ more) adus (left ++ more)
   drops_on bytes left more adus d = record {
@@ -87,6 +91,21 @@ module _ (asked : HeaderSeen) where
     looks_own new (Err (look.Broken fault)) finds = finds_own (broken new fault) finds
     looks_own new (Err (look.Refused reason)) (header, pdu, finds, means) = (header, pdu, finds_own (reply new header pdu) finds, means)
     looks_own new (Err look.NoMemory) (rest, header, pdu, finds, carries) = (rest, header, pdu, finds_own (reply rest header pdu) finds, carries)
+
+    pub counts_own : (dropped : ℕ) → dropped ≡ counted adus → (new : List ℕ) (result : Result (Option Reply) LookError) → LooksAs tcp_protocol asked left cuts new result → CountsOthers asked bytes cuts dropped
+    counts_own dropped tells new (Ok None) finds = record { found = waiting new; finds = finds_own (waiting new) finds; tells = tells }
+    counts_own dropped tells new (Ok (Some found)) (pdu, finds, means) = record { found = reply new found.header pdu; finds = finds_own (reply new found.header pdu) finds; tells = tells }
+    counts_own dropped tells new (Err (look.Broken fault)) finds = record { found = broken new fault; finds = finds_own (broken new fault) finds; tells = tells }
+    counts_own dropped tells new (Err (look.Refused reason)) (header, pdu, finds, means) = record { found = reply new header pdu; finds = finds_own (reply new header pdu) finds; tells = tells }
+    counts_own dropped tells new (Err look.NoMemory) (rest, header, pdu, finds, carries) = record { found = reply rest header pdu; finds = finds_own (reply rest header pdu) finds; tells = tells }
+
+  -- with no byte nothing is dropped
+  pub none_dropped : CountsOthers asked [] [] 0
+  none_dropped = record { found = waiting []; finds = opening; tells = refl }
+
+  -- a counter that told some ADUs counts on by more
+  pub count_on : (before after : ℕ) (adus more : Adus) → before ≡ counted adus → after ≡ min (before + length more) (2 ^ 64 - 1) → after ≡ counted (adus ++ more)
+  count_on before after adus more told on = omega (arith, told, on, length-append adus more)
 
   -- what begins with ADUs that are dropped begins with the first of them
   begins_first : (bytes left : List ℕ) (message : Header × List ℕ) (adus : Adus) → Drops asked bytes (message ∷ adus) left → BeginsWith bytes message (stream_of adus ++ left)
@@ -124,6 +143,12 @@ module _ (one_begins : OneBegins) (one_rest : OneRest) (apart : AreApart) where
     one_own bytes found other a b =
         let same = same_left found other a.left b.left a.finds b.finds a.own b.own bytes a.dropped b.dropped a.drops b.drops in
         one_adu one_begins one_rest apart a.left cuts found other a.finds (subst (λ l. FindsAdu l cuts other) (sym same) b.finds)
+
+    -- a number tells the ADUs that the search drops where it stands
+    pub count_of : (bytes : List ℕ) (dropped : ℕ) (found : Found) → CountsOthers asked bytes cuts dropped → FindsOwnAdu asked bytes cuts found
+        → (finds : FindsOwnAdu asked bytes cuts found) × (dropped ≡ counted finds.dropped)
+    count_of bytes dropped found counts finds =
+        subst (λ found. (finds : FindsOwnAdu asked bytes cuts found) × (dropped ≡ counted finds.dropped)) (one_own bytes counts.found found counts.finds finds) (counts.finds, counts.tells)
 
   module _ (begins_on : (bytes more others : List ℕ) (message : Header × List ℕ) → BeginsWith bytes message others → BeginsWith (bytes ++ more) message (others ++ more))
       (no_length_on : (bytes more : List ℕ) → IsRest bytes no_length → IsRest (bytes ++ more) no_length)

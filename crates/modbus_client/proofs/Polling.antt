@@ -3,7 +3,7 @@ use Rattle.std.proofs.Common.{◌≡◌, ◌≢◌, inl, inr, ℕ, ◌+◌, ◌<
 use Rattle.modbus_link.specs.declared.polled.Polled.{Polled}
 use Rattle.modbus_link.specs.declared.polled.Polled.TheVariants.{Ready, Pending}
 use Rattle.modbus_link.specs.Outside.{Input, Output, Rose, shifted}
-use Rattle.modbus_link.specs.Passing.{Passes, Sends, passes_out, passes_in, passes_both}
+use Rattle.modbus_link.specs.Passing.{Passes, Sends, passes_none, passes_out, passes_in, passes_both}
 use Rattle.modbus_link.specs.Reads.{totals, HaveRooms, Spends}
 use Rattle.modbus_link.specs.Runs.{RisesTo-both}
 use Rattle.modbus_link.specs.Together.{totals_both, totals_count, count_both, rooms_more, rooms_then, regroup, unread_on}
@@ -20,7 +20,7 @@ use Rattle.modbus_client.specs.Matching.{Answer}
 use Rattle.modbus_client.specs.Call.{CallState, CallStands, IsCallFor, IsSameCall, OpensCall}
 use Rattle.modbus_client.specs.Sending.{WritesRequest}
 use Rattle.modbus_client.specs.Limits.{read_room}
-use Rattle.modbus_client.specs.Calling.{HasRoom, CallEndsAs, CameLast, WaitedBefore, IsOneRead, TurnSpends, call_spending, TurnsAs, Turned, IsOfReply, Exchanged}
+use Rattle.modbus_client.specs.Calling.{HasRoom, CallEndsAs, CameLast, WaitedBefore, IsOneRead, TurnSpends, call_spending, TurnsAs, Turned, IsOfReply, Exchanged, ExchangedDropping}
 use Rattle.modbus_client.specs.Polled.{ReadsNothing, CallGoes, CallEnds, IsOfPoll, CallPolled, Opens, AsksWhole}
 use Rattle.modbus_client.proofs.Receiving.{rose_later, late_turn, spends_by, once_most, once_rooms}
 use Rattle.modbus_client.proofs.Turning.{none_left}
@@ -155,6 +155,8 @@ module _ {H : Type 0} (P : Protocol H) where
         first = λ some. s.stands.first (was_some some);
         finds = subst (λ asked. P.Finds asked bytes (totals earlier) (waiting new.held)) (sym asked_same) (subst (λ held. P.Finds old.asked bytes (totals earlier) (waiting held)) (sym held_same) s.stands.finds);
         counted = ap (λ (s : CallState). s.reads) keeps ∙ s.stands.counted;
+        counts = subst (λ asked. P.Counts asked bytes (totals earlier) new.dropped) (sym asked_same)
+            (subst (λ n. P.Counts old.asked bytes (totals earlier) n) (sym (ap (λ (s : CallState). s.dropped) keeps)) s.stands.counts);
       };
       empty = λ e. held_same ∙ s.empty e;
       rises = s.rises;
@@ -214,6 +216,7 @@ module _ {H : Type 0} (P : Protocol H) where
           unread_on (λ x y. CallEnds P (written ++ sends.sent) x y new (Err (Transport transport.WriteFault))) bytes earlier record {
             writes = (new.unwritten, after.stands.wrote);
             ends = (none, after.empty none);
+            counts = after.stands.counts;
             last = λ e. absurd cc;
             rooms = after.rooms;
             spends =
@@ -256,6 +259,8 @@ module _ {H : Type 0} (P : Protocol H) where
               finds = subst (λ asked. P.Finds asked (bytes ++ g.fed) (totals (earlier ++ shifted (length bytes) g.made)) (waiting new.held)) (sym asked)
                   (subst (λ held. P.Finds old.asked (bytes ++ g.fed) (totals (earlier ++ shifted (length bytes) g.made)) (waiting held)) (sym held) s.stands.finds);
               counted = ap (λ (s : CallState). s.reads) r.keeps ∙ s.stands.counted;
+              counts = subst (λ asked. P.Counts asked (bytes ++ g.fed) (totals (earlier ++ shifted (length bytes) g.made)) new.dropped) (sym asked)
+                  (subst (λ n. P.Counts old.asked (bytes ++ g.fed) (totals (earlier ++ shifted (length bytes) g.made)) n) (sym (ap (λ (s : CallState). s.dropped) r.keeps)) s.stands.counts);
             };
             empty = λ e. held ∙ s.empty e;
             rises = s.rises;
@@ -346,7 +351,8 @@ module _ {H : Type 0} (P : Protocol H) where
             let all : written ++ g.sent ≡ new.request = sym (t.same.request ∙ s.stands.wrote ∙ ap (λ w. (written ++ g.sent) ++ w) g.written ∙ append-nil (written ++ g.sent)) in
             regroup (λ x y. CallEnds P (written ++ g.sent) x y new answer) bytes g.fed t.fed earlier g.made t.made record {
               writes = whole_written new.request (written ++ g.sent) answer all late;
-              ends = turned (Some answer) t (written ++ g.sent) now made s;
+              ends = (turned (Some answer) t (written ++ g.sent) now made s).0;
+              counts = (turned (Some answer) t (written ++ g.sent) now made s).1;
               last = subst (λ asked. CameLast P asked (now ++ t.fed) (made ++ shifted (length now) t.made) answer) (sym t.same.asked)
                   (came_last old.asked answer now t.fed old.held made t.made s.stands.finds t.once t.spends);
               rooms = have_rooms (Some answer) t (written ++ g.sent) now made s;
@@ -386,6 +392,7 @@ module _ {H : Type 0} (P : Protocol H) where
         let count = totals_count (earlier ++ shifted (length bytes) g.made) in record {
           writes = sym (s.stands.wrote ∙ ap (λ w. (written ++ g.sent) ++ w) g.written ∙ append-nil (written ++ g.sent));
           ends = s.stands.finds;
+          counts = s.stands.counts;
           last = λ e. absurd cc;
           rooms = s.rooms;
           spends = omega (arith, counted, within, count, none);
@@ -424,6 +431,15 @@ module _ {H : Type 0} (P : Protocol H) where
           write_fault = λ e. rose_later firsts.faults k.faults m.faults passed.sink.later (p.write_fault (ap (λ (x : Answer). Ready x) e));
           read_fault = λ e. rose_later first.faults a.faults b.faults passed.source.later (p.read_fault (ap (λ (x : Answer). Ready x) e));
         }
+
+    -- and the last one tells how many messages of other requests were dropped in all
+    pub exchanged_dropping : (answer : Answer) → CallPolled P a b k m idle idle' old new (Ready answer) → (header : H) (asked : Asked) (turns : ℕ) → IsCallFor P header asked turns old → Fits (request_pdu asked)
+        → CallGoes P [] [] [] old → ExchangedDropping P a b k m header asked turns new.held new.dropped answer
+    exchanged_dropping answer p header asked turns asks fits s =
+        let ends : CallEnds P p.sent p.fed (shifted 0 p.made) new answer = p.goes_on [] [] [] s in (
+          exchanged_polled answer p header asked turns [] [] [] a k asks fits s (passes_none a k),
+          subst (λ (seen : HeaderSeen). P.Counts seen p.fed (totals (shifted 0 p.made)) new.dropped) (p.same.asked ∙ asks.under) ends.counts,
+        )
 
     pub asks_whole : (answer : Polled Answer) → CallPolled P a b k m idle idle' old new answer → AsksWhole P a b k m old new answer
     asks_whole Pending p = λ header asked turns written bytes made first firsts asks fits s passed. tt

@@ -41,6 +41,10 @@ module _ {H : Type 0} (P : Protocol H) where
   still : (asked asked' : HeaderSeen) (bytes cuts held held' : List ℕ) → asked' ≡ asked → held' ≡ held → P.Finds asked bytes cuts (waiting held) → P.Finds asked' (bytes ++ []) (cuts ++ []) (waiting held')
   still asked asked' bytes cuts held held' is e finds = rw (append-nil bytes, append-nil cuts, is, e) finds
 
+  -- and what was dropped is counted as before
+  same_count : (asked asked' : HeaderSeen) (bytes cuts : List ℕ) (n n' : ℕ) → asked' ≡ asked → n' ≡ n → P.Counts asked bytes cuts n → P.Counts asked' (bytes ++ []) (cuts ++ []) n'
+  same_count asked asked' bytes cuts n n' is e counts = rw (append-nil bytes, append-nil cuts, is, e) counts
+
   -- an answer of the bytes ends the call
   pub answered_ends : (asked : HeaderSeen) (function : FunctionCode) (bytes cuts held : List ℕ) (answer : Answer) → IsAnswered P asked function bytes cuts held answer → CallEndsAs P asked function bytes cuts held answer
   answered_ends asked function bytes cuts held (Ok result) is = is
@@ -54,7 +58,7 @@ module _ {H : Type 0} (P : Protocol H) where
 
   fed_turns : (written bytes cuts : List ℕ) (call : CallState) (answer : Option Answer) → FeedsAs P written bytes cuts call answer → TurnsAs P written bytes cuts call answer
   fed_turns written bytes cuts call None feeds = feeds
-  fed_turns written bytes cuts call (Some answer) feeds = answered_ends call.asked call.function bytes cuts call.held answer feeds
+  fed_turns written bytes cuts call (Some answer) feeds = (answered_ends call.asked call.function bytes cuts call.held answer feeds.0, feeds.1)
 
 fed_spends : (answer : Option Answer) → IsOfBytesIfSome answer → TurnSpends answer 1
 fed_spends None late = refl
@@ -99,7 +103,10 @@ module _ {H : Type 0} (P : Protocol H) (a b : Input) (k m : Output) (old new : C
     same = same_call old new n e;
     unwritten = ap (λ (s : CallState). s.unwritten) e;
     reads = let same' : new.reads ≡ old.reads = ap (λ (s : CallState). s.reads) e in omega arith;
-    stands = ends;
+    stands = λ written bytes cuts s. (
+      ends written bytes cuts s,
+      same_count P old.asked new.asked bytes cuts old.dropped new.dropped (ap (λ (s : CallState). s.asked) e) (ap (λ (s : CallState). s.dropped) e) s.counts,
+    );
     ended = ended;
     read_fault = λ is. fault cc;
   }
@@ -173,7 +180,7 @@ module _ {H : Type 0} (P : Protocol H) (a b : Input) (k m : Output) (old new : C
         unwritten = fed.unwritten ∙ ap (λ (s : CallState). s.unwritten) e;
         reads = let before : mid.reads ≡ old.reads = ap (λ (s : CallState). s.reads) e in let more = fed.reads in omega arith;
         stands = λ written bytes cuts s.
-            let s' : CallStands P written bytes cuts mid = subst (CallStands P written bytes cuts) (sym e) (record { wrote = s.wrote; first = s.first; finds = s.finds; counted = s.counted }) in
+            let s' : CallStands P written bytes cuts mid = subst (CallStands P written bytes cuts) (sym e) (record { wrote = s.wrote; first = s.first; finds = s.finds; counted = s.counted; counts = s.counts }) in
             subst (λ (n : ℕ). TurnsAs P written (bytes ++ piece) (cuts ++ n ∷ []) new answer) (length-append bytes piece)
             (fed_turns P written (bytes ++ piece) (cuts ++ length (bytes ++ piece) ∷ []) new answer (fed.stands written bytes cuts s'));
         ended = λ t. fed_goes answer b.left fed.late;

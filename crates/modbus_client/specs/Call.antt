@@ -30,6 +30,7 @@ pub record CallAlone : Type 0 where
   pub unwritten : List ℕ
   pub reads : ℕ
   pub turns : ℕ
+  pub dropped : ℕ
 
 -- a call with the bytes that it holds
 pub record CallState : Type 0 where
@@ -46,6 +47,8 @@ pub record CallState : Type 0 where
   -- how many reads gave bytes, and how many may
   pub reads : ℕ
   pub turns : ℕ
+  -- how many messages of other requests were dropped
+  pub dropped : ℕ
 
 -- a call beside this buffer
 abbrev pub holding : CallAlone → Filled → CallState
@@ -58,6 +61,7 @@ holding call buffer = record {
   free = buffer.spare;
   reads = call.reads;
   turns = call.turns;
+  dropped = call.dropped;
 }
 
 -- one that was opened beside it
@@ -72,6 +76,7 @@ pub record CallStands {H : Type 0} (P : Protocol H) (written bytes cuts : List �
   pub first : call.unwritten ≢ [] → bytes ≡ []
   pub finds : P.Finds call.asked bytes cuts (waiting call.held)
   pub counted : call.reads ≡ length cuts
+  pub counts : P.Counts call.asked bytes cuts call.dropped
 
 -- a call that asks this under this header
 pub record IsCallFor {H : Type 0} (P : Protocol H) (header : H) (asked : Asked) (turns : ℕ) (call : CallState) : Type 0 where
@@ -141,10 +146,11 @@ abbrev pub IsOfBytesIfSome : Option Answer → Type 0
 IsOfBytesIfSome None = Unit {0}
 IsOfBytesIfSome (Some answer) = IsOfBytes answer
 
--- what a call that was fed is then: it waits on, or it has its answer
+-- what a call that was fed is then: it waits on, or it has its answer; what it dropped is counted
 abbrev pub FeedsAs : {H : Type 0} → Protocol H → List ℕ → List ℕ → List ℕ → CallState → Option Answer → Type 0
 FeedsAs P written bytes cuts call None = CallStands P written bytes cuts call
-FeedsAs P written bytes cuts call (Some answer) = IsAnswered P call.asked call.function bytes cuts call.held answer
+FeedsAs P written bytes cuts call (Some answer) =
+    IsAnswered P call.asked call.function bytes cuts call.held answer × P.Counts call.asked bytes cuts call.dropped
 
 -- What `feed` promises: for all that the call stood for, it goes on by the piece.
 pub record CallFed {H : Type 0} (P : Protocol H) (old new : CallState) (piece : List ℕ) (answer : Option Answer) : Type 0 where

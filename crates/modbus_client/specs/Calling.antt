@@ -80,7 +80,8 @@ IsOneRead fed made = ((fed ≡ []) × (made ≡ [])) ⊎ ((0 < length fed) × (m
 -- what a call is after a turn, by what it stood for
 abbrev pub TurnsAs : {H : Type 0} → Protocol H → List ℕ → List ℕ → List ℕ → CallState → Option Answer → Type 0
 TurnsAs P written bytes cuts call None = CallStands P written bytes cuts call
-TurnsAs P written bytes cuts call (Some answer) = CallEndsAs P call.asked call.function bytes cuts call.held answer
+TurnsAs P written bytes cuts call (Some answer) =
+    CallEndsAs P call.asked call.function bytes cuts call.held answer × P.Counts call.asked bytes cuts call.dropped
 
 -- A turn on which the call waits on has read. One that tells the end of the input, or a fault of the source, has read nothing; else it
 -- has read once, and ends with an answer of the bytes, or memory is wanting.
@@ -150,6 +151,11 @@ pub record Exchanged {H : Type 0} (P : Protocol H) (from to : Input) (sunk sinks
   pub write_fault : answer ≡ Err (Transport transport.WriteFault) → Rose sunk.faults sinks.faults
   pub read_fault : answer ≡ Err (Transport transport.ReadFault) → Rose from.faults to.faults
 
+-- The same with the number of messages of other requests that it dropped in the bytes that it read.
+abbrev pub ExchangedDropping : {H : Type 0} → Protocol H → Input → Input → Output → Output → H → Asked → ℕ → List ℕ → ℕ → Answer → Type 0
+ExchangedDropping P from to sunk sinks header asked turns held dropped answer =
+    (ran : Exchanged P from to sunk sinks header asked turns held answer) × P.Counts (P.seen header) ran.fed (totals ran.made) dropped
+
 -- What a call does to a client over a link of this meaning, by the state before, the request, the answer and the state after. It asks
 -- under the header that comes next.
 pub record Called {L H I : Type 0} (P : Protocol H) (N : Heading H I) (M : LinkMeaning L) (old : ClientState I L) (asked : Asked) (answer : Answer) (new : ClientState I L) : Type 0 where
@@ -163,6 +169,8 @@ pub record Called {L H I : Type 0} (P : Protocol H) (N : Heading H I) (M : LinkM
   pub disconnected : old.is_connected ≡ false → (answer ≡ Err (Transport transport.NotConnected)) × (new ≡ drawn N old)
   pub connected : IsTrue old.is_connected → new.is_connected ≡ stays_connected answer
   pub ran : IsTrue old.is_connected → Exchanged P (M.input old.link) (M.input new.link) (M.output old.link) (M.output new.link) (next_header N old) asked old.turns new.held answer
+  -- in the bytes that it read it dropped so many messages of other requests
+  pub dropped : (on : IsTrue old.is_connected) → P.Counts (P.seen (next_header N old)) (ran on).fed (totals (ran on).made) new.dropped
 
 -- The same of sending a request, which waits for no reply.
 pub record SentAlone {L H I : Type 0} (P : Protocol H) (N : Heading H I) (M : LinkMeaning L) (old : ClientState I L) (asked : Asked) (answer : Result (Unit {0}) Error) (new : ClientState I L) : Type 0 where
@@ -172,6 +180,7 @@ pub record SentAlone {L H I : Type 0} (P : Protocol H) (N : Heading H I) (M : Li
   pub disconnected : old.is_connected ≡ false → (answer ≡ Err (Transport transport.NotConnected)) × (new ≡ drawn N old)
   pub connected : IsTrue old.is_connected → new.is_connected ≡ stays_connected answer
   pub sent : IsTrue old.is_connected → Sent P (M.input old.link) (M.input new.link) (M.output old.link) (M.output new.link) (next_header N old) asked new.held answer
+  pub dropped : new.dropped ≡ 0
 
 -- Completeness: a link that fails nowhere and holds one message alone, whose first bytes tell where it ends and which belongs to the
 -- request, gives its result in whatever pieces it comes, or memory is wanting.

@@ -54,6 +54,7 @@ pub record CallGoes {H : Type 0} (P : Protocol H) (written bytes : List ℕ) (ma
 pub record CallEnds {H : Type 0} (P : Protocol H) (written bytes : List ℕ) (made : List (ℕ × ℕ)) (call : CallState) (answer : Answer) : Type 0 where
   pub writes : WritesRequest call.request written answer
   pub ends : CallEndsAs P call.asked call.function bytes (totals made) call.held answer
+  pub counts : P.Counts call.asked bytes (totals made) call.dropped
   pub last : CameLast P call.asked bytes made answer
   pub rooms : HaveRooms HasRoom bytes 0 made
   pub spends : Spends (call_spending answer) (length made) call.turns

@@ -22,6 +22,8 @@ pub record Protocol (Header : Type 0) : Type 1 where
   -- of what is compared of the request's header, of bytes, cuts and a search: so it stands in these bytes, which were read with these
   -- cuts
   pub Finds : HeaderSeen → List ℕ → List ℕ → Found → Type 0
+  -- of the same and a number: so many messages of other requests does it drop in these bytes, which were read with these cuts
+  pub Counts : HeaderSeen → List ℕ → List ℕ → ℕ → Type 0
   -- of a header and a PDU: the first bytes of this message tell where it ends
   pub IsWhole : Header → List ℕ → Type 0
 

@@ -48,6 +48,7 @@ rtu_protocol = record {
   seen = λ header. slave_seen header.slave_id;
   adu = λ header pdu. frame header.slave_id pdu;
   Finds = λ asked. FindsFrame;
+  Counts = λ asked bytes cuts dropped. dropped ≡ 0;
   IsWhole = λ header pdu. HasResponseHead (header.slave_id, pdu);
 }
 

@@ -17,6 +17,8 @@ pub record ClientState (Ids L : Type 0) : Type 0 where
   pub held : List ℕ
   -- what its protocol keeps between its calls, as the transaction that comes next
   pub ids : Ids
+  -- how many messages of other requests its last call dropped
+  pub dropped : ℕ
 
 -- what only its own calls set
 pub record KeepsSettings {I L : Type 0} (old new : ClientState I L) : Type 0 where
@@ -26,12 +28,12 @@ pub record KeepsSettings {I L : Type 0} (old new : ClientState I L) : Type 0 whe
 
 -- a client as it is attached to a link
 abbrev pub attached : {H I L : Type 0} → Heading H I → L → ℕ → ClientState I L
-attached N link slave = record { link = link; is_connected = true; slave = slave; turns = default_turns; timeout = None; held = []; ids = N.first }
+attached N link slave = record { link = link; is_connected = true; slave = slave; turns = default_turns; timeout = None; held = []; ids = N.first; dropped = 0 }
 
 -- the header of its next request
 abbrev pub next_header : {H I L : Type 0} → Heading H I → ClientState I L → H
 next_header N client = N.header client.ids client.slave
 
--- the same client after it drew that header
+-- the same client after it drew that header, under which nothing was dropped yet
 abbrev pub drawn : {H I L : Type 0} → Heading H I → ClientState I L → ClientState I L
-drawn N client = record client { ids = N.next client.ids }
+drawn N client = record client { ids = N.next client.ids; dropped = 0 }

@@ -1,5 +1,5 @@
 -- ADUs with an MBAP header as a client sees them (MODBUS Messaging on TCP/IP V1.0b, section 3.1).
-use Rattle.std.specs.Prelude.{◌≡◌, ◌≢◌, ◌⊎◌, ℕ, ◌+◌, ◌%◌, ◌^◌, ◌<◌, ◌≤◌, List, ◌++◌, length, drop, All, Option, Some, None}
+use Rattle.std.specs.Prelude.{◌≡◌, ◌≢◌, ◌⊎◌, ℕ, ◌+◌, ◌-◌, ◌%◌, ◌^◌, ◌<◌, ◌≤◌, min, List, ◌++◌, length, drop, All, Option, Some, None}
 use Rattle.modbus_frame.specs.declared.tcp.Header.{Header}
 use Rattle.modbus_frame.specs.declared.fault.HeaderSeen.{HeaderSeen}
 use Rattle.modbus_frame.specs.declared.fault.TransportError.{TransportError}
@@ -30,6 +30,7 @@ tcp_protocol = record {
   seen = header_seen;
   adu = adu_of;
   Finds = λ asked. FindsAdu;
+  Counts = λ asked bytes cuts dropped. dropped ≡ 0;
   IsWhole = λ header pdu. IsAdu (header, pdu);
 }
 
@@ -73,11 +74,22 @@ pub record FindsOwnAdu (asked : HeaderSeen) (bytes cuts : List ℕ) (found : Fou
   pub finds : FindsAdu left cuts found
   pub own : IsUnder asked found
 
+-- how many ADUs a counter of 64 bits tells: it stands still at its end
+abbrev pub counted : List (Header × List ℕ) → ℕ
+counted adus = min (length adus) (2 ^ 64 - 1)
+
+-- The number tells the ADUs that are dropped where the search stands in these bytes.
+pub record CountsOthers (asked : HeaderSeen) (bytes cuts : List ℕ) (dropped : ℕ) : Type 0 where
+  pub found : Found
+  pub finds : FindsOwnAdu asked bytes cuts found
+  pub tells : dropped ≡ counted finds.dropped
+
 -- the same ADUs and headers, and the reply is the first ADU of the transaction and the unit that were asked
 abbrev pub matching_protocol : Protocol Header
 matching_protocol = record {
   seen = header_seen;
   adu = adu_of;
   Finds = FindsOwnAdu;
+  Counts = CountsOthers;
   IsWhole = λ header pdu. IsAdu (header, pdu);
 }

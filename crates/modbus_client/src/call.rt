@@ -46,6 +46,7 @@ impl<P: Protocol> Model for Call<P> {
       unwritten = drop c.written c.request.items;
       reads = c.reads;
       turns = c.turns;
+      dropped = P.dropped_by c.protocol;
     } };
 
     ghost invariant = { λ c. c.written ≤ length c.request.items };
@@ -104,6 +105,14 @@ impl<P: Protocol> Call<P> {
         ensures { IsTrue result ↔ (self.now.reads < self.now.turns) }
     {
         self.reads < self.turns
+    }
+
+    /// How many messages of other requests it dropped: those that the bytes that it was fed begin with, of another transaction or unit, for
+    /// a protocol that drops them. The count stands still at the end of its type.
+    pub fn dropped(&self) -> u64
+        ensures { result ≡ self.now.dropped }
+    {
+        self.protocol.dropped()
     }
 
     /// Makes the room of the next read, which has `ROOM` bytes.

@@ -6,7 +6,7 @@ ghost use Rattle.modbus_link.specs.Passing.{Sends};
 ghost use Rattle.modbus_link.specs.Polled.{Waited};
 ghost use Rattle.modbus_frame.specs.Meaning.{meaning};
 ghost use Rattle.modbus_client.specs.Call.{holding, opened_with};
-ghost use Rattle.modbus_client.specs.Calling.{Sent, Exchanged};
+ghost use Rattle.modbus_client.specs.Calling.{Sent, ExchangedDropping};
 ghost use Rattle.modbus_client.specs.Polled.{IsFlushed, TurnsTo, CallPolled, Opens};
 
 use crate::call::{Call, ROOM};
@@ -147,7 +147,7 @@ pub(crate) fn send<P: Protocol, L: Source + Sink>(
     }
 }
 
-/// Writes a request, and waits for the reply.
+/// Writes a request, and waits for the reply. It tells how many messages of other requests it dropped.
 pub(crate) fn exchange<P: Protocol, L: Source + Sink>(
     alloc: Global,
     link: &mut L,
@@ -155,15 +155,19 @@ pub(crate) fn exchange<P: Protocol, L: Source + Sink>(
     request: &Request<'_>,
     turns: u64,
     held: &mut BytesMut,
+    dropped: &mut u64,
 ) -> Result<Response>
-    ensures exchanged { Exchanged P.protocol (L.input link.old) (L.input link.new)
+    ensures exchanged { ExchangedDropping P.protocol (L.input link.old) (L.input link.new)
         (L.output link.old) (L.output link.new) header (meaning request.now) turns held.new.items
-        result }
+        dropped.new result }
     ensures line { L.line link.new ≡ L.line link.old }
 {
     P::laws();
+    *dropped = 0;
     let mut call = open::<P>(alloc, header, request, turns, held)?;
-    match poll(&mut call, held, alloc, link) {
+    let polled = poll(&mut call, held, alloc, link);
+    *dropped = call.dropped();
+    match polled {
         Polled::Ready(answer) => answer,
         Polled::Pending => unreachable!(),
     }

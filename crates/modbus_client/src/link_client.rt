@@ -32,11 +32,12 @@ pub struct LinkClient<P: Protocol, L> {
     timeout: Option<Duration>,
     held: BytesMut,
     ids: P::Ids,
+    dropped: u64,
     alloc: Global,
 }
 
-/// A contract sees the link, whether it is connected, the slave, the turns, the timeout, the bytes that are held, and what the protocol
-/// keeps between calls.
+/// A contract sees the link, whether it is connected, the slave, the turns, the timeout, the bytes that are held, what the protocol
+/// keeps between calls, and how many messages the last call dropped.
 impl<P: Protocol, L> Model for LinkClient<P, L> {
     ghost use Rattle.modbus_client.specs.State.{ClientState};
 
@@ -50,6 +51,7 @@ impl<P: Protocol, L> Model for LinkClient<P, L> {
       timeout = client.timeout;
       held = client.held.items;
       ids = client.ids;
+      dropped = client.dropped;
     } };
 }
 
@@ -66,6 +68,7 @@ impl<P: Protocol, L> LinkClient<P, L> {
             timeout: None,
             held: BytesMut::new(alloc),
             ids: P::first_ids(),
+            dropped: 0,
             alloc,
         }
     }
@@ -82,6 +85,14 @@ impl<P: Protocol, L> LinkClient<P, L> {
         ensures { result ≡ length self.now.held }
     {
         self.held.len()
+    }
+
+    /// How many messages of other requests the last call dropped while it waited for its reply: ADUs of another transaction or unit, for a
+    /// client that drops them, and else 0. It is 0 before the first call and after a `send`, and stands still at the end of its type.
+    pub fn dropped(&self) -> u64
+        ensures { result ≡ self.now.dropped }
+    {
+        self.dropped
     }
 
     /// The link; `None` exactly where the client is disconnected.
@@ -110,6 +121,7 @@ impl<P: Protocol, L> LinkClient<P, L> {
             × (error ≡ Error.Transport TransportError.NotConnected)) }
     {
         let header = P::draw(&mut self.ids, self.slave);
+        self.dropped = 0;
         if !self.is_connected {
             return Err(Error::Transport(TransportError::NotConnected));
         }
@@ -190,6 +202,7 @@ where
             &request,
             self.turns,
             &mut self.held,
+            &mut self.dropped,
         );
         self.is_connected = !is_write_fault(&answer);
         answer

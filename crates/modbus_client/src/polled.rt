@@ -71,6 +71,14 @@ impl<P: Protocol> PolledCall<P> {
         self.held.len()
     }
 
+    /// How many messages of other requests all polls dropped: ADUs of another transaction or unit, for a call that drops them, and else 0.
+    /// The count stands still at the end of its type.
+    pub fn dropped(&self) -> u64
+        ensures { result ≡ self.now.call.dropped }
+    {
+        self.call.dropped()
+    }
+
     /// Writes the request and waits for the reply, as far as the link is ready. It reads only once the request is written whole, and each
     /// read has room for `ROOM` bytes.
     ///

@@ -47,8 +47,12 @@ pub trait Protocol: Drop {
 
     ghost heading: { Heading Self.Header Self.Ids };
 
+    // how many messages of other requests it dropped
+    ghost dropped_by: { Self → ℕ };
+
     /// One that was given no byte.
-    fn new() -> Self;
+    fn new() -> Self
+        ensures none { dropped_by result ≡ 0 };
 
     /// The identifiers of a client that asked nothing yet.
     fn first_ids() -> Self::Ids
@@ -93,12 +97,23 @@ pub trait Protocol: Drop {
             → protocol.Finds asked bytes cuts (waiting earlier)
             → held.old.items ≡ earlier ++ more → 0 < length more
             → LooksAs protocol asked (bytes ++ more) (cuts ++ length (bytes ++ more) ∷ [])
-            held.new.items result };
+            held.new.items result }
+        ensures counts { (bytes cuts earlier more : List ℕ)
+            → protocol.Finds asked bytes cuts (waiting earlier)
+            → held.old.items ≡ earlier ++ more → 0 < length more
+            → protocol.Counts asked bytes cuts (dropped_by self.old)
+            → protocol.Counts asked (bytes ++ more) (cuts ++ length (bytes ++ more) ∷ [])
+            (dropped_by self.new) };
 
-    /// What holds of every search, whatever was asked: with no byte it waits; and in given bytes with given cuts it stands in one way. A
+    /// How many messages of other requests it dropped. The count stands still at the end of its type.
+    fn dropped(&self) -> u64
+        ensures { result ≡ dropped_by self.now };
+
+    /// What holds of every search, whatever was asked: with no byte it waits, and dropped nothing; and in given bytes with given cuts it stands in one way. A
     /// message alone under the header that was asked is found in whatever pieces it comes. It has no code.
     fn laws()
         ensures opening { (asked : HeaderSeen) → protocol.Finds asked [] [] (waiting []) }
+        ensures none_dropped { (asked : HeaderSeen) → protocol.Counts asked [] [] 0 }
         ensures one_way { (asked : HeaderSeen) (bytes cuts : List ℕ) (found other : Found)
             → protocol.Finds asked bytes cuts found → protocol.Finds asked bytes cuts other
             → found ≡ other }

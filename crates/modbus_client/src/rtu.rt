@@ -29,6 +29,8 @@ impl Protocol for Frames {
 
     ghost heading = { rtu_heading };
 
+    ghost dropped_by = { λ frames. 0 };
+
     fn new() -> Frames {
         Frames {
             codec: ClientCodec::new(),
@@ -76,6 +78,10 @@ impl Protocol for Frames {
             Err(RtuError::Invalid(reason)) => Err(LookError::Refused(reason)),
             Err(RtuError::NoMemory) => Err(LookError::NoMemory),
         }
+    }
+
+    fn dropped(&self) -> u64 {
+        0
     }
 
     fn laws() {

@@ -69,6 +69,8 @@ impl Protocol for Adus {
 
     ghost heading = { tcp_heading };
 
+    ghost dropped_by = { λ adus. 0 };
+
     fn new() -> Adus {
         Adus {
             codec: ClientCodec::new(),
@@ -109,6 +111,10 @@ impl Protocol for Adus {
         held: &mut BytesMut,
     ) -> std::result::Result<Option<Reply>, LookError> {
         self.take_adu(alloc, held)
+    }
+
+    fn dropped(&self) -> u64 {
+        0
     }
 
     fn laws() {

@@ -1,5 +1,5 @@
 //! Clients of TCP devices that drop the responses of other transactions (MODBUS Messaging on TCP/IP V1.0b, section 4.4.1.3).
-ghost use Rattle.std.specs.Prelude.{◌≡◌, ◌↔◌, ℕ, ◌<◌, ◌++◌, ◌∷◌, List, [], length, IsTrue, None};
+ghost use Rattle.std.specs.Prelude.{◌≡◌, ◌↔◌, ℕ, ◌+◌, ◌-◌, ◌^◌, ◌<◌, min, ◌++◌, ◌∷◌, List, [], length, IsTrue, None};
 ghost use Rattle.modbus_frame.specs.Meaning.{meaning};
 ghost use Rattle.modbus_frame.specs.declared.tcp.Header.{Header};
 ghost use Rattle.modbus_client.specs.Tcp.{matching_protocol, tcp_heading, header_seen, Drops, EndsOfAnother};
@@ -17,6 +17,7 @@ use modbus_frame::{ConnectFault, EncodeError, Error, HeaderSeen, Request, Slave}
 use modbus_link::{Connector, Failed, Link};
 use modbus_tcp::{Front, HeaderFault, TransactionIds, front};
 use std::alloc::Global;
+use std::marker::Model;
 use std::net::SocketAddr;
 use std::time::Duration;
 
@@ -46,15 +47,17 @@ fn end_of_another(asked: HeaderSeen, bytes: &[u8]) -> Option<usize>
     }
 }
 
-/// Drops the ADUs at the front of the held bytes that are of another transaction or unit than was asked. Their PDUs are not read, and no
-/// memory is taken.
-fn drop_others(asked: HeaderSeen, held: &mut BytesMut)
+/// Drops the ADUs at the front of the held bytes that are of another transaction or unit than was asked, and counts them. Their PDUs are
+/// not read, and no memory is taken.
+fn drop_others(asked: HeaderSeen, held: &mut BytesMut, dropped: &mut u64)
     ensures dropped { (adus : List (Header × List ℕ))
-        × Drops asked held.old.items adus held.new.items }
+        × Drops asked held.old.items adus held.new.items
+        × (dropped.new ≡ min (dropped.old + length adus) (2 ^ 64 - 1)) }
     ensures all { EndsOfAnother asked held.new.items None }
 {
     'others: while let Some(end) = end_of_another(asked, held.as_slice()) {
         held.advance(end);
+        *dropped = dropped.saturating_add(1);
     }
 }
 
@@ -62,6 +65,14 @@ fn drop_others(asked: HeaderSeen, held: &mut BytesMut)
 #[derive(Drop)]
 pub struct OwnAdus {
     adus: Adus,
+    dropped: u64,
+}
+
+/// A contract sees how many ADUs were dropped.
+impl Model for OwnAdus {
+    ghost Value = { ℕ };
+
+    ghost view = { λ own. own.dropped };
 }
 
 impl Protocol for OwnAdus {
@@ -73,8 +84,13 @@ impl Protocol for OwnAdus {
 
     ghost heading = { tcp_heading };
 
+    ghost dropped_by = { λ dropped. dropped };
+
     fn new() -> OwnAdus {
-        OwnAdus { adus: Adus::new() }
+        OwnAdus {
+            adus: Adus::new(),
+            dropped: 0,
+        }
     }
 
     fn first_ids() -> TransactionIds {
@@ -104,8 +120,13 @@ impl Protocol for OwnAdus {
         asked: HeaderSeen,
         held: &mut BytesMut,
     ) -> std::result::Result<Option<Reply>, LookError> {
-        drop_others(asked, held);
+        modbus_tcp::laws::one_front();
+        drop_others(asked, held, &mut self.dropped);
         self.adus.take_adu(alloc, held)
+    }
+
+    fn dropped(&self) -> u64 {
+        self.dropped
     }
 
     fn laws() {

@@ -78,6 +78,11 @@ fn push(text: &mut String, more: &str) -> Result<(), AllocError> {
     text.push_str("; ")
 }
 
+/// Appends how many messages of other requests were dropped.
+fn push_dropped(alloc: Global, text: &mut String, dropped: u64) -> Result<(), AllocError> {
+    text.push_str(format!(in alloc; " dropped {dropped}")?.as_str())
+}
+
 /// The steps of an RTU client, which also has `turns=1` and `send=0600010003`.
 fn rtu_calls(
     alloc: Global,
@@ -146,6 +151,7 @@ fn tcp_calls(
     Ok(Some(text))
 }
 
+/// The same of a client that drops the responses of other transactions and units, and how many its last call dropped.
 fn matching_calls(
     alloc: Global,
     slave: u8,
@@ -158,16 +164,16 @@ fn matching_calls(
     };
     let held = client.held();
     text.push_str(left(alloc, client.link(), held)?.as_str())?;
+    push_dropped(alloc, &mut text, client.dropped())?;
     Ok(Some(text))
 }
 
 /// How many polls were pending, the answer of the first that was not, among a hundred, and what was written.
 fn polled<P: Protocol>(
     alloc: Global,
-    call: PolledCall<P>,
+    call: &mut PolledCall<P>,
     link: &mut PolledMemoryLink,
 ) -> Result<Option<String>, AllocError> {
-    let mut call = call;
     let mut pending = 0u32;
     for _ in 0..100u32 {
         if !call.is_open() {
@@ -198,7 +204,7 @@ fn rtu_polled(
 ) -> Result<Option<String>, AllocError> {
     let mut link = outside.into_polled_link(alloc)?;
     match rtu::PolledCall::new(alloc, Slave(slave), request, 2) {
-        Ok(opened) => polled(alloc, opened, &mut link),
+        Ok(mut opened) => polled(alloc, &mut opened, &mut link),
         Err(error) => not_opened(alloc, error),
     }
 }
@@ -215,7 +221,7 @@ fn tcp_polled(
         unit_id: slave,
     };
     match tcp::PolledCall::new(alloc, header, request, 2) {
-        Ok(opened) => polled(alloc, opened, &mut link),
+        Ok(mut opened) => polled(alloc, &mut opened, &mut link),
         Err(error) => not_opened(alloc, error),
     }
 }
@@ -232,7 +238,13 @@ fn matching_polled(
         unit_id: slave,
     };
     match tcp::MatchingCall::new(alloc, header, request, 2) {
-        Ok(opened) => polled(alloc, opened, &mut link),
+        Ok(mut opened) => {
+            let Some(mut text) = polled(alloc, &mut opened, &mut link)? else {
+                return Ok(None);
+            };
+            push_dropped(alloc, &mut text, opened.dropped())?;
+            Ok(Some(text))
+        }
         Err(error) => not_opened(alloc, error),
     }
 }

@@ -56,10 +56,10 @@ module _ {L : Type 0} (M : LinkMeaning L) (old new : LineState L) (header : Head
   }
 
   -- nothing was done over a line that is not connected
-  idle : (answer : LineAnswer) → old.is_connected ≡ false → IsUnconnected header.unit_id answer → new ≡ addressed header.unit_id old
+  idle : (answer : LineAnswer) → old.is_connected ≡ false → IsUnconnected header.unit_id answer → line_of M new ≡ line_of M old
       → RecordOf old.turns (line_of M old) (line_of M new) header request answer
   idle answer off none same =
-      let is : IsIdle (row_with answer [] [] []) = record { answer = none; sent = refl; fed = refl; made = refl; line = ap (line_of M) same } in
+      let is : IsIdle (row_with answer [] [] []) = record { answer = none; sent = refl; fed = refl; made = refl; line = same } in
       made_of answer [] [] [] (subst (λ on. ExchangesAs old.turns on (row_with answer [] [] [])) (sym off) is)
 
   by_call : (answer : Answer) (on : Bool) → old.is_connected ≡ on → header.unit_id ≢ 0 → Called rtu_protocol rtu_heading M (addressed header.unit_id old) request answer new
@@ -69,7 +69,7 @@ module _ {L : Type 0} (M : LinkMeaning L) (old new : LineState L) (header : Head
       let row = row_with (of_call answer) ran.sent ran.fed ran.made in
       let asks : AsksAs old.turns row (of_call answer) = (single, new.held, ran, refl, refl, refl) in
       made_of (of_call answer) ran.sent ran.fed ran.made (subst (λ on. ExchangesAs old.turns on row) (sym e) (asks, c.connected e))
-  by_call answer false e single c = idle (of_call answer) e (single, (c.disconnected e).0) (c.disconnected e).1
+  by_call answer false e single c = idle (of_call answer) e (single, (c.disconnected e).0) (ap (line_of M) (c.disconnected e).1)
 
   by_sending : (answer : Result (Unit {0}) Error) (on : Bool) → old.is_connected ≡ on → header.unit_id ≡ 0 → SentAlone rtu_protocol rtu_heading M (addressed header.unit_id old) request answer new
       → RecordOf old.turns (line_of M old) (line_of M new) header request (of_sending answer)
@@ -78,7 +78,7 @@ module _ {L : Type 0} (M : LinkMeaning L) (old new : LineState L) (header : Head
       let row = row_with (of_sending answer) ran.sent [] [] in
       let asks : AsksAs old.turns row (of_sending answer) = (all, new.held, ran, refl, refl, refl) in
       made_of (of_sending answer) ran.sent [] [] (subst (λ on. ExchangesAs old.turns on row) (sym e) (asks, c.connected e))
-  by_sending answer false e all c = idle (of_sending answer) e (all, (c.disconnected e).0) (c.disconnected e).1
+  by_sending answer false e all c = idle (of_sending answer) e (all, (c.disconnected e).0) (ap (line_of M) (c.disconnected e).1)
 
   pub record_of : (answer : LineAnswer) → AsksLine M old header.unit_id request answer new → RecordOf old.turns (line_of M old) (line_of M new) header request answer
   record_of (of_call answer) (single, c) = by_call answer old.is_connected refl single c

@@ -15,7 +15,8 @@ returns-clause-write g c = λ written bytes cuts n call s within. record {
   first = λ some. s.first (λ none. some (none_left n call.unwritten none));
   finds = s.finds;
   counted = s.counted;
+  counts = s.counts;
 }
 
 pub returns-clause-room : goal.returns-clause-room
-returns-clause-room g c = λ written bytes cuts n call s. record { wrote = s.wrote; first = s.first; finds = s.finds; counted = s.counted }
+returns-clause-room g c = λ written bytes cuts n call s. record { wrote = s.wrote; first = s.first; finds = s.finds; counted = s.counted; counts = s.counts }

@@ -1,4 +1,4 @@
-use Rattle.modbus_client.proofs.OwnAdu.{one_own, own_alone, opening}
+use Rattle.modbus_client.proofs.OwnAdu.{one_own, own_alone, opening, none_dropped}
 use Rattle.modbus_client.proofs.transactions.OwnAdusProtocol.laws.Goals as goal
 
 pub returns-clause-one_way : goal.returns-clause-one_way
@@ -11,3 +11,6 @@ returns-clause-alone c = λ header pdu bytes rest cuts found whole joined finds.
 
 pub returns-clause-opening : goal.returns-clause-opening
 returns-clause-opening c = λ asked. opening asked
+
+pub returns-clause-none_dropped : goal.returns-clause-none_dropped
+returns-clause-none_dropped c = λ asked. none_dropped asked
