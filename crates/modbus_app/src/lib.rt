@@ -21,9 +21,13 @@ mod words;
 pub use crate::device::{open, open_shared};
 pub use crate::gateway::run_gateway;
 pub use crate::listen::run_listen;
+pub use crate::number::number_within;
 pub use crate::patient::{Keeper, PatientAcceptor};
 pub use crate::program::run;
 pub use crate::services::{Services, StoreServices};
-pub use crate::status::{NO_MEMORY, report_fault};
+pub use crate::status::{
+    ACCEPT_FAULT, NO_MEMORY, PASSES_OUT, SPAWN_FAULT, USAGE, report, report_fault,
+};
 pub use crate::turning::TurningSpawner;
+pub use crate::watched::{WatchedAcceptor, WatchedLink};
 pub use crate::words::{Form, Framing, Mode, Task, forwarding, listening, read_words};

@@ -31,7 +31,7 @@ use std::thread::{Scope, Threads};
 use std::time::{Clock, Duration};
 
 /// How often an accept that fails is tried again.
-const RETRIES: u32 = 300;
+pub const RETRIES: u32 = 300;
 
 /// How many milliseconds are waited before that.
 const PAUSE: u64 = 100;
@@ -45,7 +45,7 @@ const RETRY_LINE: &str = "modbus: accept fault, it is tried again\n";
 /// What keeps the listener of a port going. A peer has room where one more file descriptor could be had beside that of its link, so that
 /// the next accept has one.
 #[derive(Drop)]
-struct PortKeeper<'r, R, N> {
+pub struct PortKeeper<'r, R, N> {
     rt: &'r R,
     listener: TcpListener,
     notes: N,
@@ -61,7 +61,8 @@ impl<'r, R, N> Model for PortKeeper<'r, R, N> {
 }
 
 impl<'r, R, N> PortKeeper<'r, R, N> {
-    fn new(rt: &'r R, listener: TcpListener, notes: N) -> PortKeeper<'r, R, N> {
+    /// One for the acceptor over this listener. It tells on `notes` what keeps peers waiting, once until it has passed.
+    pub fn new(rt: &'r R, listener: TcpListener, notes: N) -> PortKeeper<'r, R, N> {
         PortKeeper {
             rt,
             listener,
@@ -296,8 +297,8 @@ fn no_memory<E: Sink>(errors: &mut E) -> u8
     NO_MEMORY
 }
 
-/// Reports that the system refuses a listener, as it may when out of memory.
-fn refused<E: Sink>(error: Error, errors: &mut E) -> u8
+/// Reports that the system refuses a listener, as it may when out of memory, and answers the status: 15, or 11 where it is out of memory.
+pub fn refused<E: Sink>(error: Error, errors: &mut E) -> u8
     ensures { IsRefused (E.output errors.old) (E.output errors.new) result }
 {
     if error.kind() == ErrorKind::OutOfMemory {
@@ -314,8 +315,11 @@ fn loopback(port: u16) -> SocketAddr
     SocketAddr::from(([127, 0, 0, 1], port))
 }
 
-/// The listener on this port of this machine, and another share of it.
-fn bind<R>(rt: &R, port: u16) -> IoResult<(TcpListener, TcpListener)>
+/// The listener on this port of this machine (127.0.0.1), and another share of it.
+///
+/// # Errors
+/// Those of the system.
+pub fn bind<R>(rt: &R, port: u16) -> IoResult<(TcpListener, TcpListener)>
 where
     R: Net<Listener = TcpListener, Stream = TcpStream>,
 {

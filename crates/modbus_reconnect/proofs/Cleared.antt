@@ -38,9 +38,9 @@ settled_by true clear = refl
 settled_by false clear = sym clear
 
 -- a call on it may leave nothing owed
-pub asked_stands : {H I L : Type 0} (m : LineMeaning H I L) (clear new : SettlingState I L) (asked : Asked) (answer : Answer) → OwesNothing m clear.link → AsksOn m clear asked answer new → IsStanding m new
-asked_stands {I = I} {L = L} m clear new asked answer owes a = λ certain.
-    called clear.link new.link (next_question m clear asked) a.held answer owes a.ends
+pub asked_stands : {H I L : Type 0} (m : LineMeaning H I L) (clear new : SettlingState I L) (asked : Asked) (turns : ℕ) (answer : Answer) → OwesNothing m clear.link → AsksOn m clear asked turns answer new → IsStanding m new
+asked_stands {I = I} {L = L} m clear new asked turns answer owes a = λ certain.
+    called clear.link new.link (next_question m clear asked turns) a.held answer owes a.ends
     (settled_by (leaves_nothing asked answer a.held) (sym (ap (λ (state : SettlingState I L). state.in_doubt) a.rest) ∙ certain))
 
 doubt_after : {H I L : Type 0} (m : LineMeaning H I L) (old : SettlingState I L) (line : L) (reason : Option Unsettled) → StaysInDoubt m old line reason → IsTrue old.in_doubt
@@ -54,10 +54,10 @@ unsettled_stands {I = I} {L = L} m old new kept = λ certain.
 
 -- a call of each kind
 pub calls_asked : {H I L : Type 0} (m : LineMeaning H I L) (old clear new : SettlingState I L) (asked : Asked) (answer : Answer) → IsTrue old.is_connected → ClearsIf true m old clear
-    → AsksOn m clear asked answer new → CallsStanding m old asked answer new
+    → AsksOn m clear asked clear.settings.turns answer new → CallsStanding m old asked answer new
 calls_asked m old clear new asked answer connected cleared a = record {
   calls = asks connected clear cleared (clear_owes m old clear cleared) a;
-  stands = λ stands. asked_stands m clear new asked answer (clear_owes m old clear cleared stands) a;
+  stands = λ stands. asked_stands m clear new asked clear.settings.turns answer (clear_owes m old clear cleared stands) a;
 }
 
 pub calls_unsettled : {H I L : Type 0} (m : LineMeaning H I L) (old new : SettlingState I L) (asked : Asked) (answer : Answer) → IsTrue old.is_connected → answer ≡ Err (Transport NotConnected)

@@ -5,3 +5,4 @@ pub mod Vain
 pub mod Dropping
 pub mod Waited
 pub mod Cleared
+pub mod Told

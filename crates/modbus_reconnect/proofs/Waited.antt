@@ -88,6 +88,7 @@ gives_up m silences told before now old call answer g because = λ header asked 
   passes = g.passes;
   call = call;
   asks = for_same m.protocol header asked turns old call asks g.same;
+  fits = fits;
   goes = g.goes opened;
   holds = refl;
   because = because;

@@ -10,3 +10,4 @@ pub mod Silences
 pub mod SettlingState
 pub mod Waiting
 pub mod OnLine
+pub mod Telling

@@ -46,16 +46,16 @@ abbrev pub ClearsIf : {H I L : Type 0} → Bool → LineMeaning H I L → Settli
 ClearsIf true m old new = Clears m old new.link × (new ≡ record old { link = new.link; in_doubt = false; unsettled = None })
 ClearsIf false m old new = StaysInDoubt m old new.link new.unsettled × (new ≡ record old { link = new.link; unsettled = new.unsettled })
 
--- what a client asks, under the header that comes next
-abbrev pub next_question : {H I L : Type 0} → LineMeaning H I L → SettlingState I L → Asked → Question H
-next_question m client asked =
-    question_of (m.heading.header client.ids client.settings.slave) asked client.settings.turns (reply_silences client)
+-- what a client asks, under the header that comes next, with so many reads that may give bytes
+abbrev pub next_question : {H I L : Type 0} → LineMeaning H I L → SettlingState I L → Asked → ℕ → Question H
+next_question m client asked turns =
+    question_of (m.heading.header client.ids client.settings.slave) asked turns (reply_silences client)
 
 -- A request is sent, and its reply waited for. After that the line is in doubt, unless the answer leaves nothing owed.
-pub record AsksOn {H I L : Type 0} (m : LineMeaning H I L) (old : SettlingState I L) (asked : Asked) (answer : Answer) (new : SettlingState I L) : Type 0 where
+pub record AsksOn {H I L : Type 0} (m : LineMeaning H I L) (old : SettlingState I L) (asked : Asked) (turns : ℕ) (answer : Answer) (new : SettlingState I L) : Type 0 where
   -- the bytes that the call read and did not use
   pub held : List ℕ
-  pub ends : Ends m (next_question m old asked) old.link new.link held answer
+  pub ends : Ends m (next_question m old asked turns) old.link new.link held answer
   pub line : m.link.line new.link ≡ m.link.line old.link
   pub rest : new ≡ record old { link = new.link; in_doubt = not (leaves_nothing asked answer held); ids = m.heading.next old.ids }
 
@@ -71,7 +71,7 @@ pub data CallsOnLine {H I L : Type 0} (m : LineMeaning H I L) (old : SettlingSta
   unsettled : IsTrue old.is_connected → answer ≡ Err (Transport NotConnected) → ClearsIf false m old new → CallsOnLine m old asked answer new
   -- nothing is owed on the line that the request is sent on
   asks : IsTrue old.is_connected → (clear : SettlingState I L) → ClearsIf true m old clear → (IsStanding m old → OwesNothing m clear.link)
-      → AsksOn m clear asked answer new → CallsOnLine m old asked answer new
+      → AsksOn m clear asked clear.settings.turns answer new → CallsOnLine m old asked answer new
 
 -- The same, and what stands before a call stands after it. It stands of a new client, which is in doubt, and no setting changes it; so it
 -- stands before and after each call.

@@ -39,6 +39,7 @@ pub record GivesUp {H I L : Type 0} (m : LineMeaning H I L) (q : Question H) (be
   pub passes : Passes (m.link.input before) (m.link.input after) (m.link.output before) (m.link.output after) fed made sent
   pub call : CallState
   pub asks : IsCallFor m.protocol q.header q.asked q.turns call
+  pub fits : Fits (request_pdu q.asked)
   pub goes : CallGoes m.protocol sent fed made call
   pub holds : held ≡ call.held
   pub because : GivesUpBy q.silences (m.silences before) (m.silences after) held answer

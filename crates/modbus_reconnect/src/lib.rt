@@ -15,6 +15,7 @@ mod resend;
 mod settling;
 mod settling_client;
 mod silences;
+mod telling;
 mod waiting;
 
 pub use crate::client::ReconnectingClient;

@@ -4,10 +4,12 @@ ghost use Rattle.modbus_link.specs.Line.{meaning_of};
 ghost use Rattle.modbus_frame.specs.Meaning.{meaning};
 ghost use Rattle.modbus_reconnect.specs.SettlingState.{line_by, unsettled_client};
 ghost use Rattle.modbus_reconnect.specs.OnLine.{ClearsIf, AsksOn, CallsStanding};
+ghost use Rattle.modbus_reconnect.specs.Telling.{SendsStanding};
 
 use crate::owing::leaves_nothing;
 use crate::settling::{Unsettled, settle};
 use crate::silences::silences_for;
+use crate::telling::told_of;
 use crate::waiting::ask;
 use modbus_client::{Client, Protocol, TURNS};
 use modbus_frame::{
@@ -156,11 +158,11 @@ impl<P: Protocol, L: TimedLink> SettlingClient<P, L> {
         }
     }
 
-    /// Sends a request, and waits for its reply.
-    fn ask(&mut self, request: &Request<'_>) -> Result<Response>
+    /// Sends a request, and waits for its reply, with at most `turns` reads that give bytes.
+    fn ask(&mut self, request: &Request<'_>, turns: u64) -> Result<Response>
         ensures { AsksOn
             (line_by P.protocol P.heading (meaning_of L.input L.output L.line) L.not_ready)
-            self.old (meaning request.now) result self.new }
+            self.old (meaning request.now) turns result self.new }
     {
         let header = P::draw(&mut self.ids, self.slave);
         let silences = silences_for(self.timeout, self.silence);
@@ -169,11 +171,33 @@ impl<P: Protocol, L: TimedLink> SettlingClient<P, L> {
             &mut self.link,
             header,
             request,
-            self.turns,
+            turns,
             silences,
         );
         self.in_doubt = !leaves_nothing(request, &answer, held);
         answer
+    }
+
+    /// Sends a request to which no slave replies, as a broadcast (MODBUS over Serial Line V1.02, section 2.1), and reads nothing of a
+    /// reply. A line in doubt is settled first, as it is for a call.
+    ///
+    /// After it the line is in doubt, so that the next request waits until the line was silent: the slaves have that time to do what was
+    /// asked (section 2.4.1), and a slave that replies nevertheless is not heard.
+    ///
+    /// # Errors
+    /// `NotConnected` where the client is disconnected, and where the line did not settle; then nothing is sent. `RequestTooLong` with
+    /// the size of the PDU in bytes, exactly where that is above 253; nothing is sent of it. `WriteFault` only where the link's count of
+    /// write faults rose. `ReadFault` where the link took no more for as long as a reply is waited for. `NoMemory` where memory is refused.
+    pub fn send(&mut self, request: Request<'_>) -> std::result::Result<(), Error>
+        ensures { SendsStanding
+            (line_by P.protocol P.heading (meaning_of L.input L.output L.line) L.not_ready)
+            self.old (meaning request.entry) result self.new }
+    {
+        if !self.is_connected || !self.clear() {
+            return Err(Error::Transport(TransportError::NotConnected));
+        }
+        let answer = self.ask(&request, 0);
+        told_of(answer)
     }
 }
 
@@ -207,7 +231,8 @@ where
         if !self.is_connected || !self.clear() {
             return Err(Error::Transport(TransportError::NotConnected));
         }
-        self.ask(&request)
+        let turns = self.turns;
+        self.ask(&request, turns)
     }
 
     fn disconnect(&mut self) -> std::result::Result<(), ShutdownFault> {

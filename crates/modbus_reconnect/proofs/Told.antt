@@ -1,0 +1,250 @@
+-- A request that is only sent is a call that may make no read.
+use Rattle.std.proofs.Common.{◌≡◌, ◌≢◌, inl, inr, ℕ, ◌<◌, ◌≤◌, Bool, true, false, true≢false, not, IsTrue, List, [], ◌∷◌, ◌++◌, length, Result, Ok, Err, refl, sym, ap, subst, ◌∙◌, arith, length-append}
+use Rattle.std.proofs.lemmas.List.{length-map}
+use Rattle.std.specs.Prelude.{IfErr, ◌↔◌}
+use Rattle.modbus_link.specs.Outside.{Input, Output, IsFront, RisesTo}
+use Rattle.modbus_link.specs.Passing.{Passes}
+use Rattle.modbus_link.specs.Reads.{totals}
+use Rattle.modbus_frame.specs.Meaning.{Asked}
+use Rattle.modbus_frame.specs.declared.code.ExceptionCode.{ExceptionCode}
+use Rattle.modbus_frame.specs.declared.response.Response.{Response}
+use Rattle.modbus_frame.specs.declared.fault.HeaderSeen.{HeaderSeen}
+use Rattle.modbus_frame.specs.declared.fault.Error.{Error}
+use Rattle.modbus_frame.specs.declared.fault.Error.TheVariants.{Protocol, Transport, NoMemory}
+use Rattle.modbus_frame.specs.declared.fault.TransportError.TheVariants.{NotConnected, ReadFault, WriteFault, BrokenPipe, BytesRemaining, TooManyRetries, RequestTooLong, InvalidResponse, InvalidLength, InvalidProtocol, TurnLimit}
+use Rattle.modbus_pdu.specs.Coding.{told_size}
+use Rattle.modbus_pdu.specs.Limits.{max_pdu}
+use Rattle.modbus_pdu.specs.RequestPdu.{request_pdu}
+use Rattle.modbus_client.specs.Protocol as client
+use Rattle.modbus_client.specs.Matching.{Answer}
+use Rattle.modbus_client.specs.Calling.{WaitedBefore, Exchanged}
+use Rattle.modbus_client.specs.Limits.{read_room}
+use Rattle.modbus_reconnect.specs.Owing.{leaves_nothing}
+use Rattle.modbus_reconnect.specs.SettlingState.{SettlingState, LineMeaning}
+use Rattle.modbus_reconnect.specs.Waiting.{question_of, GivesUp, Ends}
+use Rattle.modbus_reconnect.specs.OnLine.{reply_silences, ClearsIf, AsksOn, IsStanding}
+use Rattle.modbus_reconnect.specs.Telling.{told_of, WritesAs, IsOfTelling, Tells, is_doubtful_after, TellsOn, unconnected, unsettled, sends, SendsStanding}
+use Rattle.modbus_reconnect.proofs.Settled.{leaves, leaves_doubt}
+use Rattle.modbus_reconnect.proofs.Cleared.{clear_owes, asked_stands, unsettled_stands}
+
+-- no read was made, so no byte was read
+none_made : (made : List (ℕ × ℕ)) (fed : List ℕ) → length made ≤ 0 → RisesTo 0 made (length fed) → (made ≡ []) × (fed ≡ [])
+none_made [] [] none rises = (refl, refl)
+none_made [] (byte ∷ bytes) none rises = absurd (omega (arith, rises))
+none_made (cut ∷ cuts) fed none rises = absurd (omega (arith, none))
+
+-- no answer of the bytes comes with no read
+none_came : {H : Type 0} (P : client.Protocol H) (asked : HeaderSeen) (fed : List ℕ) (made : List (ℕ × ℕ)) → WaitedBefore P asked fed made → length made ≤ 0 → ⊥
+none_came P asked fed made w none =
+    let n = length-append w.earlier ((length fed, read_room) ∷ []) in
+    let m = ap (λ (cuts : List (ℕ × ℕ)). length cuts) w.last in
+    omega (arith, n, m, none)
+
+-- what is told is the error of the call, but for the end of its turns
+same_error : (answer : Answer) (error : Error) → told_of answer ≡ Err error → answer ≡ Err error
+same_error (Ok result) error e = absurd (cc)
+same_error (Err (Protocol fault)) error e = cc
+same_error (Err NoMemory) error e = cc
+same_error (Err (Transport NotConnected)) error e = cc
+same_error (Err (Transport ReadFault)) error e = cc
+same_error (Err (Transport WriteFault)) error e = cc
+same_error (Err (Transport BrokenPipe)) error e = cc
+same_error (Err (Transport BytesRemaining)) error e = cc
+same_error (Err (Transport TooManyRetries)) error e = cc
+same_error (Err (Transport (RequestTooLong size))) error e = cc
+same_error (Err (Transport (InvalidResponse reason))) error e = cc
+same_error (Err (Transport InvalidLength)) error e = cc
+same_error (Err (Transport (InvalidProtocol protocol))) error e = cc
+same_error (Err (Transport TurnLimit)) error e = absurd (cc)
+
+module _ {H : Type 0} (P : client.Protocol H) (a b : Input) (k l : Output) (header : H) (asked : Asked) (held : List ℕ) where
+  -- the errors of a call that made no read, and what it wrote
+  only_told : (answer : Answer) → Exchanged P a b k l header asked 0 held answer → IfErr (told_of answer) IsOfTelling
+  only_told (Ok result) e = tt
+  only_told (Err (Protocol fault)) e = none_came P (P.seen header) e.fed e.made e.last e.spends
+  only_told (Err NoMemory) e = tt
+  only_told (Err (Transport NotConnected)) e = e.ends
+  only_told (Err (Transport ReadFault)) e = tt
+  only_told (Err (Transport WriteFault)) e = tt
+  only_told (Err (Transport BrokenPipe)) e = let less = e.spends in omega (arith, less)
+  only_told (Err (Transport BytesRemaining)) e = let less = e.spends in omega (arith, less)
+  only_told (Err (Transport TooManyRetries)) e = none_came P (P.seen header) e.fed e.made (e.last refl) e.spends
+  only_told (Err (Transport (RequestTooLong size))) e = tt
+  only_told (Err (Transport (InvalidResponse reason))) e = none_came P (P.seen header) e.fed e.made (e.last refl) e.spends
+  only_told (Err (Transport InvalidLength)) e = none_came P (P.seen header) e.fed e.made (e.last refl) e.spends
+  only_told (Err (Transport (InvalidProtocol protocol))) e = none_came P (P.seen header) e.fed e.made (e.last refl) e.spends
+  only_told (Err (Transport TurnLimit)) e = tt
+
+  writes_told : (answer : Answer) (e : Exchanged P a b k l header asked 0 held answer) → WritesAs (P.adu header (request_pdu asked)) e.sent (told_of answer)
+  writes_told (Ok result) e = e.writes
+  writes_told (Err (Protocol fault)) e = absurd (none_came P (P.seen header) e.fed e.made e.last e.spends)
+  writes_told (Err NoMemory) e = e.writes
+  writes_told (Err (Transport NotConnected)) e = absurd e.ends
+  writes_told (Err (Transport ReadFault)) e = let less = e.spends in absurd (omega (arith, less))
+  writes_told (Err (Transport WriteFault)) e = e.writes
+  writes_told (Err (Transport BrokenPipe)) e = let less = e.spends in absurd (omega (arith, less))
+  writes_told (Err (Transport BytesRemaining)) e = let less = e.spends in absurd (omega (arith, less))
+  writes_told (Err (Transport TooManyRetries)) e = absurd (none_came P (P.seen header) e.fed e.made (e.last refl) e.spends)
+  writes_told (Err (Transport (RequestTooLong size))) e = e.writes
+  writes_told (Err (Transport (InvalidResponse reason))) e = absurd (none_came P (P.seen header) e.fed e.made (e.last refl) e.spends)
+  writes_told (Err (Transport InvalidLength)) e = absurd (none_came P (P.seen header) e.fed e.made (e.last refl) e.spends)
+  writes_told (Err (Transport (InvalidProtocol protocol))) e = absurd (none_came P (P.seen header) e.fed e.made (e.last refl) e.spends)
+  writes_told (Err (Transport TurnLimit)) e = e.writes
+
+  no_read_fault : (answer : Answer) → Exchanged P a b k l header asked 0 held answer → answer ≡ Err (Transport ReadFault) → ⊥
+  no_read_fault answer e is =
+      let f = subst (λ (found : Answer). Exchanged P a b k l header asked 0 held found) is e in
+      let less = f.spends in
+      omega (arith, less)
+
+  -- one that is too long was not sent, and nothing is held
+  none_held : (answer : Answer) → Exchanged P a b k l header asked 0 held answer → (size : ℕ) → answer ≡ Err (Transport (RequestTooLong size)) → held ≡ []
+  none_held answer e size is = (subst (λ (found : Answer). Exchanged P a b k l header asked 0 held found) is e).ends.1
+
+  -- no read is made in any case
+  no_reads : (answer : Answer) (e : Exchanged P a b k l header asked 0 held answer) → length e.made ≤ 0
+  no_reads (Ok result) e = e.spends
+  no_reads (Err (Protocol fault)) e = e.spends
+  no_reads (Err NoMemory) e = e.spends
+  no_reads (Err (Transport NotConnected)) e = e.spends
+  no_reads (Err (Transport ReadFault)) e = let less = e.spends in absurd (omega (arith, less))
+  no_reads (Err (Transport WriteFault)) e = e.spends
+  no_reads (Err (Transport BrokenPipe)) e = let less = e.spends in absurd (omega (arith, less))
+  no_reads (Err (Transport BytesRemaining)) e = let less = e.spends in absurd (omega (arith, less))
+  no_reads (Err (Transport TooManyRetries)) e = e.spends
+  no_reads (Err (Transport (RequestTooLong size))) e = e.spends
+  no_reads (Err (Transport (InvalidResponse reason))) e = e.spends
+  no_reads (Err (Transport InvalidLength)) e = e.spends
+  no_reads (Err (Transport (InvalidProtocol protocol))) e = e.spends
+  no_reads (Err (Transport TurnLimit)) e = let all = e.spends in omega (arith, all)
+
+  passes_told : (answer : Answer) (e : Exchanged P a b k l header asked 0 held answer) → Passes a b k l [] [] e.sent
+  passes_told answer e =
+      let none = none_made e.made e.fed (no_reads answer e) e.passes.rises in
+      subst (λ (cuts : List (ℕ × ℕ)). Passes a b k l [] cuts e.sent) none.0 (subst (λ (bytes : List ℕ). Passes a b k l bytes e.made e.sent) none.1 e.passes)
+
+-- a call that was answered
+tells_exchanged : {H I L : Type 0} (m : LineMeaning H I L) (silences : ℕ) (header : H) (asked : Asked) (before after : L) (held : List ℕ) (answer : Answer)
+    → Exchanged m.protocol (m.link.input before) (m.link.input after) (m.link.output before) (m.link.output after) header asked 0 held answer
+    → Tells m silences header asked before after (told_of answer)
+tells_exchanged m silences header asked before after held answer e = record {
+  sent = e.sent;
+  passes = passes_told m.protocol (m.link.input before) (m.link.input after) (m.link.output before) (m.link.output after) header asked held answer e;
+  only = only_told m.protocol (m.link.input before) (m.link.input after) (m.link.output before) (m.link.output after) header asked held answer e;
+  writes = writes_told m.protocol (m.link.input before) (m.link.input after) (m.link.output before) (m.link.output after) header asked held answer e;
+  too_long = λ size. (
+    λ is. (e.too_long size).0 (same_error answer (Transport (RequestTooLong size)) is),
+    λ long. ap told_of ((e.too_long size).1 long),
+  );
+  write_fault = λ is. e.write_fault (same_error answer (Transport WriteFault) is);
+  no_more = λ is. absurd (no_read_fault m.protocol (m.link.input before) (m.link.input after) (m.link.output before) (m.link.output after) header asked held answer e (same_error answer (Transport ReadFault) is));
+}
+
+module _ {H I L : Type 0} (m : LineMeaning H I L) (silences : ℕ) (header : H) (asked : Asked) (before after : L) (held : List ℕ) where
+  given_up_reads : (answer : Answer) (g : GivesUp m (question_of header asked 0 silences) before after held answer) → (g.made ≡ []) × (g.fed ≡ [])
+  given_up_reads answer g =
+      let counted = g.goes.stands.counted in
+      let within = g.goes.within in
+      let limit = g.asks.limit in
+      let size = length-map g.made (λ (cut : ℕ × ℕ). cut.0) in
+      none_made g.made g.fed (omega (arith, counted, within, limit, size)) g.goes.rises
+
+  -- one that was given up
+  tells_given_up : (answer : Answer) → GivesUp m (question_of header asked 0 silences) before after held answer → Tells m silences header asked before after (told_of answer)
+  tells_given_up (Err (Transport ReadFault)) g =
+      let none = given_up_reads (Err (Transport ReadFault)) g in
+      let long : max_pdu < length (request_pdu asked) → ⊥ = λ more. (let fits = g.fits in omega (arith, more, fits)) in
+      record {
+        sent = g.sent;
+        passes = subst (λ (cuts : List (ℕ × ℕ)). Passes (m.link.input before) (m.link.input after) (m.link.output before) (m.link.output after) [] cuts g.sent) none.0
+            (subst (λ (bytes : List ℕ). Passes (m.link.input before) (m.link.input after) (m.link.output before) (m.link.output after) bytes g.made g.sent) none.1 g.passes);
+        only = tt;
+        writes = (g.call.unwritten, sym g.asks.request ∙ g.goes.stands.wrote);
+        too_long = λ size. (λ is. absurd (cc), λ more. absurd (long more.0));
+        write_fault = λ is. absurd (cc);
+        no_more = λ is. g.because.1;
+      }
+  tells_given_up (Err (Transport BytesRemaining)) g =
+      absurd (g.because.0 (g.holds ∙ g.goes.empty (given_up_reads (Err (Transport BytesRemaining)) g).1))
+  tells_given_up (Ok result) g = absurd g.because
+  tells_given_up (Err (Protocol fault)) g = absurd g.because
+  tells_given_up (Err NoMemory) g = absurd g.because
+  tells_given_up (Err (Transport NotConnected)) g = absurd g.because
+  tells_given_up (Err (Transport WriteFault)) g = absurd g.because
+  tells_given_up (Err (Transport BrokenPipe)) g = absurd g.because
+  tells_given_up (Err (Transport TooManyRetries)) g = absurd g.because
+  tells_given_up (Err (Transport (RequestTooLong size))) g = absurd g.because
+  tells_given_up (Err (Transport (InvalidResponse reason))) g = absurd g.because
+  tells_given_up (Err (Transport InvalidLength)) g = absurd g.because
+  tells_given_up (Err (Transport (InvalidProtocol protocol))) g = absurd g.because
+  tells_given_up (Err (Transport TurnLimit)) g = absurd g.because
+
+  tells : (answer : Answer) → Ends m (question_of header asked 0 silences) before after held answer → Tells m silences header asked before after (told_of answer)
+  tells answer (inl e) = tells_exchanged m silences header asked before after held answer e
+  tells answer (inr g) = tells_given_up answer g
+
+  -- nothing is held of a request that is too long, and no call was unconnected
+  long_holds : (answer : Answer) → Ends m (question_of header asked 0 silences) before after held answer → (size : ℕ) → answer ≡ Err (Transport (RequestTooLong size)) → held ≡ []
+  long_holds answer (inl e) size is = none_held m.protocol (m.link.input before) (m.link.input after) (m.link.output before) (m.link.output after) header asked held answer e size is
+  long_holds answer (inr g) size is = absurd (subst (λ (found : Answer). GivesUp m (question_of header asked 0 silences) before after held found) is g).because
+
+  -- no reply comes with no read, and the client was connected
+  no_reply : (answer : Answer) → Ends m (question_of header asked 0 silences) before after held answer → (result : Result Response ExceptionCode) → answer ≡ Ok result → ⊥
+  no_reply answer (inl e) result is =
+      let f = subst (λ (found : Answer). Exchanged m.protocol (m.link.input before) (m.link.input after) (m.link.output before) (m.link.output after) header asked 0 held found) is e in
+      none_came m.protocol (m.protocol.seen header) f.fed f.made f.last f.spends
+  no_reply answer (inr g) result is = (subst (λ (found : Answer). GivesUp m (question_of header asked 0 silences) before after held found) is g).because
+
+  connected : (answer : Answer) → Ends m (question_of header asked 0 silences) before after held answer → answer ≡ Err (Transport NotConnected) → ⊥
+  connected answer (inl e) is =
+      (subst (λ (found : Answer). Exchanged m.protocol (m.link.input before) (m.link.input after) (m.link.output before) (m.link.output after) header asked 0 held found) is e).ends
+  connected answer (inr g) is = (subst (λ (found : Answer). GivesUp m (question_of header asked 0 silences) before after held found) is g).because
+
+  -- whether the line is in doubt after it
+  doubts : (answer : Answer) → Ends m (question_of header asked 0 silences) before after held answer → not (leaves_nothing asked answer held) ≡ is_doubtful_after (told_of answer)
+  doubts (Ok result) e = absurd (no_reply (Ok result) e result refl)
+  doubts (Err (Protocol fault)) e = ap not (leaves_doubt asked (Err (Protocol fault)) held refl)
+  doubts (Err NoMemory) e = ap not (leaves_doubt asked (Err NoMemory) held refl)
+  doubts (Err (Transport NotConnected)) e = absurd (connected (Err (Transport NotConnected)) e refl)
+  doubts (Err (Transport ReadFault)) e = ap not (leaves_doubt asked (Err (Transport ReadFault)) held refl)
+  doubts (Err (Transport WriteFault)) e = ap not (leaves_doubt asked (Err (Transport WriteFault)) held refl)
+  doubts (Err (Transport BrokenPipe)) e = ap not (leaves_doubt asked (Err (Transport BrokenPipe)) held refl)
+  doubts (Err (Transport BytesRemaining)) e = ap not (leaves_doubt asked (Err (Transport BytesRemaining)) held refl)
+  doubts (Err (Transport TooManyRetries)) e = ap not (leaves_doubt asked (Err (Transport TooManyRetries)) held refl)
+  doubts (Err (Transport (RequestTooLong size))) e =
+      ap not (leaves asked (Err (Transport (RequestTooLong size))) held refl (ap (λ (bytes : List ℕ). length bytes) (long_holds (Err (Transport (RequestTooLong size))) e size refl)))
+  doubts (Err (Transport (InvalidResponse reason))) e = ap not (leaves_doubt asked (Err (Transport (InvalidResponse reason))) held refl)
+  doubts (Err (Transport InvalidLength)) e = ap not (leaves_doubt asked (Err (Transport InvalidLength)) held refl)
+  doubts (Err (Transport (InvalidProtocol protocol))) e = ap not (leaves_doubt asked (Err (Transport (InvalidProtocol protocol))) held refl)
+  doubts (Err (Transport TurnLimit)) e = ap not (leaves_doubt asked (Err (Transport TurnLimit)) held refl)
+
+-- a request was sent on a line that was cleared
+pub sends_told : {H I L : Type 0} (m : LineMeaning H I L) (old clear new : SettlingState I L) (asked : Asked) (answer : Answer) (told : Result (Unit {0}) Error) → IsTrue old.is_connected
+    → ClearsIf true m old clear → AsksOn m clear asked 0 answer new → told ≡ told_of answer → SendsStanding m old asked told new
+sends_told {I = I} {L = L} m old clear new asked answer told is_connected cleared a is =
+    let q = question_of (m.heading.header clear.ids clear.settings.slave) asked 0 (reply_silences clear) in
+    let on : TellsOn m clear asked (told_of answer) new = record {
+      tells = tells m q.silences q.header asked clear.link new.link a.held answer a.ends;
+      line = a.line;
+      rest = subst (λ (doubt : Bool). new ≡ record clear { link = new.link; in_doubt = doubt; ids = m.heading.next clear.ids })
+          (doubts m q.silences q.header asked clear.link new.link a.held answer a.ends) a.rest;
+    } in
+    record {
+      does = sends is_connected clear cleared (clear_owes m old clear cleared) (subst (λ (found : Result (Unit {0}) Error). TellsOn m clear asked found new) (sym is) on);
+      stands = λ stands. asked_stands m clear new asked 0 answer (clear_owes m old clear cleared stands) a;
+    }
+
+-- no request was sent
+pub sends_unsettled : {H I L : Type 0} (m : LineMeaning H I L) (old new : SettlingState I L) (asked : Asked) (told : Result (Unit {0}) Error) → IsTrue old.is_connected → told ≡ Err (Transport NotConnected)
+    → ClearsIf false m old new → SendsStanding m old asked told new
+sends_unsettled m old new asked told is_connected is kept = record {
+  does = unsettled is_connected is kept;
+  stands = λ stands. unsettled_stands m old new kept;
+}
+
+pub sends_unconnected : {H I L : Type 0} (m : LineMeaning H I L) (old new : SettlingState I L) (asked : Asked) (told : Result (Unit {0}) Error) → old.is_connected ≡ false → told ≡ Err (Transport NotConnected)
+    → new ≡ old → SendsStanding m old asked told new
+sends_unconnected {I = I} {L = L} m old new asked told gone is same = record {
+  does = unconnected gone is same;
+  stands = λ stands. subst (λ (state : SettlingState I L). IsStanding m state) (sym same) stands;
+}

@@ -1,0 +1,13 @@
+use Rattle.std.proofs.Common.{ap, sym, ◌∙◌}
+use Rattle.modbus_link.specs.Line.{meaning_of}
+use Rattle.modbus_frame.specs.Meaning.{meaning}
+use Rattle.modbus_reconnect.specs.SettlingState.{SettlingState, line_by}
+use Rattle.modbus_reconnect.proofs.Told.{sends_told}
+use Rattle.modbus_reconnect.proofs.settling_client.SettlingClient.send.Goals as goal
+
+pub returns : goal.returns
+returns g c =
+    sends_told (line_by g.P.Protocol.protocol g.P.Protocol.heading (meaning_of g.L.Ends.input g.L.Ends.output g.L.Ends.line) g.L.PolledLink.not_ready)
+    c.args.self.now c.clear.new.self c.ask-answer.new.self (meaning c.args.request) c.ask-answer.result c.told_of.result
+    (sym (ap (λ (state : SettlingState g.row.P-Ids.Denot g.row.L.Denot). state.is_connected) c.self.view_is) ∙ c.if-not-self.false)
+    c.if-not-clear.ensures c.ask-answer.ensures c.told_of.ensures

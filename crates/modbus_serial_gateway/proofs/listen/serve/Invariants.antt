@@ -1,0 +1,9 @@
+use Rattle.std.specs.Prelude.{◌≡◌}
+use Rattle.modbus_serial_gateway.proofs.listen.serve.Given as goal
+
+-- the line that is served is the one that was opened
+abbrev pub ghosts-serve_line-J-Opening : goal.ghosts-serve_line-J-Opening
+ghosts-serve_line-J-Opening g a = record { opens = λ line. line ≡ a.line }
+
+abbrev pub ghosts-serve_line-J-Ledger : goal.ghosts-serve_line-J-Ledger
+ghosts-serve_line-J-Ledger g a = record { name = a.ledger.name; parts = a.ledger.parts }

@@ -1,0 +1,76 @@
+//! A gateway that makes the devices of one serial line reachable over Modbus TCP, for any number of masters:
+//! `modbus_serial_gateway PORT MILLISECONDS`. Its standard streams are the line, which was set by `stty raw min 0 time 1`.
+#![tactic(auto)]
+
+mod ending;
+mod listen;
+mod terminal;
+mod words;
+
+use listen::serve;
+use modbus_app::{NO_MEMORY, USAGE, report, report_fault};
+use modbus_client::Client;
+use modbus_frame::Slave;
+use modbus_line::SerialLine;
+use modbus_link::{ReadSource, TerminalLink, WriteSink};
+use modbus_reconnect::SerialClient;
+use modbus_server::ProcessError;
+use std::env;
+use std::io::{ErrorKind, Result, Stdin, Stdout};
+use std::process::ExitCode;
+use std::time::Duration;
+use terminal::StandardLine;
+use words::{Task, USAGE_LINE, read_words};
+
+/// How long a silence of the line is, in milliseconds.
+const SILENCE: u64 = 100;
+
+/// How many bytes of a line in doubt are dropped until it is silent.
+const NOISE: usize = 4096;
+
+/// What the words after the program's name ask for; `None` where they are no such words.
+fn task_of(rt: &HostRuntime) -> Result<Option<Task>> {
+    let mut words = env::args(rt)?.skip(1);
+    match (words.next(), words.next(), words.next()) {
+        (Some(port), Some(millis), None) => Ok(read_words(port.as_str(), millis.as_str())),
+        _ => Ok(None),
+    }
+}
+
+/// The line over the standard streams. Where it is in doubt it has to be silent for as long as a reply is waited for.
+fn open_line(
+    rt: &HostRuntime,
+    millis: u32,
+) -> SerialLine<StandardLine<'_, HostRuntime, Stdin, Stdout>> {
+    let streams = TerminalLink::new(ReadSource::new(rt.stdin()), WriteSink::new(rt.stdout()));
+    let link = StandardLine::new(rt, streams);
+    let limit = Duration::from_millis(u64::from(millis));
+    let mut client = SerialClient::new(rt.alloc(), link, Slave(0), Duration::from_millis(SILENCE));
+    client.set_timeout(Some(limit));
+    client.set_quiet(limit, NOISE);
+    SerialLine::new(client)
+}
+
+fn main(rt: HostRuntime) -> ExitCode {
+    let mut errors = WriteSink::new(rt.stderr());
+    let task = match task_of(&rt) {
+        Ok(task) => task,
+        Err(error) if error.kind() == ErrorKind::OutOfMemory => {
+            report_fault(&mut errors, ProcessError::NoMemory);
+            return ExitCode::from(NO_MEMORY);
+        }
+        Err(_) => None,
+    };
+    match task {
+        Some(task) => {
+            let line = open_line(&rt, task.millis);
+            let notes = (WriteSink::new(rt.stderr()), WriteSink::new(rt.stderr()));
+            let (_errors, status) = serve(&rt, rt.alloc(), task.port, line, errors, notes);
+            ExitCode::from(status)
+        }
+        None => {
+            report(&mut errors, USAGE_LINE);
+            ExitCode::from(USAGE)
+        }
+    }
+}

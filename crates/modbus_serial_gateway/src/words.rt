@@ -1,0 +1,45 @@
+//! The words of the command line.
+ghost use Rattle.std.specs.Prelude.{◌≡◌};
+ghost use Rattle.modbus_serial_gateway.specs.Words.{port_named, time_named, task_of};
+
+use modbus_app::number_within;
+
+/// The line of a usage fault.
+pub const USAGE_LINE: &str =
+    "modbus: usage: modbus_serial_gateway PORT MILLISECONDS, a port from 1 to 65535 and a time from 1 to 60000\n";
+
+/// What the words ask for.
+#[derive(Clone, Copy, Debug, PartialEq, Eq)]
+pub struct Task {
+    /// The port of 127.0.0.1 that masters connect to.
+    pub port: u16,
+    /// For how long the reply of a slave is waited for, in milliseconds.
+    pub millis: u32,
+}
+
+/// The port that a word shows: one to five digits, of a value from 1 to 65535.
+fn port_number(word: &str) -> Option<u16>
+    ensures { result ≡ port_named word.now }
+{
+    match number_within(word.as_bytes(), 5, 1, 0xFFFF) {
+        Some(port) if port <= 0xFFFF => Some(port as u16),
+        _ => None,
+    }
+}
+
+/// The time in milliseconds that a word shows: one to five digits, of a value from 1 to 60,000.
+fn milliseconds(word: &str) -> Option<u32>
+    ensures { result ≡ time_named word.now }
+{
+    number_within(word.as_bytes(), 5, 1, 60_000)
+}
+
+/// What these two words ask for; `None` where one of them is no such number. It takes no memory.
+pub fn read_words(port: &str, millis: &str) -> Option<Task>
+    ensures { result ≡ task_of port.now millis.now }
+{
+    match (port_number(port), milliseconds(millis)) {
+        (Some(port), Some(millis)) => Some(Task { port, millis }),
+        _ => None,
+    }
+}
