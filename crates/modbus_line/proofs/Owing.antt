@@ -1,16 +1,15 @@
 -- Nothing is owed on a line that is not in doubt, after any number of exchanges.
-use Rattle.std.proofs.Common.{◌≡◌, ℕ, false, true≢false, sym, ◌∙◌, IsTrue, Result, Ok, Err}
+use Rattle.std.proofs.Common.{ℕ, true≢false, sym, ◌∙◌, Result, Ok, Err}
 use Rattle.std.specs.Prelude.{Option, Some, None}
 use Rattle.modbus_frame.specs.Meaning.{Asked}
 use Rattle.modbus_frame.specs.declared.response.Response.{Response}
 use Rattle.modbus_service.specs.declared.service.ServiceError.{ServiceError}
 use Rattle.modbus_service.specs.declared.service.ServiceError.TheVariants.{Exception, NoMemory}
-use Rattle.modbus_service.specs.Outcome.{Outcome}
 use Rattle.modbus_service.specs.Answering.{Keeps}
 use Rattle.modbus_reconnect.specs.OnLine.{IsStanding}
 use Rattle.modbus_gateway.specs.Answer.{LineAnswer, of_call, of_sending}
 use Rattle.modbus_line.specs.Turns.{Turns, untouched, exchanged}
-use Rattle.modbus_line.specs.Serial.{SerialState, SerialMeaning, AsksSerial, ExchangesSerial, forwards_settled, NothingIsOwed}
+use Rattle.modbus_line.specs.Serial.{SerialState, SerialMeaning, AsksSerial, forwards_settled, NothingIsOwed}
 
 module _ {L : Type 0} (m : SerialMeaning L) where
   stands_asked : (old new : SerialState L) (unit : ℕ) (request : Asked) (answer : LineAnswer) → AsksSerial m old unit request answer new → IsStanding m old → IsStanding m new

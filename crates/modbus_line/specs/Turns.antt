@@ -3,7 +3,6 @@ use Rattle.std.specs.Prelude.{◌≡◌, ℕ, ◌+◌, Option, Result}
 use Rattle.modbus_frame.specs.Meaning.{Asked}
 use Rattle.modbus_frame.specs.declared.response.Response.{Response}
 use Rattle.modbus_service.specs.declared.service.ServiceError.{ServiceError}
-use Rattle.modbus_service.specs.Outcome.{Outcome}
 use Rattle.modbus_service.specs.Answering.{Answering, Keeps}
 
 -- So many whole exchanges led from one state of a line to another. Each began where the one before it ended, so none stands within another.

@@ -86,7 +86,8 @@ impl<'l, R, C: Forwarder, J: Opening<C>> Model for LineServices<'l, R, C, J> {
 
     ghost view = { λ services. services.left };
 
-    ghost invariant = { λ services. (services.rest.parts ≡ services.left + 1) × (services.rest.amount ≡ 0) };
+    ghost invariant = { λ services.
+        (services.rest.parts ≡ services.left + 1) × (services.rest.amount ≡ 0) };
 }
 
 impl<'l, R, C: Forwarder, J: Opening<C>> LineServices<'l, R, C, J> {

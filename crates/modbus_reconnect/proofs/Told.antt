@@ -1,10 +1,9 @@
 -- A request that is only sent is a call that may make no read.
-use Rattle.std.proofs.Common.{◌≡◌, ◌≢◌, inl, inr, ℕ, ◌<◌, ◌≤◌, Bool, true, false, true≢false, not, IsTrue, List, [], ◌∷◌, ◌++◌, length, Result, Ok, Err, refl, sym, ap, subst, ◌∙◌, arith, length-append}
+use Rattle.std.proofs.Common.{◌≡◌, inl, inr, ℕ, ◌<◌, ◌≤◌, Bool, true, false, not, IsTrue, List, [], ◌∷◌, length, Result, Ok, Err, refl, sym, ap, subst, ◌∙◌, arith, length-append}
 use Rattle.std.proofs.lemmas.List.{length-map}
-use Rattle.std.specs.Prelude.{IfErr, ◌↔◌}
-use Rattle.modbus_link.specs.Outside.{Input, Output, IsFront, RisesTo}
+use Rattle.std.specs.Prelude.{IfErr}
+use Rattle.modbus_link.specs.Outside.{Input, Output, RisesTo}
 use Rattle.modbus_link.specs.Passing.{Passes}
-use Rattle.modbus_link.specs.Reads.{totals}
 use Rattle.modbus_frame.specs.Meaning.{Asked}
 use Rattle.modbus_frame.specs.declared.code.ExceptionCode.{ExceptionCode}
 use Rattle.modbus_frame.specs.declared.response.Response.{Response}
@@ -12,7 +11,6 @@ use Rattle.modbus_frame.specs.declared.fault.HeaderSeen.{HeaderSeen}
 use Rattle.modbus_frame.specs.declared.fault.Error.{Error}
 use Rattle.modbus_frame.specs.declared.fault.Error.TheVariants.{Protocol, Transport, NoMemory}
 use Rattle.modbus_frame.specs.declared.fault.TransportError.TheVariants.{NotConnected, ReadFault, WriteFault, BrokenPipe, BytesRemaining, TooManyRetries, RequestTooLong, InvalidResponse, InvalidLength, InvalidProtocol, TurnLimit}
-use Rattle.modbus_pdu.specs.Coding.{told_size}
 use Rattle.modbus_pdu.specs.Limits.{max_pdu}
 use Rattle.modbus_pdu.specs.RequestPdu.{request_pdu}
 use Rattle.modbus_client.specs.Protocol as client
