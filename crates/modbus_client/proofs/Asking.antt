@@ -108,8 +108,9 @@ module _ (X : Type 0) {H : Type 0} (P : Protocol H) (opening : (seen : HeaderSee
 
   -- it dropped no message of another request
   pub unsent_dropping : (e : Error) → ((seen : HeaderSeen) → P.Counts seen [] [] 0) → SentAs e → ExchangedDropping P a b k m header asked turns held 0 (Err e)
+  unfolding exchanged_unsent unsent
   unsent_dropping (protocol fault) none s = absurd s.only
-  unsent_dropping (Transport (transport.RequestTooLong size)) none s = (exchanged_unsent (Transport (transport.RequestTooLong size)) s, none (P.seen header))
-  unsent_dropping (Transport transport.WriteFault) none s = (exchanged_unsent (Transport transport.WriteFault) s, none (P.seen header))
+  unsent_dropping (Transport (transport.RequestTooLong size)) none s = record { ran = exchanged_unsent (Transport (transport.RequestTooLong size)) s; counts = none (P.seen header) }
+  unsent_dropping (Transport transport.WriteFault) none s = record { ran = exchanged_unsent (Transport transport.WriteFault) s; counts = none (P.seen header) }
   unsent_dropping (Transport _) none s = absurd s.only
-  unsent_dropping NoMemory none s = (exchanged_unsent NoMemory s, none (P.seen header))
+  unsent_dropping NoMemory none s = record { ran = exchanged_unsent NoMemory s; counts = none (P.seen header) }

@@ -93,6 +93,7 @@ module _ (asked : HeaderSeen) where
     looks_own new (Err look.NoMemory) (rest, header, pdu, finds, carries) = (rest, header, pdu, finds_own (reply rest header pdu) finds, carries)
 
     pub counts_own : (dropped : ℕ) → dropped ≡ counted adus → (new : List ℕ) (result : Result (Option Reply) LookError) → LooksAs tcp_protocol asked left cuts new result → CountsOthers asked bytes cuts dropped
+    unfolding finds_own
     counts_own dropped tells new (Ok None) finds = record { found = waiting new; finds = finds_own (waiting new) finds; tells = tells }
     counts_own dropped tells new (Ok (Some found)) (pdu, finds, means) = record { found = reply new found.header pdu; finds = finds_own (reply new found.header pdu) finds; tells = tells }
     counts_own dropped tells new (Err (look.Broken fault)) finds = record { found = broken new fault; finds = finds_own (broken new fault) finds; tells = tells }
@@ -101,10 +102,11 @@ module _ (asked : HeaderSeen) where
 
   -- with no byte nothing is dropped
   pub none_dropped : CountsOthers asked [] [] 0
+  unfolding opening
   none_dropped = record { found = waiting []; finds = opening; tells = refl }
 
   -- a counter that told some ADUs counts on by more
-  pub count_on : (before after : ℕ) (adus more : Adus) → before ≡ counted adus → after ≡ min (before + length more) (2 ^ 64 - 1) → after ≡ counted (adus ++ more)
+  pub count_on : (before after : ℕ) (adus more : Adus) → before ≡ counted adus → after ≡ min (before + counted more) (2 ^ 64 - 1) → after ≡ counted (adus ++ more)
   count_on before after adus more told on = omega (arith, told, on, length-append adus more)
 
   -- what begins with ADUs that are dropped begins with the first of them

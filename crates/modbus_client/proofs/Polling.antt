@@ -435,11 +435,12 @@ module _ {H : Type 0} (P : Protocol H) where
     -- and the last one tells how many messages of other requests were dropped in all
     pub exchanged_dropping : (answer : Answer) → CallPolled P a b k m idle idle' old new (Ready answer) → (header : H) (asked : Asked) (turns : ℕ) → IsCallFor P header asked turns old → Fits (request_pdu asked)
         → CallGoes P [] [] [] old → ExchangedDropping P a b k m header asked turns new.held new.dropped answer
+    unfolding exchanged_polled
     exchanged_dropping answer p header asked turns asks fits s =
-        let ends : CallEnds P p.sent p.fed (shifted 0 p.made) new answer = p.goes_on [] [] [] s in (
-          exchanged_polled answer p header asked turns [] [] [] a k asks fits s (passes_none a k),
-          subst (λ (seen : HeaderSeen). P.Counts seen p.fed (totals (shifted 0 p.made)) new.dropped) (p.same.asked ∙ asks.under) ends.counts,
-        )
+        let ends : CallEnds P p.sent p.fed (shifted 0 p.made) new answer = p.goes_on [] [] [] s in record {
+          ran = exchanged_polled answer p header asked turns [] [] [] a k asks fits s (passes_none a k);
+          counts = subst (λ (seen : HeaderSeen). P.Counts seen p.fed (totals (shifted 0 p.made)) new.dropped) (p.same.asked ∙ asks.under) ends.counts;
+        }
 
     pub asks_whole : (answer : Polled Answer) → CallPolled P a b k m idle idle' old new answer → AsksWhole P a b k m old new answer
     asks_whole Pending p = λ header asked turns written bytes made first firsts asks fits s passed. tt

@@ -152,9 +152,9 @@ pub record Exchanged {H : Type 0} (P : Protocol H) (from to : Input) (sunk sinks
   pub read_fault : answer ≡ Err (Transport transport.ReadFault) → Rose from.faults to.faults
 
 -- The same with the number of messages of other requests that it dropped in the bytes that it read.
-abbrev pub ExchangedDropping : {H : Type 0} → Protocol H → Input → Input → Output → Output → H → Asked → ℕ → List ℕ → ℕ → Answer → Type 0
-ExchangedDropping P from to sunk sinks header asked turns held dropped answer =
-    (ran : Exchanged P from to sunk sinks header asked turns held answer) × P.Counts (P.seen header) ran.fed (totals ran.made) dropped
+pub record ExchangedDropping {H : Type 0} (P : Protocol H) (from to : Input) (sunk sinks : Output) (header : H) (asked : Asked) (turns : ℕ) (held : List ℕ) (dropped : ℕ) (answer : Answer) : Type 0 where
+  pub ran : Exchanged P from to sunk sinks header asked turns held answer
+  pub counts : P.Counts (P.seen header) ran.fed (totals ran.made) dropped
 
 -- What a call does to a client over a link of this meaning, by the state before, the request, the answer and the state after. It asks
 -- under the header that comes next.

@@ -1,8 +1,8 @@
 //! Clients of TCP devices that drop the responses of other transactions (MODBUS Messaging on TCP/IP V1.0b, section 4.4.1.3).
-ghost use Rattle.std.specs.Prelude.{◌≡◌, ◌↔◌, ℕ, ◌+◌, ◌-◌, ◌^◌, ◌<◌, min, ◌++◌, ◌∷◌, List, [], length, IsTrue, None};
+ghost use Rattle.std.specs.Prelude.{◌≡◌, ◌↔◌, ℕ, ◌<◌, ◌++◌, ◌∷◌, List, [], length, IsTrue, None};
 ghost use Rattle.modbus_frame.specs.Meaning.{meaning};
 ghost use Rattle.modbus_frame.specs.declared.tcp.Header.{Header};
-ghost use Rattle.modbus_client.specs.Tcp.{matching_protocol, tcp_heading, header_seen, Drops, EndsOfAnother};
+ghost use Rattle.modbus_client.specs.Tcp.{matching_protocol, tcp_heading, header_seen, Drops, EndsOfAnother, counted};
 ghost use Rattle.modbus_client.specs.State.{attached};
 ghost use Rattle.modbus_client.specs.Polled.{OpensPolled};
 ghost use Rattle.modbus_link.specs.Line.{meaning_of};
@@ -47,18 +47,19 @@ fn end_of_another(asked: HeaderSeen, bytes: &[u8]) -> Option<usize>
     }
 }
 
-/// Drops the ADUs at the front of the held bytes that are of another transaction or unit than was asked, and counts them. Their PDUs are
+/// Drops the ADUs at the front of the held bytes that are of another transaction or unit than was asked, and tells how many. Their PDUs are
 /// not read, and no memory is taken.
-fn drop_others(asked: HeaderSeen, held: &mut BytesMut, dropped: &mut u64)
+fn drop_others(asked: HeaderSeen, held: &mut BytesMut) -> u64
     ensures dropped { (adus : List (Header × List ℕ))
-        × Drops asked held.old.items adus held.new.items
-        × (dropped.new ≡ min (dropped.old + length adus) (2 ^ 64 - 1)) }
+        × Drops asked held.old.items adus held.new.items × (result ≡ counted adus) }
     ensures all { EndsOfAnother asked held.new.items None }
 {
+    let mut dropped = 0u64;
     'others: while let Some(end) = end_of_another(asked, held.as_slice()) {
         held.advance(end);
-        *dropped = dropped.saturating_add(1);
+        dropped = dropped.saturating_add(1);
     }
+    dropped
 }
 
 /// The ADUs of a TCP stream, of which the first with the transaction and the unit of the request is the reply. Those before it are dropped.
@@ -121,7 +122,8 @@ impl Protocol for OwnAdus {
         held: &mut BytesMut,
     ) -> std::result::Result<Option<Reply>, LookError> {
         modbus_tcp::laws::one_front();
-        drop_others(asked, held, &mut self.dropped);
+        let dropped = drop_others(asked, held);
+        self.dropped = self.dropped.saturating_add(dropped);
         self.adus.take_adu(alloc, held)
     }
 
