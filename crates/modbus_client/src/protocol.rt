@@ -109,8 +109,8 @@ pub trait Protocol: Drop {
     fn dropped(&self) -> u64
         ensures { result ≡ dropped_by self.now };
 
-    /// What holds of every search, whatever was asked: with no byte it waits, and dropped nothing; and in given bytes with given cuts it stands in one way. A
-    /// message alone under the header that was asked is found in whatever pieces it comes. It has no code.
+    /// What holds of every search, whatever was asked: with no byte it waits, and has dropped nothing; and in given bytes with given cuts it
+    /// stands in one way. A message alone under the header that was asked is found in whatever pieces it comes. It has no code.
     fn laws()
         ensures opening { (asked : HeaderSeen) → protocol.Finds asked [] [] (waiting []) }
         ensures none_dropped { (asked : HeaderSeen) → protocol.Counts asked [] [] 0 }
