@@ -1,0 +1,4 @@
+pub mod Histories
+pub mod Rounding
+pub mod Rounds
+pub mod Seating

@@ -1,0 +1,20 @@
+use Rattle.std.proofs.Common.{◌∙◌}
+use Rattle.modbus_link.specs.Line.{meaning_of}
+use Rattle.modbus_hub.specs.Seats.{IsDrop}
+use Rattle.modbus_hub.proofs.Seating.{go_both}
+use Rattle.modbus_hub.proofs.Rounds.{drops_both, drops_below, same_above}
+use Rattle.modbus_hub.proofs.seats.Seats.drop_idle.Goals as goal
+
+pub keys-preserved : goal.keys-preserved
+keys-preserved g c =
+    let old = c.args.self.now.seats in
+    let now = c.keys.self.seats in
+    let next = c.drop_if_idle.new.self.seats in
+    let u = c.drop_if_idle.ensures.lets_go in (
+      c.drop_if_idle.ensures.spent ∙ c.keys.invariant.0,
+      c.drop_if_idle.ensures.reads ∙ c.keys.invariant.1,
+      go_both g.I.Framing.framing g.V.Answerer.answering (meaning_of g.L.Ends.input g.L.Ends.output g.L.Ends.line) IsDrop IsDrop IsDrop old now next c.args.service.now.service c.args.service.now.service c.args.service.now.service
+          c.keys.invariant.2 c.drop_if_idle.ensures.goes_on drops_both,
+      drops_below old now next c.keys.key u c.keys.invariant.3 c.keys.invariant.4,
+      same_above old now next c.keys.key u.others c.keys.invariant.4,
+    )

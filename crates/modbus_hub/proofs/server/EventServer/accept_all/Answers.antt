@@ -1,0 +1,32 @@
+use Rattle.std.proofs.Common.{◌≤◌, arith}
+use Rattle.modbus_link.specs.Line.{meaning_of}
+use Rattle.modbus_hub.specs.Turns.{Comes}
+use Rattle.modbus_hub.proofs.Seating.{go_both}
+use Rattle.modbus_hub.proofs.Rounding.{comes_both}
+use Rattle.modbus_hub.proofs.server.EventServer.accept_all.Goals as goal
+
+pub returns-then-not-accept_one-clause-goes_on : goal.returns-then-not-accept_one-clause-goes_on
+returns-then-not-accept_one-clause-goes_on g c =
+    let accepts = g.A.PolledAcceptor.accepts in
+    let first = c.args.self.now in
+    let now = c.peers.self in
+    let next = c.accept_one.new.self in
+    let service = c.args.service.now.service in
+    go_both g.I.Framing.framing g.V.Answerer.answering (meaning_of g.A.Link.Ends.input g.A.Link.Ends.output g.A.Link.Ends.line)
+    (Comes accepts first.acceptor now.acceptor) (Comes accepts now.acceptor next.acceptor) (Comes accepts first.acceptor next.acceptor)
+    first.seats.seats now.seats.seats next.seats.seats service service service c.peers.invariant.1 c.accept_one.ensures.goes_on
+    (comes_both accepts first.acceptor now.acceptor next.acceptor)
+
+pub peers-preserved : goal.peers-preserved
+peers-preserved g c =
+    let accepts = g.A.PolledAcceptor.accepts in
+    let first = c.args.self.now in
+    let now = c.peers.self in
+    let next = c.accept_one.new.self in
+    let service = c.args.service.now.service in (
+      omega (arith, c.peers.invariant.0, c.accept_one.ensures.later),
+      go_both g.I.Framing.framing g.V.Answerer.answering (meaning_of g.A.Link.Ends.input g.A.Link.Ends.output g.A.Link.Ends.line)
+          (Comes accepts first.acceptor now.acceptor) (Comes accepts now.acceptor next.acceptor) (Comes accepts first.acceptor next.acceptor)
+          first.seats.seats now.seats.seats next.seats.seats service service service c.peers.invariant.1 c.accept_one.ensures.goes_on
+          (comes_both accepts first.acceptor now.acceptor next.acceptor),
+    )

@@ -1,0 +1,70 @@
+-- What happens to the connections of one thread, in order, and what that says of the connection under each key.
+use Rattle.std.specs.Prelude.{◌≡◌, ℕ, ◌==◌, List, [], ◌∷◌, ◌++◌, map, Option, Some, None, Bool, if◌then◌else◌}
+use Rattle.modbus_turn.specs.declared.turn.Turn.{Turn}
+use Rattle.modbus_turn.specs.declared.turn.Turn.TheVariants.{Waiting, Spent, Over}
+use Rattle.modbus_turn.specs.InTurn.{Said}
+use Rattle.modbus_turn.specs.Turn.{SeatState}
+
+pub data Event (L : Type 0) : Type 0 where
+  -- this link came, as a connection under this key
+  came : ℕ → L → Event L
+  -- this link came, and was dropped at once
+  refused : L → Event L
+  -- the service told this to the connection under this key
+  told : ℕ → Said → Event L
+  -- a turn of the connection under this key ended so, with its link as it was then; that of one that is over is dropped
+  turned : ℕ → L → Turn → Event L
+  -- the connection under this key was let go, since it had been idle
+  dropped : ℕ → Event L
+
+-- a connection as its seat keeps it
+pub record Place (L : Type 0) : Type 0 where
+  pub seat : SeatState L
+  -- whether it had a turn, or came, since that was last asked
+  pub is_fresh : Bool
+  -- whether the reads of its last turn were used up
+  pub is_spent : Bool
+
+-- The account of a key: the link with which its connection came, and all that it was told since; none where there is no connection.
+abbrev pub Account : Type 0 → Type 0
+Account L = Option (L × List Said)
+
+-- it was told this too
+abbrev pub told_more : {L : Type 0} → Said → Account L → Account L
+told_more x None = None
+told_more x (Some account) = Some (account.0, account.1 ++ x ∷ [])
+
+-- a connection that is over has no account any more
+abbrev pub after_turn : {L : Type 0} → Turn → Account L → Account L
+after_turn Waiting account = account
+after_turn Spent account = account
+after_turn (Over result) account = None
+
+abbrev pub account_after : {L : Type 0} → ℕ → Account L → Event L → Account L
+account_after key account (came j link) = if j == key then Some (link, []) else account
+account_after key account (refused link) = account
+account_after key account (told j x) = if j == key then told_more x account else account
+account_after key account (turned j link turn) = if j == key then after_turn turn account else account
+account_after key account (dropped j) = if j == key then None else account
+
+-- the account of a key after these events
+abbrev pub account_of : {L : Type 0} → ℕ → Account L → List (Event L) → Account L
+account_of key account [] = account
+account_of key account (e ∷ es) = account_of key (account_after key account e) es
+
+-- all this was told to the connection under a key
+abbrev pub by_key : {L : Type 0} → ℕ → List Said → List (Event L)
+by_key {L} key xs = map (λ (x : Said). let e : Event L = told key x in e) xs
+
+-- the connection under a key had a turn
+abbrev pub HasTurn : {L : Type 0} → ℕ → List (Event L) → Type 0
+HasTurn {L} key events = (earlier later : List (Event L)) × (link : L) × (turn : Turn) × (events ≡ earlier ++ turned key link turn ∷ later)
+
+-- the links that came, in order
+abbrev pub links_of : {L : Type 0} → List (Event L) → List L
+links_of [] = []
+links_of (came key link ∷ es) = link ∷ links_of es
+links_of (refused link ∷ es) = link ∷ links_of es
+links_of (told key x ∷ es) = links_of es
+links_of (turned key link turn ∷ es) = links_of es
+links_of (dropped key ∷ es) = links_of es

@@ -1,0 +1,4 @@
+pub mod Accepting
+pub mod Events
+pub mod Seats
+pub mod Turns

@@ -1,0 +1,108 @@
+-- What connections that take turns at one service stand for.
+use Rattle.std.specs.Prelude.{◌≡◌, ℕ, ◌-◌, ◌^◌, ◌≤◌, List, [], ◌∷◌, ◌++◌, length, Option, Some, None, IsSome, Result, Ok, Err, Bool, true, false, if◌then◌else◌, IsTrue}
+use Rattle.modbus_link.specs.Line.{LinkMeaning}
+use Rattle.modbus_link.specs.Outside.{cuts_made}
+use Rattle.modbus_server.specs.declared.error.ProcessError.{ProcessError}
+use Rattle.modbus_server.specs.Framing.{Framing}
+use Rattle.modbus_service.specs.Answering.{Answering}
+use Rattle.modbus_service.specs.Exchange.{GivesOutcome}
+use Rattle.modbus_turn.specs.declared.turn.Turn.{Turn}
+use Rattle.modbus_turn.specs.declared.turn.Turn.TheVariants.{Waiting, Spent, Over}
+use Rattle.modbus_turn.specs.InTurn.{Said}
+use Rattle.modbus_turn.specs.Turn.{SeatState, StandsAlone, RanAlone}
+use Rattle.slab.specs.Slab.{Slab, get}
+use Rattle.modbus_hub.specs.Events.{Event, came, refused, told, turned, dropped, Place, Account, account_of, by_key, HasTurn, links_of}
+
+-- the connections of one thread
+pub record SeatsState (L : Type 0) : Type 0 where
+  pub seats : Slab (Place L)
+  -- whether one may be left whose reads were used up
+  pub has_spent : Bool
+  -- how many reads of a turn may give bytes
+  pub reads : ℕ
+
+-- how many reads of a connection may give bytes in all
+abbrev pub turns : ℕ
+turns = 2 ^ 64 - 1
+
+module _ (F : Framing) {S : Type 0} (A : Answering S) {L : Type 0} (M : LinkMeaning L) where
+  -- Where the connection with this account had a turn that ended so, the service goes from one state to another. It stays, but where the
+  -- connection is over for want of memory, which may leave the service in another state.
+  abbrev pub EndsTurn : Account L → L → S → S → Turn → Type 0
+  EndsTurn account last old new Waiting = new ≡ old
+  EndsTurn account last old new Spent = new ≡ old
+  EndsTurn None last old new (Over result) = ⊥
+  EndsTurn (Some account) last old new (Over result) = RanAlone F A M turns account.0 account.1 last old new result
+
+  -- what an event after these does to the service
+  abbrev pub Happens : List (Event L) → S → Event L → S → Type 0
+  Happens earlier old (came key link) new = (account_of key None earlier ≡ None) × (new ≡ old)
+  Happens earlier old (refused link) new = new ≡ old
+  Happens earlier old (told key x) new = IsSome (account_of key None earlier) × GivesOutcome (λ slave. slave) A old x new
+  Happens earlier old (turned key last turn) new = EndsTurn (account_of key None earlier) last old new turn
+  Happens earlier old (dropped key) new = new ≡ old
+
+  -- the service goes from one state to another over these events, which come after those
+  abbrev pub RunsOn : List (Event L) → S → List (Event L) → S → Type 0
+  RunsOn earlier old [] new = new ≡ old
+  RunsOn earlier old (e ∷ es) new = (next : S) × Happens earlier old e next × RunsOn (earlier ++ e ∷ []) next es new
+
+  -- there is a connection exactly where there is an account, and it stands for that
+  abbrev pub IsSeatedAs : Account L → Option (Place L) → Type 0
+  IsSeatedAs None None = Unit {0}
+  IsSeatedAs None (Some place) = ⊥
+  IsSeatedAs (Some account) None = ⊥
+  IsSeatedAs (Some account) (Some place) = IsTrue place.seat.process.connection.is_open × StandsAlone F A M turns account.0 account.1 place.seat
+
+  -- One run of the service over all that happened brought it here, and each connection stands for its account.
+  pub record AreSeated (start : S) (history : List (Event L)) (seats : Slab (Place L)) (service : S) : Type 0 where
+    pub run : RunsOn [] start history service
+    pub each : (key : ℕ) → IsSeatedAs (account_of key None history) (get seats key)
+
+  -- The connections go on, whatever happened before: some more happens, and of all that, with what was before, this is told.
+  abbrev pub SeatsGoOn : (List (Event L) → List (Event L) → Type 0) → Slab (Place L) → Slab (Place L) → S → S → Type 0
+  SeatsGoOn Tells old new before after = (start : S) (history : List (Event L)) → AreSeated start history old before
+      → (more : List (Event L)) × AreSeated start (history ++ more) new after × Tells history more
+
+module _ {L : Type 0} where
+  -- what the turn of a key is in a history: what its connection was told, and how it ended; nothing where there is no connection
+  abbrev pub IsTurnOf : ℕ → Option Turn → List (Event L) → List (Event L) → Type 0
+  IsTurnOf key None history more = (more ≡ []) × (account_of key None history ≡ None)
+  IsTurnOf key (Some turn) history more = (fresh : List Said) × (last : L) × (more ≡ by_key key fresh ++ turned key last turn ∷ [])
+
+  -- a link came under this key, or was dropped
+  abbrev pub Admits : {E : Type 0} → L → Result ℕ E → List (Event L) → List (Event L) → Type 0
+  Admits link (Ok key) history more = more ≡ came key link ∷ []
+  Admits link (Err error) history more = more ≡ refused link ∷ []
+
+  abbrev pub is_spent_at : Option (Place L) → Bool
+  is_spent_at None = false
+  is_spent_at (Some place) = place.is_spent
+
+  -- no link came, and the connection under a key had another turn, where the reads of its last turn were used up
+  abbrev pub TurnsIfSpent : ℕ → Option (Place L) → List (Event L) → List (Event L) → Type 0
+  TurnsIfSpent key slot history more = (links_of more ≡ []) × (IsTrue (is_spent_at slot) → HasTurn key more)
+
+  -- no link came, and each connection of which the reads were used up had another turn
+  abbrev pub ServesSpent : Slab (Place L) → List (Event L) → List (Event L) → Type 0
+  ServesSpent old history more = (links_of more ≡ []) × ((key : ℕ) → IsTrue (is_spent_at (get old key)) → HasTurn key more)
+
+  -- a connection stays where it had a turn, or came, since this was last asked
+  abbrev pub kept : Option (Place L) → Option (Place L)
+  kept None = None
+  kept (Some place) = if place.is_fresh then Some (record place { is_fresh = false }) else None
+
+  -- Of a link that tells its content: no more of its reads gave bytes than these.
+  abbrev pub TakesFew : LinkMeaning L → ℕ → L → L → Type 0
+  TakesFew M reads old new = IsTrue (M.input old).told → length (cuts_made (M.input old) (M.input new)) ≤ reads
+
+  -- the same of the connection under a key, where it goes on
+  abbrev pub TakesFewAt : LinkMeaning L → ℕ → Option (Place L) → Option (Place L) → Type 0
+  TakesFewAt M reads (Some old) (Some new) = TakesFew M reads old.seat.link new.seat.link
+  TakesFewAt M reads _ _ = Unit {0}
+
+  -- connections were let go, and nothing else happened
+  abbrev pub IsDrop : List (Event L) → List (Event L) → Type 0
+  IsDrop history [] = Unit {0}
+  IsDrop history (dropped key ∷ more) = IsDrop history more
+  IsDrop history (e ∷ more) = ⊥

@@ -1,0 +1,217 @@
+//! The connections of one thread.
+ghost use Rattle.std.specs.Prelude.{◌≡◌, ◌≢◌, ℕ, [], Some, IsTrue};
+ghost use Rattle.modbus_link.specs.Line.{meaning_of};
+ghost use Rattle.modbus_turn.specs.declared.turn.Turn.TheVariants.{Spent};
+ghost use Rattle.slab.specs.Slab.{Updates, get};
+ghost use Rattle.modbus_hub.specs.Seats.{SeatsGoOn, IsTurnOf, Admits, TurnsIfSpent, ServesSpent, IsDrop, TakesFewAt, is_spent_at, kept};
+
+use crate::seat::Seat;
+use modbus_link::PolledLink;
+use modbus_server::{Answerer, Framing};
+use modbus_turn::{InTurn, Turn};
+use slab::Slab;
+use std::alloc::{AllocError, Global};
+use std::marker::Model;
+
+/// What connections of one thread may take.
+#[derive(Clone, Copy, Debug, PartialEq, Eq, Drop)]
+pub struct Limits {
+    /// How many connections there are at a time.
+    pub connections: usize,
+    /// How many reads of a turn may give bytes. With none, no connection is ever served.
+    pub reads: u64,
+}
+
+/// Connections, each under a key, up to a limit.
+#[derive(Drop)]
+pub struct Seats<I: Framing, L> {
+    seats: Slab<Seat<I, L>>,
+    limits: Limits,
+    has_spent: bool,
+    alloc: Global,
+}
+
+/// A contract sees the connections, whether one may be left whose reads were used up, and how many reads a turn has.
+impl<I: Framing, L> Model for Seats<I, L> {
+    ghost use Rattle.modbus_hub.specs.Seats.{SeatsState};
+
+    ghost Value = { SeatsState L };
+
+    ghost view = { λ it. record { seats = it.seats; has_spent = it.has_spent; reads = it.limits.reads } };
+}
+
+impl<I: Framing, L: PolledLink + Drop> Seats<I, L> {
+    /// No connection yet. It keeps the allocator, and takes no memory yet.
+    pub fn new(alloc: Global, limits: Limits) -> Seats<I, L>
+        ensures empty { result.seats.slots ≡ [] }
+        ensures reads { result.reads ≡ limits.reads }
+    {
+        Seats {
+            seats: Slab::new(alloc),
+            limits,
+            has_spent: false,
+            alloc,
+        }
+    }
+
+    /// How many connections there are.
+    pub fn len(&self) -> usize {
+        self.seats.len()
+    }
+
+    /// Whether there is none.
+    pub fn is_empty(&self) -> bool {
+        self.seats.is_empty()
+    }
+
+    /// Whether there are as many as there may be.
+    pub fn is_full(&self) -> bool {
+        self.seats.len() >= self.limits.connections
+    }
+
+    /// Whether one may be left whose reads were used up, which is to have another turn though its link is not told of again.
+    pub fn has_spent(&self) -> bool
+        ensures { result ≡ self.now.has_spent }
+    {
+        self.has_spent
+    }
+
+    /// The key of the next connection.
+    pub fn next_key(&self) -> usize {
+        self.seats.vacant_key()
+    }
+
+    /// Takes a link as a new connection, and answers its key, which was `next_key`.
+    ///
+    /// # Errors
+    /// `AllocError` where memory is refused; the link is dropped.
+    pub fn admit<V: Answerer>(&mut self, link: L, service: &InTurn<V>) -> Result<usize, AllocError>
+        ensures spent { self.new.has_spent ≡ self.old.has_spent }
+        ensures reads { self.new.reads ≡ self.old.reads }
+        ensures goes_on { SeatsGoOn I.framing V.answering (meaning_of L.input L.output L.line)
+            (Admits link result) self.old.seats self.new.seats service.now.service
+            service.now.service }
+    {
+        let _service = service;
+        if self.seats.reserve(1).is_err() {
+            return Err(AllocError);
+        }
+        match Seat::open(self.alloc, link) {
+            Ok(seat) => Ok(self.seats.insert_reserved(seat)),
+            Err(error) => Err(error),
+        }
+    }
+
+    /// Gives the connection under a key its turn, and drops it where it is over; `None` where there is no connection that goes on.
+    ///
+    /// Only this connection is told something, by the service's own run; what it is told and how its turn ends is the turn that
+    /// `take_turn` gives it.
+    pub fn serve<V: Answerer>(&mut self, key: usize, service: &mut InTurn<V>) -> Option<Turn>
+        ensures own { service.new.ahead ≡ [] }
+        ensures goes_on { SeatsGoOn I.framing V.answering (meaning_of L.input L.output L.line)
+            (IsTurnOf key result) self.old.seats self.new.seats service.old.service
+            service.new.service }
+        ensures others { (other : _) → other ≢ key
+            → get self.new.seats other ≡ get self.old.seats other }
+        ensures bounded { TakesFewAt (meaning_of L.input L.output L.line) self.old.reads
+            (get self.old.seats key) (get self.new.seats key) }
+        ensures left { result ≡ Some Spent → IsTrue self.new.has_spent }
+        ensures stays { IsTrue self.old.has_spent → IsTrue self.new.has_spent }
+        ensures reads { self.new.reads ≡ self.old.reads }
+    {
+        let Some(seat) = self.seats.get_mut(key) else {
+            let _same = service.service();
+            return None;
+        };
+        if !seat.is_open() {
+            let _same = service.service();
+            return None;
+        }
+        match seat.serve(service, self.limits.reads) {
+            Turn::Waiting => Some(Turn::Waiting),
+            Turn::Spent => {
+                self.has_spent = true;
+                Some(Turn::Spent)
+            }
+            Turn::Over(answer) => {
+                let _ = self.seats.try_remove(key);
+                Some(Turn::Over(answer))
+            }
+        }
+    }
+
+    // Whether there is a connection under this key of which the reads of its last turn were used up.
+    fn is_spent(&self, key: usize) -> bool
+        ensures { result ≡ is_spent_at (get self.now.seats key) }
+    {
+        match self.seats.get(key) {
+            Some(seat) => seat.is_spent(),
+            None => false,
+        }
+    }
+
+    // Gives the connection under a key another turn, where the reads of its last turn were used up.
+    fn serve_if_spent<V: Answerer>(&mut self, key: usize, service: &mut InTurn<V>)
+        ensures own { service.new.ahead ≡ [] }
+        ensures goes_on { SeatsGoOn I.framing V.answering (meaning_of L.input L.output L.line)
+            (TurnsIfSpent key (get self.old.seats key)) self.old.seats self.new.seats
+            service.old.service service.new.service }
+        ensures others { (other : ℕ) → other ≢ key
+            → get self.new.seats other ≡ get self.old.seats other }
+        ensures reads { self.new.reads ≡ self.old.reads }
+    {
+        if self.is_spent(key) {
+            let _ = self.serve(key, service);
+        } else {
+            let _same = service.service();
+        }
+    }
+
+    /// Gives each connection another turn of which the reads of its last turn were used up.
+    pub fn serve_spent<V: Answerer>(&mut self, service: &mut InTurn<V>)
+        ensures own { service.new.ahead ≡ [] }
+        ensures goes_on { SeatsGoOn I.framing V.answering (meaning_of L.input L.output L.line)
+            (ServesSpent self.old.seats) self.old.seats self.new.seats service.old.service
+            service.new.service }
+        ensures reads { self.new.reads ≡ self.old.reads }
+    {
+        let _before = service.service();
+        self.has_spent = false;
+        'keys: for key in 0..self.seats.capacity() {
+            self.serve_if_spent(key, service);
+        }
+    }
+
+    // Lets the connection under a key go, unless it was served since this was last asked, or is new.
+    fn drop_if_idle<V: Answerer>(&mut self, key: usize, service: &InTurn<V>)
+        ensures goes_on { SeatsGoOn I.framing V.answering (meaning_of L.input L.output L.line)
+            IsDrop self.old.seats self.new.seats service.now.service service.now.service }
+        ensures lets_go { Updates self.old.seats self.new.seats key
+            (kept (get self.old.seats key)) }
+        ensures spent { self.new.has_spent ≡ self.old.has_spent }
+        ensures reads { self.new.reads ≡ self.old.reads }
+    {
+        let _service = service;
+        let Some(idle) = self.seats.get_mut(key) else {
+            return;
+        };
+        if idle.take_fresh() {
+            return;
+        }
+        let _ = self.seats.try_remove(key);
+    }
+
+    /// Lets each connection go that was not served since the last call of this, and came before it. The others stay as they are.
+    pub fn drop_idle<V: Answerer>(&mut self, service: &InTurn<V>)
+        ensures goes_on { SeatsGoOn I.framing V.answering (meaning_of L.input L.output L.line)
+            IsDrop self.old.seats self.new.seats service.now.service service.now.service }
+        ensures lets_go { (key : ℕ) → get self.new.seats key ≡ kept (get self.old.seats key) }
+        ensures spent { self.new.has_spent ≡ self.old.has_spent }
+        ensures reads { self.new.reads ≡ self.old.reads }
+    {
+        let _service = service;
+        'keys: for key in 0..self.seats.capacity() {
+            self.drop_if_idle(key, service);
+        }
+    }
+}

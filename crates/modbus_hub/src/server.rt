@@ -1,0 +1,347 @@
+//! Accepting connections and serving those that are ready.
+ghost use Rattle.std.specs.Prelude.{◌≡◌, ◌≤◌, ℕ, [], Ok, OnOk, OnErr};
+ghost use Rattle.modbus_link.specs.Line.{meaning_of};
+ghost use Rattle.modbus_link.specs.Outside.{Rose};
+ghost use Rattle.slab.specs.Slab.{get};
+ghost use Rattle.modbus_hub.specs.Seats.{SeatsGoOn, IsDrop, kept};
+ghost use Rattle.modbus_hub.specs.Turns.{Brings, Comes, Serves, ServesLeft, TakesRound};
+
+use crate::seats::{Limits, Seats};
+use modbus_frame::Terminated;
+use modbus_link::{Failed, Polled, PolledLink, Stop};
+use modbus_ready::{PolledAcceptor, Readiness, Ready};
+use modbus_server::{Answerer, Framing};
+use modbus_turn::InTurn;
+use std::alloc::Global;
+use std::marker::Model;
+use std::sync::Wait;
+use std::time::{Clock, Duration, Instant};
+
+/// How many milliseconds a peer that could not be accepted waits for the next try, where nothing else happens.
+const RETRY: u64 = 50;
+
+/// How many milliseconds pass at most between two looks at a signal to stop.
+const LOOK: u64 = 100;
+
+/// A server of many connections on one thread, over an acceptor and a source of readiness.
+#[derive(Drop)]
+pub struct EventServer<I: Framing, A: PolledAcceptor, S> {
+    acceptor: A,
+    readiness: S,
+    seats: Seats<I, A::Link>,
+    // whether a peer may wait to be accepted
+    is_asked: bool,
+}
+
+/// A contract sees the acceptor, the source of readiness and the connections.
+impl<I: Framing, A: PolledAcceptor, S> Model for EventServer<I, A, S> {
+    ghost use Rattle.modbus_hub.specs.Turns.{ServerState};
+
+    ghost Value = { ServerState A S A.Link };
+
+    ghost view = { λ it. record { acceptor = it.acceptor; readiness = it.readiness; seats = it.seats } };
+}
+
+impl<I, A, S> EventServer<I, A, S>
+where
+    I: Framing,
+    A: PolledAcceptor,
+    A::Link: PolledLink + Drop,
+    S: Readiness<A::Link>,
+{
+    /// A server within these limits. The peers that come when there are as many connections as there may be wait.
+    pub fn new(alloc: Global, acceptor: A, readiness: S, limits: Limits) -> EventServer<I, A, S>
+        ensures acceptor { result.acceptor ≡ acceptor }
+        ensures readiness { result.readiness ≡ readiness }
+        ensures empty { result.seats.seats.slots ≡ [] }
+        ensures reads { result.seats.reads ≡ limits.reads }
+    {
+        EventServer {
+            acceptor,
+            readiness,
+            seats: Seats::new(alloc, limits),
+            is_asked: true,
+        }
+    }
+
+    /// How many connections there are.
+    pub fn len(&self) -> usize {
+        self.seats.len()
+    }
+
+    /// Whether there is none.
+    pub fn is_empty(&self) -> bool {
+        self.seats.is_empty()
+    }
+
+    // Takes a link under the next key. One that can't be watched, or for which memory is wanting, is dropped.
+    fn admit<V: Answerer>(&mut self, mut link: A::Link, service: &InTurn<V>)
+        ensures acceptor { self.new.acceptor ≡ self.old.acceptor }
+        ensures later { S.faults self.old.readiness ≤ S.faults self.new.readiness }
+        ensures goes_on { SeatsGoOn I.framing V.answering
+            (meaning_of A.Link.input A.Link.output A.Link.line) (Brings link) self.old.seats.seats
+            self.new.seats.seats service.now.service service.now.service }
+    {
+        let key = self.seats.next_key();
+        if self.readiness.watch(&mut link, key).is_err() {
+            return;
+        }
+        let _ = self.seats.admit(link, service);
+    }
+
+    // Accepts the next peer that waits, where there is room; whether another may wait then. After a fault the others wait for the next try.
+    fn accept_one<V: Answerer>(&mut self, service: &InTurn<V>) -> bool
+        ensures later { S.faults self.old.readiness ≤ S.faults self.new.readiness }
+        ensures goes_on { SeatsGoOn I.framing V.answering
+            (meaning_of A.Link.input A.Link.output A.Link.line)
+            (Comes A.accepts self.old.acceptor self.new.acceptor) self.old.seats.seats
+            self.new.seats.seats service.now.service service.now.service }
+    {
+        let _service = service;
+        if self.seats.is_full() {
+            return false;
+        }
+        match self.acceptor.poll_accept() {
+            Ok(Polled::Ready(link)) => {
+                self.admit(link, service);
+                true
+            }
+            Ok(Polled::Pending) => {
+                self.is_asked = false;
+                false
+            }
+            Err(Failed) => false,
+        }
+    }
+
+    // Accepts all peers that wait, up to the limit.
+    fn accept_all<V: Answerer>(&mut self, service: &InTurn<V>)
+        ensures later { S.faults self.old.readiness ≤ S.faults self.new.readiness }
+        ensures goes_on { SeatsGoOn I.framing V.answering
+            (meaning_of A.Link.input A.Link.output A.Link.line)
+            (Comes A.accepts self.old.acceptor self.new.acceptor) self.old.seats.seats
+            self.new.seats.seats service.now.service service.now.service }
+    {
+        let _service = service;
+        'peers: for _ in 0..u64::MAX {
+            if !self.accept_one(service) {
+                return;
+            }
+        }
+    }
+
+    // Does what is to be done where this may be ready.
+    fn take<V: Answerer>(&mut self, ready: Option<Ready>, service: &mut InTurn<V>)
+        ensures own { service.new.ahead ≡ [] }
+        ensures acceptor { self.new.acceptor ≡ self.old.acceptor }
+        ensures readiness { self.new.readiness ≡ self.old.readiness }
+        ensures goes_on { SeatsGoOn I.framing V.answering
+            (meaning_of A.Link.input A.Link.output A.Link.line) Serves self.old.seats.seats
+            self.new.seats.seats service.old.service service.new.service }
+    {
+        match ready {
+            Some(Ready::Link(key)) => {
+                let _ = self.seats.serve(key, service);
+            }
+            Some(Ready::Peer) => {
+                self.is_asked = true;
+                let _same = service.service();
+            }
+            None => {
+                let _same = service.service();
+            }
+        }
+    }
+
+    // Gives each connection its turn that the last wait found ready.
+    fn serve_ready<V: Answerer>(&mut self, service: &mut InTurn<V>)
+        ensures own { service.new.ahead ≡ [] }
+        ensures acceptor { self.new.acceptor ≡ self.old.acceptor }
+        ensures readiness { self.new.readiness ≡ self.old.readiness }
+        ensures goes_on { SeatsGoOn I.framing V.answering
+            (meaning_of A.Link.input A.Link.output A.Link.line) Serves self.old.seats.seats
+            self.new.seats.seats service.old.service service.new.service }
+    {
+        let _before = service.service();
+        'ready: for index in 0..self.readiness.ready().len() {
+            let ready = self.readiness.ready().get(index).copied();
+            self.take(ready, service);
+        }
+    }
+
+    // Gives each connection another turn whose reads were used up.
+    fn serve_left<V: Answerer>(&mut self, service: &mut InTurn<V>)
+        ensures own { service.new.ahead ≡ [] }
+        ensures acceptor { self.new.acceptor ≡ self.old.acceptor }
+        ensures readiness { self.new.readiness ≡ self.old.readiness }
+        ensures goes_on { SeatsGoOn I.framing V.answering
+            (meaning_of A.Link.input A.Link.output A.Link.line) (ServesLeft self.old.seats)
+            self.old.seats.seats self.new.seats.seats service.old.service service.new.service }
+    {
+        if self.seats.has_spent() {
+            self.seats.serve_spent(service);
+        } else {
+            let _same = service.service();
+        }
+    }
+
+    // Accepts the peers that wait, where one may.
+    fn accept_asked<V: Answerer>(&mut self, service: &InTurn<V>)
+        ensures later { S.faults self.old.readiness ≤ S.faults self.new.readiness }
+        ensures goes_on { SeatsGoOn I.framing V.answering
+            (meaning_of A.Link.input A.Link.output A.Link.line)
+            (Comes A.accepts self.old.acceptor self.new.acceptor) self.old.seats.seats
+            self.new.seats.seats service.now.service service.now.service }
+    {
+        let _service = service;
+        if self.is_asked {
+            self.accept_all(service);
+        }
+    }
+
+    // How long the next wait may take: no time where a connection is left, and no longer than until the next try, where an accept failed.
+    fn patience(&self, timeout: Option<Duration>) -> Option<Duration> {
+        if self.seats.has_spent() {
+            return Some(Duration::ZERO);
+        }
+        if !self.is_asked || self.seats.is_full() {
+            return timeout;
+        }
+        shorter(timeout, Duration::from_millis(RETRY))
+    }
+
+    /// Waits until something may be ready, or the time is up. Then it gives each connection a turn whose last turn was cut off by its limit
+    /// of reads, and each that is ready, drops those that are over, and accepts the peers that wait. A connection that fails ends alone.
+    ///
+    /// # Errors
+    /// `Failed`, only where the count of faults of the source of readiness rose; then nothing was done.
+    pub fn turn<V: Answerer>(
+        &mut self,
+        service: &mut InTurn<V>,
+        timeout: Option<Duration>,
+    ) -> Result<(), Failed>
+        ensures own { service.new.ahead ≡ [] }
+        ensures later { S.faults self.old.readiness ≤ S.faults self.new.readiness }
+        ensures cause { OnErr result (Rose (S.faults self.old.readiness)
+            (S.faults self.new.readiness)) }
+        ensures goes_on { SeatsGoOn I.framing V.answering
+            (meaning_of A.Link.input A.Link.output A.Link.line)
+            (TakesRound A.accepts self.old.seats self.old.acceptor self.new.acceptor result)
+            self.old.seats.seats self.new.seats.seats service.old.service service.new.service }
+    {
+        let _before = service.service();
+        let patience = self.patience(timeout);
+        match self.readiness.wait(patience) {
+            Err(failed) => Err(failed),
+            Ok(()) => {
+                self.serve_left(service);
+                self.serve_ready(service);
+                self.accept_asked(service);
+                Ok(())
+            }
+        }
+    }
+
+    /// Lets each connection go that was not served since the last call of this, and came before it.
+    pub fn drop_idle<V: Answerer>(&mut self, service: &InTurn<V>)
+        ensures acceptor { self.new.acceptor ≡ self.old.acceptor }
+        ensures readiness { self.new.readiness ≡ self.old.readiness }
+        ensures goes_on { SeatsGoOn I.framing V.answering
+            (meaning_of A.Link.input A.Link.output A.Link.line) IsDrop self.old.seats.seats
+            self.new.seats.seats service.now.service service.now.service }
+        ensures lets_go { (key : ℕ) → get self.new.seats.seats key
+            ≡ kept (get self.old.seats.seats key) }
+    {
+        self.seats.drop_idle(service);
+    }
+
+    // A round, and then, where it is due, lets the idle connections go.
+    fn round<R: Clock, V: Answerer>(
+        &mut self,
+        rt: &R,
+        service: &mut InTurn<V>,
+        idle: Option<Duration>,
+        swept: &mut Option<Instant>,
+    ) -> Result<(), Failed>
+        ensures own { service.new.ahead ≡ [] }
+        ensures later { S.faults self.old.readiness ≤ S.faults self.new.readiness }
+        ensures cause { OnErr result (Rose (S.faults self.old.readiness)
+            (S.faults self.new.readiness)) }
+        ensures goes_on { SeatsGoOn I.framing V.answering
+            (meaning_of A.Link.input A.Link.output A.Link.line)
+            (Comes A.accepts self.old.acceptor self.new.acceptor) self.old.seats.seats
+            self.new.seats.seats service.old.service service.new.service }
+    {
+        let timeout = shorter(idle, Duration::from_millis(LOOK));
+        match self.turn(service, timeout) {
+            Err(failed) => Err(failed),
+            Ok(()) => {
+                if is_due(rt, *swept, idle) {
+                    *swept = Instant::now(rt).ok();
+                    self.drop_idle(service);
+                }
+                Ok(())
+            }
+        }
+    }
+
+    /// Serves round by round until the signal is set, which is `Aborted`; it never answers `Finished`. It looks at the signal before each
+    /// round, and at least ten times a second. With `idle`, a connection that has no turn for that long is let go, at the latest after
+    /// twice that time.
+    ///
+    /// Whatever the readiness that it is told of: there is one run of the service over what all connections were told, in the order of
+    /// their turns; the links that came are those that the acceptor gave; and each connection has, from the link as it came, the contract
+    /// of `process`.
+    ///
+    /// # Errors
+    /// `Failed`, only where the count of faults of the source of readiness rose.
+    pub fn serve_until<R: Wait + Clock, V: Answerer, X: Stop>(
+        &mut self,
+        rt: &R,
+        service: &mut InTurn<V>,
+        idle: Option<Duration>,
+        abort_signal: &mut X,
+    ) -> Result<Terminated, Failed>
+        ensures own { service.new.ahead ≡ [] }
+        ensures aborted { OnOk result ((result ≡ Ok Terminated.Aborted)
+            × Rose (X.stops abort_signal.old) (X.stops abort_signal.new)) }
+        ensures cause { OnErr result (Rose (S.faults self.old.readiness)
+            (S.faults self.new.readiness)) }
+        ensures goes_on { SeatsGoOn I.framing V.answering
+            (meaning_of A.Link.input A.Link.output A.Link.line)
+            (Comes A.accepts self.old.acceptor self.new.acceptor) self.old.seats.seats
+            self.new.seats.seats service.old.service service.new.service }
+    {
+        let _before = service.service();
+        let mut swept = Instant::now(rt).ok();
+        'rounds: for _ in rt.forever() {
+            if abort_signal.is_set() {
+                return Ok(Terminated::Aborted);
+            }
+            match self.round(rt, service, idle, &mut swept) {
+                Ok(()) => {}
+                Err(failed) => return Err(failed),
+            }
+        }
+        unreachable!()
+    }
+}
+
+// The shorter of two times, where none is any time.
+fn shorter(timeout: Option<Duration>, other: Duration) -> Option<Duration> {
+    match timeout {
+        Some(timeout) if timeout < other => Some(timeout),
+        _ => Some(other),
+    }
+}
+
+// Whether so much time is over since then. It is not where the clock fails.
+fn is_due<R: Clock>(rt: &R, since: Option<Instant>, period: Option<Duration>) -> bool {
+    let (Some(since), Some(period)) = (since, period) else {
+        return false;
+    };
+    match since.elapsed(rt) {
+        Ok(elapsed) => elapsed >= period,
+        Err(_) => false,
+    }
+}

@@ -1,0 +1,89 @@
+//! Two connections whose requests are interleaved, by a schedule that the test sets.
+
+use modbus_hub::{EventServer, Limits};
+use modbus_link::{MemoryLink, MemorySink, MemorySource, MemoryStop, Polled};
+use modbus_ready::{Ready, ScheduledAcceptor, ScheduledReadiness};
+use modbus_server::Terminated;
+use modbus_server::tcp::AduBuffer;
+use modbus_store::{RegisterStore, Sizes};
+use modbus_turn::InTurn;
+use std::alloc::{AllocError, Global};
+use std::test::Fail;
+
+/// A write of 1234 hexadecimal to the register at 5, and a read of the one at 6; 12 bytes each.
+const FIRST: [u8; 24] = [
+    0, 1, 0, 0, 0, 6, 1, 6, 0, 5, 0x12, 0x34, 0, 2, 0, 0, 0, 6, 1, 3, 0, 6, 0, 1,
+];
+
+/// Its replies, where the other had written 7 to the register at 6 before that was read.
+const FIRST_REPLIES: [u8; 23] = [
+    0, 1, 0, 0, 0, 6, 1, 6, 0, 5, 0x12, 0x34, 0, 2, 0, 0, 0, 5, 1, 3, 2, 0, 7,
+];
+
+/// A read of the register at 5, and a write of 7 to the one at 6.
+const SECOND: [u8; 24] = [
+    0, 3, 0, 0, 0, 6, 1, 3, 0, 5, 0, 1, 0, 4, 0, 0, 0, 6, 1, 6, 0, 6, 0, 7,
+];
+
+/// Its replies, where the other had not written the register at 5 before it was read.
+const SECOND_REPLIES: [u8; 23] = [
+    0, 3, 0, 0, 0, 5, 1, 3, 2, 0, 0, 0, 4, 0, 0, 0, 6, 1, 6, 0, 6, 0, 7,
+];
+
+/// A link that gives these bytes, 12 at a read.
+fn link(alloc: Global, input: &[u8]) -> Result<MemoryLink, AllocError> {
+    let source = MemorySource::new(alloc, input, &[12], &[])?;
+    let sink = MemorySink::new(alloc, 256, 256, &[])?;
+    Ok(MemoryLink::new(source, sink, false))
+}
+
+/// A device with eight holding registers.
+fn device(alloc: Global) -> Option<RegisterStore> {
+    let sizes = Sizes {
+        coils: 0,
+        discrete_inputs: 0,
+        holding_registers: 8,
+        input_registers: 0,
+    };
+    RegisterStore::new(alloc, sizes, false).ok()
+}
+
+/// Each is served by one read a turn: the second before the first, then both again, and then to their ends.
+#[test]
+fn two_connections_take_turns(rt: HostRuntime) -> Result<(), Fail> {
+    let alloc = rt.alloc();
+    let mut first = link(alloc, &FIRST)?;
+    let mut second = link(alloc, &SECOND)?;
+    let Some(store) = device(alloc) else {
+        return Err(Fail);
+    };
+    let mut service = InTurn::new(store);
+    let answers = vec![in alloc;
+        Ok(Polled::Ready(&mut first)),
+        Ok(Polled::Ready(&mut second)),
+    ]?;
+    let schedule = [
+        Ready::Peer,
+        Ready::Link(1),
+        Ready::Link(0),
+        Ready::Link(7),
+        Ready::Peer,
+    ];
+    let limits = Limits {
+        connections: 2,
+        reads: 1,
+    };
+    let mut server: EventServer<AduBuffer, _, _> = EventServer::new(
+        alloc,
+        ScheduledAcceptor::new(answers),
+        ScheduledReadiness::new(alloc, &schedule)?,
+        limits,
+    );
+    let ended = server.serve_until(&rt, &mut service, None, &mut MemoryStop::new(5));
+    assert_eq!(rt; ended, Ok(Terminated::Aborted));
+    assert!(rt; server.is_empty());
+    drop(server);
+    assert!(rt; first.sink().bytes() == FIRST_REPLIES.as_slice());
+    assert!(rt; second.sink().bytes() == SECOND_REPLIES.as_slice());
+    Ok(())
+}

@@ -1,0 +1,36 @@
+//! A program that serves Modbus to many connections on one thread: `modbus_loop tcp PORT`, or `modbus_loop rtu PORT`.
+//!
+//! It listens on 127.0.0.1. All connections share one device of four tables of 1024 entries that hold 0 at first. `tcp` frames requests as
+//! ADUs with an MBAP header, `rtu` as RTU frames over TCP, and then the device takes part in broadcasts.
+#![tactic(auto)]
+
+mod serving;
+mod words;
+
+use mio::net::TcpListener;
+use serving::serve;
+use std::net::SocketAddr;
+use std::process::ExitCode;
+use words::parse_args;
+
+/// The status of words that are no form.
+const USAGE: u8 = 2;
+
+/// The status where the system refuses something.
+const REFUSED: u8 = 1;
+
+fn main(rt: HostRuntime) -> ExitCode {
+    let Some(task) = parse_args(&rt) else {
+        let _ = eprintln!(rt; "modbus_loop: usage: modbus_loop tcp PORT, modbus_loop rtu PORT");
+        return ExitCode::from(USAGE);
+    };
+    let address = SocketAddr::from(([127, 0, 0, 1], task.port));
+    let Ok(listener) = TcpListener::bind(&rt, address) else {
+        let _ = eprintln!(rt; "modbus_loop: bind fault");
+        return ExitCode::from(REFUSED);
+    };
+    let _ = eprintln!(rt; "modbus_loop: listening on {address}");
+    let fault = serve(&rt, task.mode, listener);
+    let _ = eprintln!(rt; "modbus_loop: {fault}");
+    ExitCode::from(REFUSED)
+}

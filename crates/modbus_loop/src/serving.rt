@@ -1,0 +1,88 @@
+//! Serving a port on one thread.
+
+use crate::words::Mode;
+use mio::net::TcpListener;
+use modbus_hub::{EventServer, Limits};
+use modbus_link::FlagStop;
+use modbus_ready::{MioReadiness, PolledTcpAcceptor};
+use modbus_rtu::Inbox;
+use modbus_server::Framing;
+use modbus_server::tcp::AduBuffer;
+use modbus_store::{RegisterStore, Sizes, StoreError};
+use modbus_turn::InTurn;
+use std::alloc::{AllocGlobal, Global};
+use std::net::Net;
+use std::sync::Wait;
+use std::time::{Clock, Duration};
+
+/// How many entries each table has.
+const ENTRIES: u32 = 1024;
+
+/// How many connections there are at a time, where the system has as many file descriptors.
+const CONNECTIONS: usize = 10_000;
+
+/// How many reads of a turn may give bytes.
+const READS: u64 = 16;
+
+/// How many seconds a connection may stay that has no turn.
+const IDLE: u64 = 600;
+
+/// The device that all connections share.
+fn open_store(alloc: Global, broadcast: bool) -> Result<RegisterStore, StoreError> {
+    let sizes = Sizes {
+        coils: ENTRIES,
+        discrete_inputs: ENTRIES,
+        holding_registers: ENTRIES,
+        input_registers: ENTRIES,
+    };
+    RegisterStore::new(alloc, sizes, broadcast)
+}
+
+/// Serves a listener until the system refuses something, and says what.
+fn serve_listener<I: Framing, R: Net + AllocGlobal + Wait + Clock>(
+    rt: &R,
+    listener: TcpListener,
+    store: RegisterStore,
+) -> &'static str {
+    let Ok(mut signal) = FlagStop::new(rt.alloc()) else {
+        return "no memory";
+    };
+    let Ok(mut readiness) = MioReadiness::new(rt) else {
+        return "epoll fault";
+    };
+    let mut acceptor = PolledTcpAcceptor::new(listener);
+    if readiness.watch_acceptor(&mut acceptor).is_err() {
+        return "epoll fault";
+    }
+    let limits = Limits {
+        connections: CONNECTIONS,
+        reads: READS,
+    };
+    let mut server: EventServer<I, _, _> = EventServer::new(
+        rt.alloc(),
+        acceptor,
+        readiness,
+        limits,
+    );
+    let mut service = InTurn::new(store);
+    let idle = Some(Duration::from_secs(IDLE));
+    match server.serve_until(rt, &mut service, idle, &mut signal) {
+        Ok(_) => "stopped",
+        Err(_) => "epoll fault",
+    }
+}
+
+/// Serves a listener in this mode until the system refuses something, and says what.
+pub fn serve<R: Net + AllocGlobal + Wait + Clock>(
+    rt: &R,
+    mode: Mode,
+    listener: TcpListener,
+) -> &'static str {
+    let Ok(store) = open_store(rt.alloc(), mode == Mode::Rtu) else {
+        return "no memory";
+    };
+    match mode {
+        Mode::Tcp => serve_listener::<AduBuffer, R>(rt, listener, store),
+        Mode::Rtu => serve_listener::<Inbox, R>(rt, listener, store),
+    }
+}

@@ -1,0 +1,18 @@
+//! What a program of one thread and many links waits on: which of them may be ready, and who connects.
+//!
+//! Nothing is rested on what a source of readiness says, since a link that is asked and is not ready says so itself. So a `Readiness` promises
+//! its count of faults alone. There is one over mio (epoll), with links and an acceptor over TCP that never wait, and one in memory that
+//! follows a schedule.
+#![tactic(auto)]
+
+mod acceptor;
+mod mio_readiness;
+mod readiness;
+mod tcp_acceptor;
+mod tcp_link;
+
+pub use acceptor::{PolledAcceptor, ScheduledAcceptor};
+pub use mio_readiness::MioReadiness;
+pub use readiness::{Readiness, Ready, ScheduledReadiness};
+pub use tcp_acceptor::PolledTcpAcceptor;
+pub use tcp_link::PolledTcpLink;

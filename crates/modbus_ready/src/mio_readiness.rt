@@ -1,0 +1,132 @@
+//! Which links over TCP may be ready, by epoll.
+ghost use Rattle.std.specs.Prelude.{◌≡◌, ◌≤◌, IfOk, OnErr};
+ghost use Rattle.modbus_link.specs.Outside.{Rose};
+
+use crate::readiness::{Readiness, Ready};
+use crate::tcp_acceptor::PolledTcpAcceptor;
+use crate::tcp_link::PolledTcpLink;
+use mio::{Events, Poll, Token};
+use modbus_link::Failed;
+use std::alloc::{AllocGlobal, Global};
+use std::io;
+use std::io::ErrorKind;
+use std::marker::Model;
+use std::net::Net;
+use std::time::Duration;
+
+/// How many events one wait takes at most.
+const EVENTS: usize = 1024;
+
+/// The token of the acceptor, which no key is.
+const PEER: Token = Token(usize::MAX);
+
+/// A source of readiness over epoll, which tells each change once (edge-triggered).
+///
+/// It counts its faults, and tells nothing else: what the system reports is trusted no further than that something may be ready.
+#[derive(Drop)]
+pub struct MioReadiness {
+    poll: Poll,
+    events: Events,
+    ready: Vec<Ready>,
+    faults: u64,
+}
+
+/// What a contract knows of it is how often it failed.
+impl Model for MioReadiness {
+    ghost use Rattle.std.specs.Prelude.{ℕ};
+
+    ghost Value = { ℕ };
+
+    ghost view = { λ it. it.faults };
+}
+
+impl MioReadiness {
+    /// One that watches nothing yet.
+    ///
+    /// # Errors
+    /// Where the system or memory is refused.
+    pub fn new<R: Net + AllocGlobal>(rt: &R) -> io::Result<MioReadiness>
+        ensures { IfOk result (λ it. it ≡ 0) }
+    {
+        let alloc: Global = rt.alloc();
+        Ok(MioReadiness {
+            poll: Poll::new(rt)?,
+            events: Events::with_capacity(alloc, EVENTS)?,
+            ready: Vec::with_capacity(alloc, EVENTS)?,
+            faults: 0,
+        })
+    }
+
+    fn count_fault(&mut self) -> Failed
+        ensures later { self.old ≤ self.new }
+        ensures rose { Rose self.old self.new }
+    {
+        self.faults = self.faults.saturating_add(1);
+        Failed
+    }
+
+    /// Watches an acceptor too, and does nothing else to it.
+    ///
+    /// # Errors
+    /// `Failed`, only where the count of faults rose: the system refuses.
+    pub fn watch_acceptor(&mut self, acceptor: &mut PolledTcpAcceptor) -> Result<(), Failed>
+        ensures acceptor { acceptor.new ≡ acceptor.old }
+        ensures later { self.old ≤ self.new }
+        ensures cause { OnErr result (Rose self.old self.new) }
+    {
+        match acceptor.register(self.poll.registry(), PEER) {
+            Ok(()) => Ok(()),
+            Err(_) => Err(self.count_fault()),
+        }
+    }
+
+    // Keeps what the poll found; false where memory is refused.
+    fn take_events(&mut self) -> bool
+        ensures { self.new ≡ self.old }
+    {
+        for event in &self.events {
+            let ready = match event.token() {
+                PEER => Ready::Peer,
+                Token(key) => Ready::Link(key),
+            };
+            if self.ready.push(ready).is_err() {
+                return false;
+            }
+        }
+        true
+    }
+}
+
+impl Readiness<PolledTcpLink> for MioReadiness {
+    ghost faults = { λ it. it };
+
+    fn watch(&mut self, link: &mut PolledTcpLink, key: usize) -> Result<(), Failed> {
+        match link.register(self.poll.registry(), Token(key)) {
+            Ok(()) => Ok(()),
+            Err(_) => Err(self.count_fault()),
+        }
+    }
+
+    /// Waits until something may be ready, or the time is up. A wait that a signal interrupts found nothing.
+    ///
+    /// # Errors
+    /// `Failed` where the system refuses, or memory.
+    fn wait(&mut self, timeout: Option<Duration>) -> Result<(), Failed> {
+        self.ready.clear();
+        match self.poll.poll(&mut self.events, timeout) {
+            Ok(()) => {
+                if self.take_events() {
+                    Ok(())
+                } else {
+                    Err(self.count_fault())
+                }
+            }
+            Err(error) if error.kind() == ErrorKind::Interrupted => Ok(()),
+            Err(_) => Err(self.count_fault()),
+        }
+    }
+
+    fn ready(&self) -> &[Ready] {
+        &self.ready
+    }
+}

@@ -1,0 +1,114 @@
+//! Which links may be ready.
+ghost use Rattle.std.specs.Prelude.{◌≡◌, ℕ, ◌≤◌, IfOk, OnErr};
+ghost use Rattle.modbus_link.specs.Outside.{Rose};
+
+use modbus_link::Failed;
+use std::alloc::{AllocError, Global};
+use std::marker::Model;
+use std::time::Duration;
+
+/// What may be ready.
+#[derive(Clone, Copy, Debug, PartialEq, Eq, Drop)]
+pub enum Ready {
+    /// A peer may wait to be accepted.
+    Peer,
+    /// The link that is watched under this key may have bytes or take some, or have failed.
+    Link(usize),
+}
+
+/// What watches links of one type, and waits until some may be ready.
+///
+/// It may tell of a link that is not ready, and of a key that is watched no more. One that is not asked until it is not ready need not be
+/// told of again.
+pub trait Readiness<L> {
+    // how often it failed
+    ghost faults: { Self → ℕ };
+
+    /// Watches a link under a key, and does nothing else to it. A link that is dropped is watched no more.
+    ///
+    /// # Errors
+    /// `Failed`, only where the count of faults rose: the link can't be watched.
+    fn watch(&mut self, link: &mut L, key: usize) -> Result<(), Failed>
+        ensures link { link.new ≡ link.old }
+        ensures later { faults self.old ≤ faults self.new }
+        ensures cause { OnErr result (Rose (faults self.old) (faults self.new)) };
+
+    /// Waits until something may be ready, or the time is up; `None` for any time.
+    ///
+    /// # Errors
+    /// `Failed`, only where the count of faults rose; then nothing is ready.
+    fn wait(&mut self, timeout: Option<Duration>) -> Result<(), Failed>
+        ensures later { faults self.old ≤ faults self.new }
+        ensures cause { OnErr result (Rose (faults self.old) (faults self.new)) };
+
+    /// What the last wait found.
+    fn ready(&self) -> &[Ready];
+}
+
+/// A source of readiness in memory, for tests: each wait finds what stands next in its schedule, whatever is ready, and fails after the
+/// last.
+#[derive(Drop)]
+pub struct ScheduledReadiness {
+    schedule: Vec<Ready>,
+    round: usize,
+    now: Vec<Ready>,
+    faults: u64,
+}
+
+/// What a contract knows of it is how often it failed.
+impl Model for ScheduledReadiness {
+    ghost use Rattle.std.specs.Prelude.{ℕ};
+
+    ghost Value = { ℕ };
+
+    ghost view = { λ it. it.faults };
+}
+
+impl ScheduledReadiness {
+    /// One that finds these, one at each wait.
+    ///
+    /// # Errors
+    /// `AllocError` where memory is refused.
+    pub fn new(alloc: Global, schedule: &[Ready]) -> Result<ScheduledReadiness, AllocError>
+        ensures { IfOk result (λ it. it ≡ 0) }
+    {
+        Ok(ScheduledReadiness {
+            schedule: Vec::from_slice(alloc, schedule)?,
+            round: 0,
+            now: Vec::with_capacity(alloc, 1)?,
+            faults: 0,
+        })
+    }
+
+    // What stands next in the schedule.
+    fn advance(&mut self) -> bool
+        ensures { self.new ≡ self.old }
+    {
+        self.now.clear();
+        let Some(next) = self.schedule.get(self.round) else {
+            return false;
+        };
+        self.round = self.round.saturating_add(1);
+        self.now.push(*next).is_ok()
+    }
+}
+
+impl<L> Readiness<L> for ScheduledReadiness {
+    ghost faults = { λ it. it };
+
+    fn watch(&mut self, _link: &mut L, _key: usize) -> Result<(), Failed> {
+        Ok(())
+    }
+
+    fn wait(&mut self, _timeout: Option<Duration>) -> Result<(), Failed> {
+        if self.advance() {
+            return Ok(());
+        }
+        self.faults = self.faults.saturating_add(1);
+        Err(Failed)
+    }
+
+    fn ready(&self) -> &[Ready] {
+        &self.now
+    }
+}

@@ -1,0 +1,98 @@
+//! What accepts TCP connections and never waits: the trusted edge, which tells only what it counts.
+ghost use Rattle.std.specs.Prelude.{◌≡◌};
+ghost use Rattle.modbus_link.specs.Listens.{tally_at_start};
+ghost use Rattle.modbus_ready.specs.Accepting.{tally_by};
+ghost use Rattle.modbus_ready.specs.Polling.{polled_tcp_at_start, GivesNewLink};
+
+use crate::acceptor::PolledAcceptor;
+use crate::tcp_link::PolledTcpLink;
+use mio::net::{TcpListener, TcpStream};
+use mio::{Interest, Registry, Token};
+use modbus_link::{Failed, Polled};
+use std::io::{Error, ErrorKind, Result as IoResult};
+use std::marker::Model;
+
+/// What accepts TCP connections, and gives links over them.
+#[derive(Drop)]
+pub struct PolledTcpAcceptor {
+    listener: TcpListener,
+    given: u64,
+    faults: u64,
+}
+
+/// What a contract knows of it is how many links it gave, and how often it failed.
+impl Model for PolledTcpAcceptor {
+    ghost use Rattle.modbus_link.specs.Listens.{Tally};
+
+    ghost Value = { Tally };
+
+    ghost view = { λ acceptor. record { given = acceptor.given; faults = acceptor.faults } };
+}
+
+impl PolledTcpAcceptor {
+    /// An acceptor over `listener` that was never asked.
+    pub fn new(listener: TcpListener) -> PolledTcpAcceptor
+        ensures { result ≡ tally_at_start }
+    {
+        PolledTcpAcceptor {
+            listener,
+            given: 0,
+            faults: 0,
+        }
+    }
+
+    /// Has a poll of this registry tell when a peer may wait, under this token.
+    ///
+    /// # Errors
+    /// `Failed` where the system refuses; that is a fault of the poll.
+    pub fn register(&mut self, registry: &Registry, token: Token) -> Result<(), Failed>
+        ensures { self.new ≡ self.old }
+    {
+        match registry.register(&mut self.listener, token, Interest::READABLE) {
+            Ok(()) => Ok(()),
+            Err(_) => Err(Failed),
+        }
+    }
+}
+
+// One accept, tried again where a signal interrupts it, or the peer gave its connection up before it was accepted.
+fn accept_once(listener: &TcpListener) -> IoResult<TcpStream> {
+    for _ in 0..u64::MAX {
+        match listener.accept() {
+            Ok((stream, _)) => return Ok(stream),
+            Err(error) => match error.kind() {
+                ErrorKind::ConnectionAborted | ErrorKind::Interrupted => {}
+                _ => return Err(error),
+            },
+        }
+    }
+    Err(Error::from(ErrorKind::Interrupted))
+}
+
+impl PolledAcceptor for PolledTcpAcceptor {
+    type Link = PolledTcpLink;
+
+    ghost faults = { λ acceptor. acceptor.faults };
+
+    ghost given = { λ acceptor. acceptor.given };
+
+    ghost accepts = { λ old result new. GivesNewLink result × (new ≡ tally_by result old) };
+
+    /// The link of the next peer. A peer that gives its connection up before it is accepted is no fault.
+    ///
+    /// # Errors
+    /// `Failed` where the listener failed, as it does where no file descriptor is left.
+    fn poll_accept(&mut self) -> Result<Polled<PolledTcpLink>, Failed> {
+        match accept_once(&self.listener) {
+            Ok(stream) => {
+                self.given = self.given.saturating_add(1);
+                Ok(Polled::Ready(PolledTcpLink::new(stream)))
+            }
+            Err(error) if error.kind() == ErrorKind::WouldBlock => Ok(Polled::Pending),
+            Err(_) => {
+                self.faults = self.faults.saturating_add(1);
+                Err(Failed)
+            }
+        }
+    }
+}

@@ -1,0 +1,3 @@
+pub mod Rationing
+pub mod Taking
+pub mod Turning

@@ -1,0 +1,3 @@
+pub mod InTurn
+pub mod Rationed
+pub mod Turn
