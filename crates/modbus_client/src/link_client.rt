@@ -88,8 +88,8 @@ impl<P: Protocol, L> LinkClient<P, L> {
     }
 
     /// How many messages of other requests the last call dropped while it waited for its reply: ADUs of another transaction or unit, for a
-    /// client that drops them, and else 0. It is 0 before the first call, after a `send`, and after a
-    /// call of a client that is disconnected, and stands still at the end of its type.
+    /// client that drops them, and else 0. It is 0 before the first call, after a `send`, and after a call of a client that is disconnected,
+    /// and stands still at the end of its type.
     pub fn dropped(&self) -> u64
         ensures { result ≡ self.now.dropped }
     {
