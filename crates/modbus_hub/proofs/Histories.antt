@@ -1,13 +1,12 @@
 -- Histories of what happened to many connections.
-use Rattle.std.proofs.Common.{◌≡◌, ◌≢◌, ℕ, ◌==◌, Bool, List, [], ◌∷◌, ◌++◌, Option, Some, None, IsSome, refl, sym, ap, ◌∙◌, subst, append_assoc, append-nil, eq-eqb, ne_eqb}
+use Rattle.std.proofs.Common.{◌≡◌, ◌≢◌, ℕ, ◌==◌, Bool, List, [], ◌∷◌, ◌++◌, Some, None, IsSome, refl, sym, ap, ◌∙◌, subst, append_assoc, append-nil, eq-eqb, ne_eqb}
 use Rattle.std.specs.Prelude.{if◌then◌else◌}
 use Rattle.modbus_link.specs.Line.{LinkMeaning}
 use Rattle.modbus_service.specs.Answering.{Answering}
 use Rattle.modbus_server.specs.Framing.{Framing}
-use Rattle.modbus_turn.specs.declared.turn.Turn.{Turn}
 use Rattle.modbus_turn.specs.InTurn.{Said, RunOver}
-use Rattle.modbus_hub.specs.Events.{Event, came, refused, told, turned, dropped, Account, told_more, after_turn, account_after, account_of, by_key, HasTurn, links_of}
-use Rattle.modbus_hub.specs.Seats.{Happens, RunsOn}
+use Rattle.modbus_hub.specs.Events.{Event, came, refused, told, turned, dropped, Account, told_more, account_after, account_of, by_key, HasTurn, links_of}
+use Rattle.modbus_hub.specs.Seats.{RunsOn}
 
 module _ {L : Type 0} where
   pub at_key : (key j : ℕ) (here there : Account L) → j ≡ key → (if j == key then here else there) ≡ here

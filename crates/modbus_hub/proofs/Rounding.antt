@@ -5,9 +5,9 @@ use Rattle.modbus_link.specs.declared.polled.Polled.{Polled}
 use Rattle.modbus_link.specs.declared.polled.Polled.TheVariants.{Ready, Pending}
 use Rattle.modbus_turn.specs.declared.turn.Turn.{Turn}
 use Rattle.modbus_hub.specs.Accepting.{with_given, GivesByPolls, GivesLinks}
-use Rattle.modbus_hub.specs.Events.{Event, came, refused, told, turned, dropped, by_key, HasTurn, links_of}
+use Rattle.modbus_hub.specs.Events.{Event, came, refused, told, turned, dropped, by_key, links_of}
 use Rattle.modbus_hub.specs.Seats.{SeatsState, IsTurnOf, IsDrop}
-use Rattle.modbus_hub.specs.Turns.{Serves, Brings, TurnsLeft, ServesLeft, Comes, TakesRound}
+use Rattle.modbus_hub.specs.Turns.{Serves, Brings, ServesLeft, Comes, TakesRound}
 use Rattle.modbus_hub.proofs.Histories.{links_more, links_told, turn_after}
 
 module _ {L : Type 0} where

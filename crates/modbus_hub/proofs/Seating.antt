@@ -1,5 +1,5 @@
 -- Connections that take turns at one service, over one event after another.
-use Rattle.std.proofs.Common.{◌≡◌, ◌≢◌, ◌⊎◌, inl, inr, ℕ, List, [], ◌∷◌, ◌++◌, Option, Some, None, refl, sym, ap, ◌∙◌, subst, append_assoc, append-nil, Result, Ok, Err, arith, ◌+◌, ◌-◌, ◌^◌, Bool, true, false, IsTrue}
+use Rattle.std.proofs.Common.{◌≡◌, ◌≢◌, inl, inr, ℕ, List, [], ◌∷◌, ◌++◌, Option, Some, None, refl, sym, ap, ◌∙◌, subst, append_assoc, append-nil, Ok, Err, arith, ◌+◌, ◌-◌, Bool, true, false, IsTrue}
 use Rattle.std.proofs.lemmas.Bool.{cases_eq}
 use Rattle.std.proofs.lemmas.List.Elements.{All-nil}
 use Rattle.modbus_link.specs.Line.{LinkMeaning}
@@ -9,10 +9,10 @@ use Rattle.modbus_server.specs.Exchanges.{ReplyFits}
 use Rattle.modbus_service.specs.Answering.{Answering}
 use Rattle.modbus_turn.specs.declared.turn.Turn.{Turn}
 use Rattle.modbus_turn.specs.declared.turn.Turn.TheVariants.{Waiting, Spent, Over}
-use Rattle.modbus_turn.specs.InTurn.{Said, RunOver, in_turn, saying_again}
-use Rattle.modbus_turn.specs.Turn.{SeatState, StandsAlone, TurnLeaves, TakesTurn, is_going_on}
+use Rattle.modbus_turn.specs.InTurn.{Said}
+use Rattle.modbus_turn.specs.Turn.{StandsAlone, TurnLeaves, TakesTurn, is_going_on}
 use Rattle.slab.specs.Slab.{Slab, get, Updates}
-use Rattle.modbus_hub.specs.Events.{Event, came, refused, told, turned, dropped, Place, Account, after_turn, account_of, by_key, HasTurn, links_of}
+use Rattle.modbus_hub.specs.Events.{Event, came, refused, turned, dropped, Place, Account, after_turn, account_of, by_key, HasTurn, links_of}
 use Rattle.modbus_hub.specs.Seats.{turns, EndsTurn, RunsOn, IsSeatedAs, AreSeated, SeatsGoOn, IsTurnOf, Admits, IsDrop, is_spent_at}
 use Rattle.modbus_hub.proofs.Histories.{at_key, off_key, account_more, account_told, account_other, runs_both, runs_told, links_more, links_told}
 

@@ -1,15 +1,14 @@
 -- What connections that take turns at one service stand for.
-use Rattle.std.specs.Prelude.{◌≡◌, ℕ, ◌-◌, ◌^◌, ◌≤◌, List, [], ◌∷◌, ◌++◌, length, Option, Some, None, IsSome, Result, Ok, Err, Bool, true, false, if◌then◌else◌, IsTrue}
+use Rattle.std.specs.Prelude.{◌≡◌, ℕ, ◌-◌, ◌^◌, ◌≤◌, List, [], ◌∷◌, ◌++◌, length, Option, Some, None, IsSome, Result, Ok, Err, Bool, false, if◌then◌else◌, IsTrue}
 use Rattle.modbus_link.specs.Line.{LinkMeaning}
 use Rattle.modbus_link.specs.Outside.{cuts_made}
-use Rattle.modbus_server.specs.declared.error.ProcessError.{ProcessError}
 use Rattle.modbus_server.specs.Framing.{Framing}
 use Rattle.modbus_service.specs.Answering.{Answering}
 use Rattle.modbus_service.specs.Exchange.{GivesOutcome}
 use Rattle.modbus_turn.specs.declared.turn.Turn.{Turn}
 use Rattle.modbus_turn.specs.declared.turn.Turn.TheVariants.{Waiting, Spent, Over}
 use Rattle.modbus_turn.specs.InTurn.{Said}
-use Rattle.modbus_turn.specs.Turn.{SeatState, StandsAlone, RanAlone}
+use Rattle.modbus_turn.specs.Turn.{StandsAlone, RanAlone}
 use Rattle.slab.specs.Slab.{Slab, get}
 use Rattle.modbus_hub.specs.Events.{Event, came, refused, told, turned, dropped, Place, Account, account_of, by_key, HasTurn, links_of}
 

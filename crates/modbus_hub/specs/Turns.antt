@@ -2,9 +2,9 @@
 use Rattle.std.specs.Prelude.{◌≡◌, ℕ, List, [], ◌∷◌, Result, Ok, Err, IsTrue}
 use Rattle.modbus_link.specs.declared.outside.Failed.{Failed}
 use Rattle.modbus_link.specs.declared.polled.Polled.{Polled}
-use Rattle.slab.specs.Slab.{Slab, get}
+use Rattle.slab.specs.Slab.{get}
 use Rattle.modbus_hub.specs.Accepting.{GivesLinks}
-use Rattle.modbus_hub.specs.Events.{Event, Place, HasTurn, links_of}
+use Rattle.modbus_hub.specs.Events.{Event, HasTurn, links_of}
 use Rattle.modbus_hub.specs.Seats.{SeatsState, is_spent_at}
 
 -- a server over such an acceptor and source of readiness, with such links

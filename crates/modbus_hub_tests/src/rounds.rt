@@ -5,7 +5,7 @@ use modbus_link::{MemoryLink, MemorySink, MemorySource, MemoryStop, Polled};
 use modbus_ready::{Ready, ScheduledAcceptor, ScheduledReadiness};
 use modbus_server::Terminated;
 use modbus_server::tcp::AduBuffer;
-use modbus_store::{RegisterStore, Sizes};
+use modbus_store::{RegisterStore, Sizes, StoreError};
 use modbus_turn::InTurn;
 use std::alloc::{AllocError, Global};
 use std::test::Fail;
@@ -37,15 +37,15 @@ fn link(alloc: Global, input: &[u8]) -> Result<MemoryLink, AllocError> {
     Ok(MemoryLink::new(source, sink, false))
 }
 
-/// A device with eight holding registers.
-fn device(alloc: Global) -> Option<RegisterStore> {
+/// A device with tables of eight entries.
+fn device(alloc: Global) -> Result<RegisterStore, StoreError> {
     let sizes = Sizes {
-        coils: 0,
-        discrete_inputs: 0,
+        coils: 8,
+        discrete_inputs: 8,
         holding_registers: 8,
-        input_registers: 0,
+        input_registers: 8,
     };
-    RegisterStore::new(alloc, sizes, false).ok()
+    RegisterStore::new(alloc, sizes, false)
 }
 
 /// Each is served by one read a turn: the second before the first, then both again, and then to their ends.
@@ -54,10 +54,7 @@ fn two_connections_take_turns(rt: HostRuntime) -> Result<(), Fail> {
     let alloc = rt.alloc();
     let mut first = link(alloc, &FIRST)?;
     let mut second = link(alloc, &SECOND)?;
-    let Some(store) = device(alloc) else {
-        return Err(Fail);
-    };
-    let mut service = InTurn::new(store);
+    let mut service = InTurn::new(device(alloc)?);
     let answers = vec![in alloc;
         Ok(Polled::Ready(&mut first)),
         Ok(Polled::Ready(&mut second)),

@@ -1,5 +1,5 @@
 -- Reads of a link that is lent to one turn, counted by its cuts.
-use Rattle.std.proofs.Common.{◌≡◌, ◌≢◌, ◌⊎◌, inl, inr, ℕ, ◌+◌, ◌-◌, ◌<◌, ◌≤◌, ◌==◌, zero, suc, List, [], ◌∷◌, Bool, true, false, length, take, drop, map, refl, sym, ap, ◌∙◌, subst, arith, IsTrue, ne_eqb}
+use Rattle.std.proofs.Common.{◌≡◌, ℕ, ◌+◌, ◌-◌, ◌<◌, List, [], ◌∷◌, Bool, true, false, length, refl, sym, ap, subst, arith, IsTrue, ne_eqb}
 use Rattle.std.specs.Prelude.{if◌then◌else◌}
 use Rattle.std.proofs.lemmas.List.{length-take, length-drop, length-map}
 use Rattle.modbus_link.specs.Outside.{Input, Output, Advances, Gives, cuts_made, one_cut, input_through, output_through}

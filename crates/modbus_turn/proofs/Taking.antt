@@ -1,10 +1,8 @@
 -- One turn, by what a poll promises of a service in turn.
-use Rattle.std.proofs.Common.{◌≡◌, ◌⊎◌, inl, inr, ℕ, List, [], ◌∷◌, ◌++◌, map, refl, sym, ap, ◌∙◌, subst, length, append-nil, Result, Ok, Err, arith}
+use Rattle.std.proofs.Common.{◌≡◌, inl, inr, ℕ, List, [], ◌∷◌, ◌++◌, refl, sym, ap, ◌∙◌, subst, length, append-nil, Result, Ok, Err, arith}
 use Rattle.std.proofs.lemmas.List.{map-append}
-use Rattle.modbus_link.specs.Outside.{shifted}
 use Rattle.modbus_link.specs.Reads.{totals}
 use Rattle.modbus_service.specs.Answering.{Answering}
-use Rattle.modbus_service.specs.Outcome.{Outcome}
 use Rattle.modbus_frame.specs.Meaning.{Asked}
 use Rattle.modbus_server.specs.declared.error.ProcessError.{ProcessError}
 use Rattle.modbus_server.specs.declared.error.ProcessError.TheVariants.{ReadFault, WriteFault, BytesRemaining, InvalidRequest, ResponseTooLong, TurnLimit, NoMemory}

@@ -3,8 +3,8 @@ use Rattle.std.proofs.Common.{◌≡◌, ℕ, List, [], ◌++◌, refl, sym, ap,
 use Rattle.modbus_link.specs.declared.polled.Polled.{Polled}
 use Rattle.modbus_link.specs.declared.polled.Polled.TheVariants.{Ready, Pending}
 use Rattle.modbus_link.specs.Line.{LinkMeaning}
-use Rattle.modbus_link.specs.Outside.{Input, Output, input_through, output_through, shifted}
-use Rattle.modbus_link.specs.Passing.{Passes, passes_both}
+use Rattle.modbus_link.specs.Outside.{Input, input_through, output_through, shifted}
+use Rattle.modbus_link.specs.Passing.{passes_both}
 use Rattle.modbus_link.specs.Reads.{totals}
 use Rattle.modbus_service.specs.Answering.{Answering}
 use Rattle.modbus_server.specs.declared.error.ProcessError.{ProcessError}

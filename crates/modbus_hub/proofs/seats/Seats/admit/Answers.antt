@@ -1,7 +1,7 @@
-use Rattle.std.proofs.Common.{◌≡◌, ◌∙◌, sym, ap, ℕ, None}
+use Rattle.std.proofs.Common.{◌≡◌, ◌∙◌, sym, ap, ℕ}
 use Rattle.std.specs.declared.alloc.AllocError.{AllocError}
 use Rattle.modbus_link.specs.Line.{meaning_of}
-use Rattle.slab.specs.Slab.{Slab, get, Updates}
+use Rattle.slab.specs.Slab.{Slab, get}
 use Rattle.modbus_hub.specs.Events.{Place}
 use Rattle.modbus_hub.proofs.Seating.{admitted, turned_away}
 use Rattle.modbus_hub.proofs.seats.Seats.admit.Goals as goal

@@ -1,8 +1,7 @@
-use Rattle.std.proofs.Common.{rules, ◌≡◌, ◌∙◌, sym, Some}
+use Rattle.std.proofs.Common.{rules, ◌≡◌, Some}
 use Rattle.slab.specs.Slab.{ContainsKey, get}
 use Rattle.slab.proofs.SlabLemmas.{Updates-with_value}
 use Rattle.modbus_link.specs.Line.{meaning_of}
-use Rattle.modbus_hub.specs.Seats.{IsDrop}
 use Rattle.modbus_hub.proofs.Seating.{let_go, kept_fresh, updates_both}
 use Rattle.modbus_hub.proofs.seats.Seats.drop_if_idle.Goals as goal
 

@@ -1,4 +1,4 @@
-use Rattle.std.proofs.Common.{rules, ◌≡◌, ◌∙◌, sym, Some}
+use Rattle.std.proofs.Common.{rules, ◌≡◌, Some}
 use Rattle.slab.specs.Slab.{ContainsKey, get}
 use Rattle.slab.proofs.SlabLemmas.{Updates-with_value}
 use Rattle.modbus_link.specs.Line.{meaning_of}

@@ -1,8 +1,8 @@
-use Rattle.std.proofs.Common.{rules, ◌≡◌, IsTrue, refl}
+use Rattle.std.proofs.Common.{rules, IsTrue}
 use Rattle.slab.specs.Slab.{get}
 use Rattle.modbus_link.specs.Line.{meaning_of}
-use Rattle.modbus_hub.specs.Seats.{IsTurnOf, TurnsIfSpent, is_spent_at}
-use Rattle.modbus_hub.proofs.Seating.{turned_where, Turned, go_as, go_same}
+use Rattle.modbus_hub.specs.Seats.{TurnsIfSpent, is_spent_at}
+use Rattle.modbus_hub.proofs.Seating.{turned_where, Turned, go_as}
 use Rattle.modbus_hub.proofs.seats.Seats.serve_if_spent.Goals as goal
 
 pub returns-then-is_spent-clause-goes_on : goal.returns-then-is_spent-clause-goes_on

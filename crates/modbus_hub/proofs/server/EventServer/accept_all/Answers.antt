@@ -1,4 +1,4 @@
-use Rattle.std.proofs.Common.{◌≤◌, arith}
+use Rattle.std.proofs.Common.{arith}
 use Rattle.modbus_link.specs.Line.{meaning_of}
 use Rattle.modbus_hub.specs.Turns.{Comes}
 use Rattle.modbus_hub.proofs.Seating.{go_both}

@@ -1,5 +1,4 @@
 use Rattle.std.proofs.Common.{refl, ap}
-use Rattle.modbus_link.specs.declared.outside.Failed.{Failed}
 use Rattle.modbus_link.specs.Line.{meaning_of}
 use Rattle.modbus_hub.specs.Events.{links_of}
 use Rattle.modbus_hub.specs.Seats.{Admits}

@@ -1,6 +1,4 @@
-use Rattle.std.proofs.Common.{rules, ◌≡◌, ◌∙◌, ap, ℕ, ◌+◌, ◌-◌, ◌<◌, length, arith, refl, sym, IsTrue, Ok, Err}
-use Rattle.modbus_link.specs.Outside.{ReadIsTold, cuts_made}
-use Rattle.modbus_link.specs.Polled.{at_once}
+use Rattle.std.proofs.Common.{rules, ◌≡◌, ◌∙◌, ap, ◌-◌, ◌<◌, length, arith}
 use Rattle.modbus_turn.proofs.Rationing.{rationed, one_counted, none_counted}
 use Rattle.modbus_turn.proofs.rationed.RationedPolledLink.poll_read.Goals as goal
 
