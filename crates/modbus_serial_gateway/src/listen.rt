@@ -190,6 +190,42 @@ where
     )
 }
 
+/// Serves all links of this listener, in threads, by these services.
+fn serve_listener<R, S, H, E, N>(
+    rt: &R,
+    alloc: Global,
+    listener: (TcpListener, TcpListener),
+    services: S,
+    on_process_error: H,
+    errors: E,
+    notes: (N, N),
+) -> (E, u8)
+where
+    R: Threads + Wait + Clock + Sync,
+    S: Services + Drop,
+    S::Service: Send + Drop,
+    H: Fn(ProcessError) + Copy + Send,
+    E: Sink + Drop,
+    N: Sink + Drop,
+    requires error_hook { H.IsAlwaysCallable on_process_error }
+    ensures { HasEnded (E.output errors) (E.output result.0) result.1 }
+{
+    let ended = AtomicBool::new(false);
+    let (listener, share) = listener;
+    let accepting = WatchedAcceptor::new(TcpAcceptor::new(listener), &ended);
+    let keeper = PortKeeper::new(rt, share, notes.0);
+    serve_in_threads(
+        rt,
+        alloc,
+        PatientAcceptor::new(accepting, keeper, RETRIES),
+        services,
+        on_process_error,
+        errors,
+        notes.1,
+        &ended,
+    )
+}
+
 /// Serves all links of this listener over a line that was opened, whose exchanges are counted in this ledger.
 fn serve_line<R, C, J, H, E, N>(
     rt: &R,
@@ -217,19 +253,15 @@ where
 {
     let (turns, shares) = ledger.open::<J>();
     let shared = SharedLine::new(line, turns);
-    let (listener, share) = listener;
-    let ended = AtomicBool::new(false);
-    let accepting = WatchedAcceptor::new(TcpAcceptor::new(listener), &ended);
-    let keeper = PortKeeper::new(rt, share, notes.0);
-    serve_in_threads(
+    let services = LineServices::new(rt, &shared, shares);
+    serve_listener(
         rt,
         alloc,
-        PatientAcceptor::new(accepting, keeper, RETRIES),
-        LineServices::new(rt, &shared, shares),
+        listener,
+        services,
         on_process_error,
         errors,
-        notes.1,
-        &ended,
+        notes,
     )
 }
 

@@ -5,7 +5,7 @@ use Rattle.modbus_line.specs.declared.service.ServicesOut.{ServicesOut}
 use Rattle.std.specs.Prelude.{Result}
 use Rattle.modbus_serial_gateway.proofs.listen.serve_links.Goals as goal
 
-told : ServeError ServicesOut → Result Terminated (ServeError ServicesOut)
+abbrev told : ServeError ServicesOut → Result Terminated (ServeError ServicesOut)
 told error = Err error
 
 pub returns-clause-accept_fault : goal.returns-clause-accept_fault
