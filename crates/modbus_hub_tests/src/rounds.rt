@@ -55,10 +55,9 @@ fn two_connections_take_turns(rt: HostRuntime) -> Result<(), Fail> {
     let mut first = link(alloc, &FIRST)?;
     let mut second = link(alloc, &SECOND)?;
     let mut service = InTurn::new(device(alloc)?);
-    let answers = vec![in alloc;
-        Ok(Polled::Ready(&mut first)),
-        Ok(Polled::Ready(&mut second)),
-    ]?;
+    let mut answers = Vec::new(alloc);
+    answers.push(Ok(Polled::Ready(&mut first)))?;
+    answers.push(Ok(Polled::Ready(&mut second)))?;
     let schedule = [
         Ready::Peer,
         Ready::Link(1),
