@@ -37,6 +37,8 @@ fn put_checksum(buf: &mut BytesMut, start: usize)
 /// # Errors
 /// `TooLong` with the size of the PDU in bytes, exactly where that is above `MAX_PDU`. `NoMemory` where memory is refused. The
 /// bytes of the buffer are then as they were.
+// Taken into each caller, so that a caller which makes few kinds of requests pays for those alone.
+#[inline(always)]
 #[tactic(auto, unfolding(crate::specs::Frame::frame))]
 pub fn encode_request_frame(
     _alloc: Global,
