@@ -1,5 +1,6 @@
 -- The ASCII transmission mode as a framing (MODBUS over Serial Line V1.02, section 2.5.2).
 use Rattle.std.specs.Prelude.{◌≡◌, ℕ, List}
+use Rattle.modbus_pdu.specs.RequestOf.{request_of}
 use Rattle.modbus_server.specs.declared.error.ProcessError.{ProcessError}
 use Rattle.modbus_server.specs.Framing.{Framing}
 use Rattle.modbus_ascii.specs.Encoding.{frame}
@@ -19,6 +20,7 @@ abbrev pub ascii : Framing
 ascii = record {
   Header = ℕ;
   slave = λ slave. slave;
+  request_of = request_of;
   adu = frame;
   StandsFor = StandsFor;
   IsNext = IsNextFrame;

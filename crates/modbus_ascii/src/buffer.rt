@@ -10,14 +10,11 @@ use crate::limits::{MAX_FRAME, MOST_HELD};
 use crate::scan::Scan;
 use bytes::BytesMut;
 use circular_buffer::HeapCircularBuffer;
-use modbus_frame::{EncodeError, ExceptionResponse, Response, SlaveId};
-use modbus_server::{Framing, Front, ProcessError};
+use modbus_frame::{EncodeError, ExceptionResponse, PduError, Request, Response, SlaveId};
+use modbus_pdu::decode_request;
+use modbus_server::{Framing, Front, NoFault, ProcessError};
 use std::alloc::{AllocError, Global};
 use std::marker::Model;
-
-/// The fault of a framing that has none. Bytes that deliver no frame are skipped, so it is never told.
-#[derive(Clone, Copy, Debug, PartialEq, Eq)]
-pub struct NoFault;
 
 /// The bytes that were fed and not used yet: once all frames are taken off, a `:` that is open and its text, or the last bytes of a text
 /// that is too long.
@@ -92,6 +89,11 @@ impl Framing for AsciiBuffer {
 
     fn seam() -> usize {
         0
+    }
+
+    #[inline(always)]
+    fn decode(alloc: Global, pdu: &[u8]) -> Result<Request<'static>, PduError> {
+        decode_request(alloc, pdu)
     }
 
     fn encode_answer(

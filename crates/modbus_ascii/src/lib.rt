@@ -18,7 +18,7 @@ mod scan;
 #[cfg(test)]
 mod tests;
 
-pub use crate::buffer::{AsciiBuffer, NoFault};
+pub use crate::buffer::AsciiBuffer;
 pub use crate::checksum::lrc;
 pub use crate::codec::{AsciiError, ClientCodec, ServerCodec};
 pub use crate::decoder::{AsciiDecoder, AsciiFrame};

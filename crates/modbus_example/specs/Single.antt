@@ -3,6 +3,7 @@ use Rattle.std.specs.Prelude.{◌≡◌, ◌≢◌, ℕ, List, [], ◌∷◌, �
 use Rattle.modbus_server.specs.declared.error.ProcessError.{ProcessError}
 use Rattle.modbus_server.specs.declared.error.ProcessError.TheVariants.{InvalidLength}
 use Rattle.modbus_pdu.specs.Limits.{max_pdu}
+use Rattle.modbus_pdu.specs.RequestOf.{request_of}
 use Rattle.modbus_server.specs.Framing.{Framing}
 
 abbrev pub bytes_of : List (ℕ × List ℕ) → List ℕ
@@ -51,6 +52,7 @@ abbrev pub singles : Framing
 singles = record {
   Header = ℕ;
   slave = λ slave. slave;
+  request_of = request_of;
   adu = λ slave pdu. pdu;
   StandsFor = Follows;
   IsNext = IsNextByte;

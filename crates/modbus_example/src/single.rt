@@ -4,8 +4,8 @@ ghost use Rattle.modbus_server.specs.declared.error.ProcessError.TheVariants.{In
 ghost use Rattle.modbus_example.specs.Single.{singles};
 
 use bytes::BytesMut;
-use modbus_frame::{EncodeError, ExceptionResponse, Response, SlaveId};
-use modbus_pdu::{MAX_PDU, encode_response_result_pdu, response_result_pdu_size};
+use modbus_frame::{EncodeError, ExceptionResponse, PduError, Request, Response, SlaveId};
+use modbus_pdu::{MAX_PDU, decode_request, encode_response_result_pdu, response_result_pdu_size};
 use modbus_server::{Framing, Front, ProcessError};
 use std::alloc::{AllocError, Global};
 
@@ -55,6 +55,10 @@ impl Framing for Singles {
 
     fn seam() -> usize {
         0
+    }
+
+    fn decode(alloc: Global, pdu: &[u8]) -> Result<Request<'static>, PduError> {
+        decode_request(alloc, pdu)
     }
 
     fn encode_answer(

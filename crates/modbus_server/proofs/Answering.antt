@@ -8,7 +8,6 @@ use Rattle.modbus_frame.specs.declared.code.ExceptionCode.{ExceptionCode}
 use Rattle.modbus_frame.specs.declared.response.Response.{Response}
 use Rattle.modbus_frame.specs.declared.response.ExceptionResponse.{ExceptionResponse}
 use Rattle.modbus_pdu.specs.Coding.{Encodes}
-use Rattle.modbus_pdu.specs.RequestOf.{request_of}
 use Rattle.modbus_pdu.specs.ResponsePdu.{response_pdu, response_result_pdu}
 use Rattle.modbus_server.specs.declared.error.AnswerError.{AnswerError}
 use Rattle.modbus_server.specs.declared.error.AnswerError.TheVariants.{Refused, TooLong, NoMemory}
@@ -54,7 +53,7 @@ module _ (F : Framing) where
 
   module _ {S : Type 0} (A : Answering S) where
     pub answered : (header : F.Header) (pdu : List ℕ) (old new : S) (request : Asked) (outcome : Outcome)
-        → request_of pdu ≡ Ok request → A.gives old (F.slave header) request outcome new → Answered F A (header, pdu) old new (exchange header request outcome)
+        → F.request_of pdu ≡ Ok request → A.gives old (F.slave header) request outcome new → Answered F A (header, pdu) old new (exchange header request outcome)
     answered header pdu old new request outcome e step = record { asked = ap (λ r. (header, r)) e; step = step }
 
     -- the service gave an answer that is not silent, with this PDU

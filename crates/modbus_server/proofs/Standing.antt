@@ -4,7 +4,6 @@ use Rattle.std.proofs.lemmas.List.{map-append}
 use Rattle.std.proofs.lemmas.List.Elements.{All-append, All-cons, All-nil}
 use Rattle.std.proofs.lemmas.Grind.{flat_map-append}
 use Rattle.modbus_frame.specs.Meaning.{Asked}
-use Rattle.modbus_pdu.specs.RequestOf.{request_of}
 use Rattle.modbus_server.specs.declared.error.ProcessError.{ProcessError}
 use Rattle.modbus_server.specs.declared.error.AnswerError.{AnswerError}
 use Rattle.modbus_server.specs.declared.error.AnswerError.TheVariants as fault
@@ -141,7 +140,7 @@ module _ (F : Framing) where
         overlong : (size : ℕ) → AnswersAs F A message now (Err (fault.TooLong size)) next made → TakesAs F A told bytes cuts held' opening next written made exchanges (Err (TooLong size))
         overlong size (x, answered, e, long) = halted_after (too_long size) next (message, is_next, x, answered.asked, answered.step, e, long)
 
-        next_is : (request : Asked) → request_of message.1 ≡ Ok request → NextIsRequest F bytes cuts exchanges
+        next_is : (request : Asked) → F.request_of message.1 ≡ Ok request → NextIsRequest F bytes cuts exchanges
         next_is request asked = (s.taken, message, is_next, s.asked, request, asked)
 
         wants : AnswersAs F A message now (Err fault.NoMemory) next made → TakesAs F A told bytes cuts held' opening next written made exchanges (Err NoMemory)

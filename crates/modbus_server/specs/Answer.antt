@@ -5,7 +5,7 @@ use Rattle.modbus_frame.specs.declared.response.Response.{Response}
 use Rattle.modbus_frame.specs.declared.response.ExceptionResponse.{ExceptionResponse}
 use Rattle.modbus_pdu.specs.Limits.{max_pdu}
 use Rattle.modbus_pdu.specs.Coding.{Fits, told_size}
-use Rattle.modbus_pdu.specs.RequestOf.{request_of, CarriesList}
+use Rattle.modbus_pdu.specs.RequestOf.{CarriesList}
 use Rattle.modbus_pdu.specs.ResponsePdu.{response_result_pdu}
 use Rattle.modbus_server.specs.declared.error.AnswerError.{AnswerError}
 use Rattle.modbus_server.specs.declared.error.AnswerError.TheVariants.{Refused, TooLong, NoMemory}
@@ -24,7 +24,7 @@ pub record Answered (F : Framing) {S : Type 0} (A : Answering S) (message : Mess
 -- Memory was wanting for a message: for its request, which carries a list, and the service was not asked; or in the service.
 abbrev pub WantsFor : (F : Framing) → {S : Type 0} → Answering S → Message F → S → S → Type 0
 WantsFor F A message old new =
-    (request : Asked) × (request_of message.1 ≡ Ok request) × ((CarriesList request × (new ≡ old)) ⊎ A.wants old (F.slave message.0) request new)
+    (request : Asked) × (F.request_of message.1 ≡ Ok request) × ((CarriesList request × (new ≡ old)) ⊎ A.wants old (F.slave message.0) request new)
 
 -- An answer is framed, or is too long. There is room for each reply.
 abbrev pub FramesAs : (F : Framing) → F.Header → Result Response ExceptionResponse → Result Answer AnswerError → List ℕ → Type 0
@@ -39,7 +39,7 @@ abbrev pub AnswersAs : (F : Framing) → {S : Type 0} → Answering S → Messag
 AnswersAs F A message old (Ok Framed) new made =
     (x : Exchange F) × Answered F A message old new x × ReplyFits F x × (x.outcome ≢ silence) × (made ≡ reply_of F x)
 AnswersAs F A message old (Ok Quiet) new made = (x : Exchange F) × Answered F A message old new x × ReplyFits F x × (x.outcome ≡ silence) × (made ≡ [])
-AnswersAs F A message old (Err (Refused reason)) new made = (request_of message.1 ≡ Err reason) × (new ≡ old)
+AnswersAs F A message old (Err (Refused reason)) new made = (F.request_of message.1 ≡ Err reason) × (new ≡ old)
 AnswersAs F A message old (Err (TooLong size)) new made =
     (x : Exchange F) × Answered F A message old new x × (size ≡ told_reply_size F x) × (max_pdu < size)
 AnswersAs F A message old (Err NoMemory) new made = WantsFor F A message old new

@@ -1,7 +1,6 @@
 -- When a call of a server comes to the end of its input.
 use Rattle.std.specs.Prelude.{◌≡◌, ◌⊎◌, ℕ, ◌<◌, List, ◌++◌, map, length, All, IsTrue, Result, Ok, Err}
 use Rattle.modbus_frame.specs.Meaning.{Asked}
-use Rattle.modbus_pdu.specs.RequestOf.{request_of}
 use Rattle.modbus_link.specs.Outside.{Input, Output, Rose}
 use Rattle.modbus_service.specs.Answering.{Answering}
 use Rattle.modbus_server.specs.declared.error.ProcessError.{ProcessError}
@@ -10,7 +9,7 @@ use Rattle.modbus_server.specs.Framing.{Framing, Message}
 use Rattle.modbus_server.specs.Exchanges.{Exchange, Run, ReplyFits, asked_of, asks}
 
 abbrev pub IsRequest : (F : Framing) → Message F → Type 0
-IsRequest F message = (request : Asked) × (request_of message.1 ≡ Ok request)
+IsRequest F message = (request : Asked) × (F.request_of message.1 ≡ Ok request)
 
 -- the bytes are nothing but messages, with no fault however they are cut, and each message is a request
 pub record IsCleanLine (F : Framing) (bytes : List ℕ) : Type 0 where

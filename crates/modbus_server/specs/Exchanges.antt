@@ -4,7 +4,6 @@ use Rattle.std.specs.List.{flat_map}
 use Rattle.modbus_frame.specs.Meaning.{Asked}
 use Rattle.modbus_frame.specs.declared.fault.Reason.{Reason}
 use Rattle.modbus_pdu.specs.Limits.{max_pdu}
-use Rattle.modbus_pdu.specs.RequestOf.{request_of}
 use Rattle.modbus_service.specs.Outcome.{Outcome, silence, reply, exception, code_of, reply_pdu}
 use Rattle.modbus_service.specs.Answering.{Answering}
 use Rattle.modbus_service.specs.Exchange as service
@@ -57,7 +56,7 @@ abbrev pub Question : Framing → Type 0
 Question F = F.Header × Result Asked Reason
 
 abbrev pub asked_of : (F : Framing) → Message F → Question F
-asked_of F message = (message.0, request_of message.1)
+asked_of F message = (message.0, F.request_of message.1)
 
 -- what was asked in an exchange
 abbrev pub asks : (F : Framing) → Exchange F → Question F

@@ -1,5 +1,7 @@
 -- How the PDUs of a connection are framed, and what its bytes hold.
-use Rattle.std.specs.Prelude.{ℕ, List}
+use Rattle.std.specs.Prelude.{ℕ, List, Result}
+use Rattle.modbus_frame.specs.Meaning.{Asked}
+use Rattle.modbus_frame.specs.declared.fault.Reason.{Reason}
 use Rattle.modbus_server.specs.declared.error.ProcessError.{ProcessError}
 use Rattle.modbus_server.specs.declared.error.ProcessError.TheVariants.{TooManyRetries, InvalidLength, InvalidProtocol}
 
@@ -10,6 +12,8 @@ pub record Framing : Type 1 where
   pub Header : Type 0
   -- whom a message is for
   pub slave : Header → ℕ
+  -- what the PDU of a message asks, or why it asks nothing
+  pub request_of : List ℕ → Result Asked Reason
   -- the bytes of a message
   pub adu : Header → List ℕ → List ℕ
   -- of bytes, cuts, held bytes and messages: what holds these bytes has given away these messages

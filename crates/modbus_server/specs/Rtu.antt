@@ -6,6 +6,7 @@ use Rattle.modbus_rtu.specs.Leftmost.{IsLeftmost}
 use Rattle.modbus_rtu.specs.Limits.{max_frame}
 use Rattle.modbus_rtu.specs.Stands.{StandsFor, IsFirstCrowd, IsTakenNext, IsUsedUp}
 use Rattle.modbus_rtu.specs.Quiet.{IsQuietLine}
+use Rattle.modbus_pdu.specs.RequestOf.{request_of}
 use Rattle.modbus_server.specs.declared.error.ProcessError.{ProcessError}
 use Rattle.modbus_server.specs.declared.error.ProcessError.TheVariants.{TooManyRetries}
 use Rattle.modbus_server.specs.Framing.{Framing}
@@ -28,6 +29,7 @@ abbrev pub rtu : Framing
 rtu = record {
   Header = ℕ;
   slave = λ slave. slave;
+  request_of = request_of;
   adu = frame;
   StandsFor = StandsFor;
   IsNext = IsTakenNext;

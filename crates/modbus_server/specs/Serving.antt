@@ -3,7 +3,6 @@ use Rattle.std.specs.Prelude.{◌≡◌, ◌≢◌, ◌⊎◌, ℕ, ◌<◌, Lis
 use Rattle.modbus_frame.specs.Meaning.{Asked}
 use Rattle.modbus_frame.specs.declared.fault.Reason.{Reason}
 use Rattle.modbus_pdu.specs.Limits.{max_pdu}
-use Rattle.modbus_pdu.specs.RequestOf.{request_of}
 use Rattle.modbus_server.specs.declared.error.ProcessError.{ProcessError}
 use Rattle.modbus_server.specs.declared.error.ProcessError.TheVariants.{ReadFault, WriteFault, BytesRemaining, InvalidRequest, ResponseTooLong, TurnLimit, NoMemory}
 use Rattle.modbus_server.specs.Framing.{Framing, Message}
@@ -37,7 +36,7 @@ AreAllAnswered F bytes cuts exchanges =
 abbrev pub NextIsRequest : (F : Framing) → List ℕ → List ℕ → List (Exchange F) → Type 0
 NextIsRequest F bytes cuts exchanges =
     (messages : List (Message F)) × (next : Message F) × F.IsNext bytes cuts messages next × (map (asked_of F) messages ≡ map (asks F) exchanges)
-    × (request : Asked) × (request_of next.1 ≡ Ok request)
+    × (request : Asked) × (F.request_of next.1 ≡ Ok request)
 
 -- Where a call stops in the bytes that were fed.
 pub data Halt : Type 0 where
@@ -55,7 +54,7 @@ abbrev pub Halts : (F : Framing) → {S : Type 0} → Answering S → List ℕ �
 Halts F A bytes cuts before ends now (remaining left) = F.IsAll bytes cuts left before × (now ≡ ends)
 Halts F A bytes cuts before ends now (broken fault) = F.IsBroken bytes cuts before fault × (now ≡ ends)
 Halts F A bytes cuts before ends now (refused reason) =
-    (message : Message F) × F.IsNext bytes cuts before message × (request_of message.1 ≡ Err reason) × (now ≡ ends)
+    (message : Message F) × F.IsNext bytes cuts before message × (F.request_of message.1 ≡ Err reason) × (now ≡ ends)
 Halts F A bytes cuts before ends now (too_long size) =
     (message : Message F) × F.IsNext bytes cuts before message × (x : Exchange F) × (asked_of F message ≡ asks F x)
     × GivesOutcome F A ends x now × (size ≡ told_reply_size F x) × (max_pdu < size)

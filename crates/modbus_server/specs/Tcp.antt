@@ -6,6 +6,7 @@ use Rattle.modbus_tcp.specs.Stream.{empty, unfinished, no_length, foreign, IsSpl
 use Rattle.modbus_tcp.specs.declared.stream.HeaderFault.{HeaderFault}
 use Rattle.modbus_tcp.specs.declared.stream.HeaderFault.TheVariants as fault
 use Rattle.modbus_pdu.specs.Limits.{max_pdu}
+use Rattle.modbus_pdu.specs.RequestOf.{request_of}
 use Rattle.modbus_server.specs.declared.error.ProcessError.{ProcessError}
 use Rattle.modbus_server.specs.declared.error.ProcessError.TheVariants.{InvalidLength, InvalidProtocol}
 use Rattle.modbus_server.specs.Framing.{Framing}
@@ -65,6 +66,7 @@ abbrev pub tcp : Framing
 tcp = record {
   Header = Header;
   slave = λ header. header.unit_id;
+  request_of = request_of;
   adu = adu_of;
   StandsFor = Follows;
   IsNext = IsNextAdu;

@@ -8,7 +8,6 @@ use crate::error::{Answer, AnswerError};
 use crate::framing::Framing;
 use bytes::BytesMut;
 use modbus_frame::{EncodeError, ExceptionResponse, PduError, Response, SlaveRequest};
-use modbus_pdu::decode_request;
 use modbus_service::{Answerer, ServiceError};
 use std::alloc::Global;
 
@@ -34,7 +33,8 @@ fn frame<I: Framing>(
 }
 
 /// Frames an exception into an empty buffer that has room for it.
-fn refuse<I: Framing>(
+// One for each service, though it asks none: so it has one caller, and LLVM takes it in.
+fn refuse<I: Framing, V: Answerer>(
     alloc: Global,
     header: I::Header,
     refusal: ExceptionResponse,
@@ -65,7 +65,7 @@ pub(crate) fn answer<I: Framing, V: Answerer>(
         result service.new reply.new.items }
     ensures space { I.framing.reply_room ≤ length reply.new.items + reply.new.spare }
 {
-    let request = match decode_request(alloc, pdu) {
+    let request = match I::decode(alloc, pdu) {
         Ok(request) => request,
         Err(PduError::Refused(reason)) => return Err(AnswerError::Refused(reason)),
         Err(PduError::NoMemory) => return Err(AnswerError::NoMemory),
@@ -80,7 +80,7 @@ pub(crate) fn answer<I: Framing, V: Answerer>(
                 function,
                 exception,
             };
-            refuse::<I>(alloc, header, refusal, reply)
+            refuse::<I, V>(alloc, header, refusal, reply)
         }
         Err(ServiceError::NoMemory) => Err(AnswerError::NoMemory),
     }

@@ -1,10 +1,14 @@
 //! What a connection needs of its framing: which messages stand in the bytes that it was fed, and how answers are framed.
 //!
 //! RTU frames and Modbus TCP are framings; another crate can add its own.
-ghost use Rattle.std.specs.Prelude.{◌≡◌, ◌↔◌, ℕ, ◌+◌, ◌<◌, ◌≤◌, ◌++◌, ◌∷◌, List, [], length, drop, IsTrue, Err, IfOk, OnOk, OnErr};
+ghost use Rattle.std.specs.Prelude.{◌≡◌, ◌↔◌, ℕ, ◌+◌, ◌<◌, ◌≤◌, ◌++◌, ◌∷◌, List, [], length, drop, IsTrue, Err, IfOk, IsOkAnd, OnOk, OnErr};
 ghost use Rattle.std.specs.Result.{ForErr};
 ghost use Rattle.modbus_frame.specs.Codes.{function_number};
+ghost use Rattle.modbus_frame.specs.FunctionCodes.{exception_bit};
+ghost use Rattle.modbus_frame.specs.Meaning.{meaning, function_asked};
 ghost use Rattle.modbus_pdu.specs.Coding.{Encodes};
+ghost use Rattle.modbus_pdu.specs.Decoding.{Decodes};
+ghost use Rattle.modbus_pdu.specs.RequestOf.{CarriesList};
 ghost use Rattle.modbus_pdu.specs.ResponsePdu.{response_result_pdu};
 ghost use Rattle.modbus_server.specs.declared.error.ProcessError.{ProcessError};
 ghost use Rattle.modbus_server.specs.Framing.{Framing as Frames, Message, IsOfFraming};
@@ -12,7 +16,7 @@ ghost use Rattle.modbus_server.specs.Taking.{FindsNext, IsFrontWithin};
 
 use crate::error::ProcessError;
 use bytes::BytesMut;
-use modbus_frame::{EncodeError, ExceptionResponse, Response, SlaveId};
+use modbus_frame::{EncodeError, ExceptionResponse, PduError, Request, Response, SlaveId};
 use std::alloc::{AllocError, Global};
 
 /// What stands at the front of the bytes that are held.
@@ -29,6 +33,10 @@ pub enum Front<'a, H> {
         dropped: usize,
     },
 }
+
+/// The fault of a framing that has none, which is never told.
+#[derive(Clone, Copy, Debug, PartialEq, Eq)]
+pub struct NoFault;
 
 /// The bytes of a connection that were fed and not used yet, and how messages stand in them.
 pub trait Framing: Drop {
@@ -68,6 +76,17 @@ pub trait Framing: Drop {
     /// How many bytes `front` wants to copy a message together; 0 for a framing whose messages always lie in one piece.
     fn seam() -> usize
         ensures { result ≡ framing.seam };
+
+    /// What the PDU of a message asks: a request, of a function below 0x80.
+    ///
+    /// # Errors
+    /// `Refused` with the reason why it asks nothing; `NoMemory` where memory is refused, only for a request that carries a list.
+    fn decode(alloc: Global, pdu: &[u8]) -> Result<Request<'static>, PduError>
+        ensures value { Decodes meaning result (framing.request_of pdu.now) }
+        ensures memory { result ≡ Err PduError.NoMemory
+            → IsOkAnd (framing.request_of pdu.now) CarriesList }
+        ensures code { IfOk result (λ request.
+            function_number (function_asked (meaning request)) < exception_bit) };
 
     /// Appends the bytes of an answer to a message, under the message's own header. The function of an exception is below 0x80.
     ///

@@ -13,8 +13,11 @@ use crate::framing::{Framing, Front};
 use crate::rtu_over_tcp::process_link;
 use crate::serving::serve_until;
 use bytes::BytesMut;
-use modbus_frame::{EncodeError, ExceptionResponse, Response, SlaveId, Terminated};
+use modbus_frame::{
+    EncodeError, ExceptionResponse, PduError, Request, Response, SlaveId, Terminated,
+};
 use modbus_link::{Link, Stop};
+use modbus_pdu::decode_request;
 use modbus_rtu::{Crowd, Inbox, MAX_FRAME, encode_response_frame};
 use modbus_service::Answerer;
 use std::alloc::{AllocError, Global};
@@ -59,6 +62,11 @@ impl Framing for Inbox {
 
     fn seam() -> usize {
         MAX_FRAME
+    }
+
+    #[inline(always)]
+    fn decode(alloc: Global, pdu: &[u8]) -> Result<Request<'static>, PduError> {
+        decode_request(alloc, pdu)
     }
 
     #[inline(always)]

@@ -10,9 +10,9 @@ pub use crate::listener::accept_tcp_connection;
 use crate::serving::{serve, serve_link};
 use bytes::BytesMut;
 use modbus_frame::tcp::Header;
-use modbus_frame::{EncodeError, ExceptionResponse, Response, SlaveId};
+use modbus_frame::{EncodeError, ExceptionResponse, PduError, Request, Response, SlaveId};
 use modbus_link::{Sink, Source};
-use modbus_pdu::MAX_PDU;
+use modbus_pdu::{MAX_PDU, decode_request};
 use modbus_service::Answerer;
 use modbus_tcp::{HeaderFault, encode_response_adu};
 use std::alloc::{AllocError, Global};
@@ -81,6 +81,11 @@ impl Framing for AduBuffer {
 
     fn seam() -> usize {
         0
+    }
+
+    #[inline(always)]
+    fn decode(alloc: Global, pdu: &[u8]) -> Result<Request<'static>, PduError> {
+        decode_request(alloc, pdu)
     }
 
     #[inline(always)]

@@ -8,17 +8,17 @@ ghost use Rattle.modbus_tcp.specs.Limits.{uncounted, mbap_header, modbus_protoco
 use crate::stream::{Front, HeaderFault};
 use modbus_frame::tcp;
 
-/// How many bytes of a header stand before those that its length counts: the transaction, the protocol and the length.
-pub(crate) const UNCOUNTED: usize = 6;
+/// How many bytes of a header stand before those that its length counts: the transaction, the protocol and the length (section 3.1.3).
+pub const UNCOUNTED: usize = 6;
 
 /// How many bytes a unit identifier has, the last field of a header, which its length counts with the PDU.
 pub(crate) const UNIT_IDENTIFIER: usize = 1;
 
 /// How many bytes an MBAP header has.
-pub(crate) const HEADER: usize = UNCOUNTED + UNIT_IDENTIFIER;
+pub const HEADER: usize = UNCOUNTED + UNIT_IDENTIFIER;
 
 /// The number of the Modbus protocol.
-pub(crate) const MODBUS: u16 = 0;
+pub const MODBUS: u16 = 0;
 
 /// The fields of an MBAP header.
 #[derive(Clone, Copy)]

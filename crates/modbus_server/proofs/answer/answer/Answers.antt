@@ -1,7 +1,7 @@
 use Rattle.std.proofs.Common.{ℕ, List, ◌≡◌, ◌+◌, ◌∷◌, [], ap, sym, refl, ◌∙◌, subst, Ok, Err, inl, inr}
 use Rattle.modbus_frame.specs.Codes.{function_number, exception_number}
 use Rattle.modbus_frame.specs.Meaning.{meaning}
-use Rattle.modbus_pdu.specs.RequestOf.{request_of, CarriesList}
+use Rattle.modbus_pdu.specs.RequestOf.{CarriesList}
 use Rattle.modbus_service.specs.Outcome.{silence, reply, exception, code_of}
 use Rattle.modbus_server.proofs.Answering.{exchange, answered, reply_is, exception_is, is_request, framed_as, silent}
 use Rattle.modbus_server.proofs.answer.answer.Goals as goal
@@ -11,7 +11,7 @@ returns-in-Ok-None-clause-answers g c =
     let F = g.I.Framing.framing in
     let A = g.V.Answerer.answering in
     let message : F.Header × List ℕ = (g.I.Framing.header_of c.args.header, c.args.pdu.now) in
-    let e : request_of message.1 ≡ Ok (meaning c.in-Ok.request) = c.in-Ok.ensures.value in
+    let e : F.request_of message.1 ≡ Ok (meaning c.in-Ok.request) = c.in-Ok.ensures.value in
     let step : A.gives c.args.service.now (F.slave message.0) (meaning c.in-Ok.request) silence c.ask.new.self =
     subst (λ n. A.gives c.args.service.now n (meaning c.in-Ok.request) silence c.ask.new.self) c.slave-slave.ensures (rw c.in-Ok-None.field-0-is at c.in-Ok-None.ensures) in
     silent F A message c.args.service.now c.ask.new.self c.args.reply.now.items (exchange F message.0 (meaning c.in-Ok.request) silence)
@@ -22,7 +22,7 @@ returns-in-Ok-Some-clause-answers g c =
     let F = g.I.Framing.framing in
     let A = g.V.Answerer.answering in
     let message : F.Header × List ℕ = (g.I.Framing.header_of c.args.header, c.args.pdu.now) in
-    let e : request_of message.1 ≡ Ok (meaning c.in-Ok.request) = c.in-Ok.ensures.value in
+    let e : F.request_of message.1 ≡ Ok (meaning c.in-Ok.request) = c.in-Ok.ensures.value in
     let step : A.gives c.args.service.now (F.slave message.0) (meaning c.in-Ok.request) (reply c.in-Ok-Some.response) c.ask.new.self =
     subst (λ n. A.gives c.args.service.now n (meaning c.in-Ok.request) (reply c.in-Ok-Some.response) c.ask.new.self) c.slave-slave.ensures (rw c.in-Ok-Some.field-0-is at c.in-Ok-Some.ensures) in
     framed_as F A message c.args.service.now c.ask.new.self (Ok c.in-Ok-Some.response) c.frame.result c.frame.new.reply.items (
@@ -37,7 +37,7 @@ returns-in-Err-Exception-clause-answers g c =
     let F = g.I.Framing.framing in
     let A = g.V.Answerer.answering in
     let message : F.Header × List ℕ = (g.I.Framing.header_of c.args.header, c.args.pdu.now) in
-    let e : request_of message.1 ≡ Ok (meaning c.in-Ok.request) = c.in-Ok.ensures.value in
+    let e : F.request_of message.1 ≡ Ok (meaning c.in-Ok.request) = c.in-Ok.ensures.value in
     let step : A.gives c.args.service.now (F.slave message.0) (meaning c.in-Ok.request) (exception c.in-Err-Exception.exception) c.ask.new.self =
     subst (λ n. A.gives c.args.service.now n (meaning c.in-Ok.request) (exception c.in-Err-Exception.exception) c.ask.new.self) c.slave-slave.ensures (rw c.in-Err-Exception.field-0-is at c.in-Err-Exception.ensures) in
     framed_as F A message c.args.service.now c.ask.new.self (Err (record { function = c.function_code-function.result; exception = c.in-Err-Exception.exception })) c.refuse.result c.refuse.new.reply.items (
@@ -49,7 +49,7 @@ returns-in-Err-Exception-clause-answers g c =
 
 pub returns-in-Err-NoMemory-clause-answers : goal.returns-in-Err-NoMemory-clause-answers
 returns-in-Err-NoMemory-clause-answers g c =
-    let some = is_request (request_of c.args.pdu.now) CarriesList ((rw c.in-Err-NoMemory.field-0-is at c.in-Err-NoMemory.ensures.memory) refl) in
+    let some = is_request (g.I.Framing.framing.request_of c.args.pdu.now) CarriesList ((rw c.in-Err-NoMemory.field-0-is at c.in-Err-NoMemory.ensures.memory) refl) in
     (some.0, some.1, inl (some.2, refl))
 
 pub returns-in-Err-NoMemory-ask-clause-answers : goal.returns-in-Err-NoMemory-ask-clause-answers
@@ -57,7 +57,7 @@ returns-in-Err-NoMemory-ask-clause-answers g c =
     let F = g.I.Framing.framing in
     let A = g.V.Answerer.answering in
     let message : F.Header × List ℕ = (g.I.Framing.header_of c.args.header, c.args.pdu.now) in
-    let e : request_of message.1 ≡ Ok (meaning c.in-Ok.request) = c.in-Ok.ensures.value in
+    let e : F.request_of message.1 ≡ Ok (meaning c.in-Ok.request) = c.in-Ok.ensures.value in
     let step : A.wants c.args.service.now (F.slave message.0) (meaning c.in-Ok.request) c.ask.new.self =
     subst (λ n. A.wants c.args.service.now n (meaning c.in-Ok.request) c.ask.new.self) c.slave-slave.ensures (rw c.in-Err-NoMemory-ask.field-0-is at c.in-Err-NoMemory-ask.ensures) in
     (meaning c.in-Ok.request, e, inr step)
