@@ -1,6 +1,7 @@
 pub mod Tables
 pub mod Opening
 pub mod Step
+pub mod Lent
 pub mod Planning
 pub mod Legal
 pub mod Outcomes

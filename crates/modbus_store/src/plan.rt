@@ -24,7 +24,7 @@ pub struct Planned<'a> {
     pub change: Change<'a>,
 }
 
-/// What a request is asked of: a store, whose tables change at once, or one that only shows what it would answer.
+/// What a request is asked of: tables that change at once, a store's own or lent ones, or a store that only shows what it would answer.
 pub(crate) trait Target<'a> {
     ghost use Rattle.modbus_store.specs.Tables.{Tables};
     ghost use Rattle.modbus_store.specs.declared.change.Change.TheVariants as change;
@@ -34,9 +34,21 @@ pub(crate) trait Target<'a> {
 
     ghost becomes: { Self → Tables → Self → Type 0 };
 
-    /// The store that is asked.
-    fn store(&self) -> &RegisterStore
-        ensures { result.now ≡ tables self.now };
+    /// The coils.
+    fn coils(&self) -> &[Coil]
+        ensures { result.now ≡ (tables self.now).coils };
+
+    /// The discrete inputs.
+    fn discrete_inputs(&self) -> &[Coil]
+        ensures { result.now ≡ (tables self.now).discrete_inputs };
+
+    /// The holding registers.
+    fn holding_registers(&self) -> &[Word]
+        ensures { result.now ≡ (tables self.now).holding_registers };
+
+    /// The input registers.
+    fn input_registers(&self) -> &[Word]
+        ensures { result.now ≡ (tables self.now).input_registers };
 
     /// Takes in that nothing changes.
     fn keep(&mut self)
@@ -70,8 +82,23 @@ impl<'a> Target<'a> for RegisterStore {
     ghost becomes = { λ old after new. new ≡ after };
 
     #[inline(always)]
-    fn store(&self) -> &RegisterStore {
-        self
+    fn coils(&self) -> &[Coil] {
+        self.coils.as_slice()
+    }
+
+    #[inline(always)]
+    fn discrete_inputs(&self) -> &[Coil] {
+        self.discrete_inputs.as_slice()
+    }
+
+    #[inline(always)]
+    fn holding_registers(&self) -> &[Word] {
+        self.holding_registers.as_slice()
+    }
+
+    #[inline(always)]
+    fn input_registers(&self) -> &[Word] {
+        self.input_registers.as_slice()
     }
 
     #[inline(always)]
@@ -114,8 +141,27 @@ impl<'s, 'a> Target<'a> for Draft<'s, 'a> {
     ghost becomes = { λ old after new. changed old.store.now new.change ≡ after };
 
     #[inline(always)]
-    fn store(&self) -> &RegisterStore {
-        self.store
+    fn coils(&self) -> &[Coil] {
+        let store = self.store;
+        store.coils.as_slice()
+    }
+
+    #[inline(always)]
+    fn discrete_inputs(&self) -> &[Coil] {
+        let store = self.store;
+        store.discrete_inputs.as_slice()
+    }
+
+    #[inline(always)]
+    fn holding_registers(&self) -> &[Word] {
+        let store = self.store;
+        store.holding_registers.as_slice()
+    }
+
+    #[inline(always)]
+    fn input_registers(&self) -> &[Word] {
+        let store = self.store;
+        store.input_registers.as_slice()
     }
 
     #[inline(always)]
@@ -209,73 +255,69 @@ pub(crate) fn step<'a, T: Target<'a>>(
 {
     match request {
         Request::ReadCoils(address, quantity) => {
-            let table = target.store().coils.as_slice();
+            let table = target.coils();
             let found = read_entries(alloc, table, *address, *quantity, MAX_READ_COILS)?;
             target.keep();
             Ok(Response::ReadCoils(Coils::new(found)))
         }
         Request::ReadDiscreteInputs(address, quantity) => {
-            let table = target.store().discrete_inputs.as_slice();
+            let table = target.discrete_inputs();
             let found = read_entries(alloc, table, *address, *quantity, MAX_READ_COILS)?;
             target.keep();
             Ok(Response::ReadDiscreteInputs(Coils::new(found)))
         }
         Request::ReadHoldingRegisters(address, quantity) => {
-            let table = target.store().holding_registers.as_slice();
+            let table = target.holding_registers();
             let found = read_entries(alloc, table, *address, *quantity, MAX_READ_REGISTERS)?;
             target.keep();
             Ok(Response::ReadHoldingRegisters(Words::new(found)))
         }
         Request::ReadInputRegisters(address, quantity) => {
-            let table = target.store().input_registers.as_slice();
+            let table = target.input_registers();
             let found = read_entries(alloc, table, *address, *quantity, MAX_READ_REGISTERS)?;
             target.keep();
             Ok(Response::ReadInputRegisters(Words::new(found)))
         }
         Request::WriteSingleCoil(address, coil) => {
-            check_range(target.store().coils.len(), *address, 1)?;
+            check_range(target.coils().len(), *address, 1)?;
             target.set_coil(*address, *coil);
             Ok(Response::WriteSingleCoil(*address, *coil))
         }
         Request::WriteSingleRegister(address, word) => {
-            check_range(target.store().holding_registers.len(), *address, 1)?;
+            check_range(target.holding_registers().len(), *address, 1)?;
             target.set_register(*address, *word);
             Ok(Response::WriteSingleRegister(*address, *word))
         }
         Request::WriteMultipleCoils(address, coils) => {
             let coils = coils.as_slice();
             check_count(coils.len(), MAX_WRITE_COILS)?;
-            check_range(target.store().coils.len(), *address, coils.len())?;
+            check_range(target.coils().len(), *address, coils.len())?;
             target.set_coils(*address, coils);
             Ok(Response::WriteMultipleCoils(*address, coils.len() as Quantity))
         }
         Request::WriteMultipleRegisters(address, words) => {
             let words = words.as_slice();
             check_count(words.len(), MAX_WRITE_REGISTERS)?;
-            check_range(
-                target.store().holding_registers.len(),
-                *address,
-                words.len(),
-            )?;
+            check_range(target.holding_registers().len(), *address, words.len())?;
             target.set_registers(*address, words);
             Ok(Response::WriteMultipleRegisters(*address, words.len() as Quantity))
         }
         Request::MaskWriteRegister(address, and_mask, or_mask) => {
-            check_range(target.store().holding_registers.len(), *address, 1)?;
-            let old = target.store().holding_registers[usize::from(*address)];
+            check_range(target.holding_registers().len(), *address, 1)?;
+            let old = target.holding_registers()[usize::from(*address)];
             let new = mask_word(old, *and_mask, *or_mask);
             target.set_register(*address, new);
             Ok(Response::MaskWriteRegister(*address, *and_mask, *or_mask))
         }
         Request::ReadWriteMultipleRegisters(address, quantity, write_address, words) => {
-            let table = target.store().holding_registers.as_slice();
+            let table = target.holding_registers();
             let words = words.as_slice();
             let found = read_after_write(alloc, table, *address, *quantity, *write_address, words)?;
             target.set_registers(*write_address, words);
             Ok(Response::ReadWriteMultipleRegisters(Words::new(found)))
         }
         Request::ReadFifoQueue(address) => {
-            let table = target.store().holding_registers.as_slice();
+            let table = target.holding_registers();
             let found = read_queue(alloc, table, *address)?;
             target.keep();
             Ok(Response::ReadFifoQueue(Words::new(found)))
