@@ -4,7 +4,6 @@
 
 mod ending;
 mod listen;
-mod terminal;
 mod words;
 
 use listen::serve;
@@ -15,11 +14,11 @@ use modbus_line::SerialLine;
 use modbus_link::{ReadSource, TerminalLink, WriteSink};
 use modbus_reconnect::SerialClient;
 use modbus_server::ProcessError;
+use modbus_terminal::TerminalLine;
 use std::env;
 use std::io::{ErrorKind, Result, Stdin, Stdout};
 use std::process::ExitCode;
 use std::time::Duration;
-use terminal::StandardLine;
 use words::{Task, USAGE_LINE, read_words};
 
 /// How long a silence of the line is, in milliseconds.
@@ -41,9 +40,9 @@ fn task_of(rt: &HostRuntime) -> Result<Option<Task>> {
 fn open_line(
     rt: &HostRuntime,
     millis: u32,
-) -> SerialLine<StandardLine<'_, HostRuntime, Stdin, Stdout>> {
+) -> SerialLine<TerminalLine<'_, HostRuntime, Stdin, Stdout>> {
     let streams = TerminalLink::new(ReadSource::new(rt.stdin()), WriteSink::new(rt.stdout()));
-    let link = StandardLine::new(rt, streams);
+    let link = TerminalLine::new(rt, streams);
     let limit = Duration::from_millis(u64::from(millis));
     let mut client = SerialClient::new(rt.alloc(), link, Slave(0), Duration::from_millis(SILENCE));
     client.set_timeout(Some(limit));
