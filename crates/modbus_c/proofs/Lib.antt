@@ -1,0 +1,4 @@
+pub mod Laying
+pub mod Shift
+pub mod Within
+pub mod Replying

@@ -1,0 +1,17 @@
+use Rattle.std.proofs.Common.{length, List, ℕ, arith}
+use Rattle.modbus_pdu.specs.ResponsePdu.{response_result_pdu}
+use Rattle.modbus_tcp.specs.Adu.{adu_of}
+use Rattle.modbus_c.proofs.Replying.{adu_len, no_error, has_room}
+use Rattle.modbus_c.proofs.serve.adu_into.Goals as goal
+
+pub put_front-requires : goal.put_front-requires
+put_front-requires c =
+    let P : List ℕ = response_result_pdu c.args.answer.now in
+    has_room c.as_slice.result.now c.encode_response_adu.new.buf.items c.args.made.items (adu_of c.args.header P) (length c.args.output.now)
+    c.as_slice.ensures c.in-Ok.ensures.encodes.ok c.requires.no_bytes (omega (arith, adu_len c.args.header P, c.requires.fits, c.requires.room))
+
+pub unreachable-requires : goal.unreachable-requires
+unreachable-requires c =
+    let P : List ℕ = response_result_pdu c.args.answer.now in
+    no_error (adu_of c.args.header P) P c.args.made.items c.encode_response_adu.new.buf.items c.args.made.spare c.encode_response_adu.result c.in-Err.field-0
+    c.in-Err.is c.encode_response_adu.ensures.encodes c.requires.fits (omega (arith, adu_len c.args.header P, c.requires.fits, c.requires.space)) c.encode_response_adu.ensures.memory

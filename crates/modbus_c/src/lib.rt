@@ -1,0 +1,16 @@
+//! The protocol for callers that do not write Rattle: C, and all that calls C.
+//!
+//! Nothing here reads or writes a file or a socket, and nothing is kept between two calls. Each export states the clauses of the call of
+//! the library that it makes, over structs of C and the caller's own arrays. `include/modbus.h` declares them.
+#![tactic(auto)]
+
+mod export;
+mod find;
+mod inbox;
+mod put;
+mod reply;
+mod request;
+mod response;
+mod serve;
+mod status;
+mod wrap;
