@@ -1,0 +1,4 @@
+pub mod Framed
+pub mod Pieces
+pub mod Reading
+pub mod Serving

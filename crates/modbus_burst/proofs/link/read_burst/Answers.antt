@@ -1,0 +1,7 @@
+use Rattle.modbus_burst.proofs.Pieces.{gives_burst}
+use Rattle.modbus_burst.proofs.link.read_burst.Goals as goal
+
+pub returns-in-Ok-clause-gives : goal.returns-in-Ok-clause-gives
+returns-in-Ok-clause-gives g c =
+    let found = c.in-Ok.ensures in
+    gives_burst _ _ _ _ _ _ c.in-Ok.first c.args.room.now c.begin.new.room c.finish.new.room found.source found.later found.length found.told c.finish.result c.finish.ensures.finishes

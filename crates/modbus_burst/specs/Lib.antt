@@ -1,0 +1,5 @@
+pub mod Bursts
+pub mod Framing
+pub mod Limits
+pub mod Line
+pub mod Link

@@ -1,0 +1,2 @@
+//! What no clause says: bursts, in and out.
+mod served;

@@ -1,0 +1,47 @@
+//! Serving a serial line.
+ghost use Rattle.std.specs.Prelude.{IfErr};
+ghost use Rattle.modbus_burst.specs.Line.{IsOfNoBurst};
+
+use crate::device::Device;
+use modbus_burst::{BurstLink, process_link};
+use modbus_link::{
+    Connector, Link, ReadSource, TcpConnector, TerminalLink, TimedLink, TimedTcpLink, WriteSink,
+};
+use modbus_server::ProcessError;
+use modbus_terminal::TerminalLine;
+use std::alloc::Global;
+use std::io::{Stdin, Stdout};
+use std::net::SocketAddr;
+use std::time::Duration;
+
+/// How long a connection to a line may take, in milliseconds.
+const CONNECTING: u64 = 10_000;
+
+/// The serial line on the standard streams, which was set by `stty raw min 0 time 1`: a tenth of a second without a byte ends a frame.
+pub fn terminal(rt: &HostRuntime) -> TerminalLine<'_, HostRuntime, Stdin, Stdout> {
+    let streams = TerminalLink::new(ReadSource::new(rt.stdin()), WriteSink::new(rt.stdout()));
+    TerminalLine::new(rt, streams)
+}
+
+/// The serial line behind an address, where so many milliseconds without a byte end a frame; none where there is no connection.
+pub fn connect(rt: &HostRuntime, address: SocketAddr, silence: u64) -> Option<TimedTcpLink> {
+    let limit = Duration::from_millis(CONNECTING);
+    let mut link = TcpConnector::new(rt).connect(address, Some(limit)).ok()?;
+    link.set_timeout(Some(Duration::from_millis(silence)));
+    Some(TimedTcpLink::new(link))
+}
+
+/// Serves a line until it ends.
+///
+/// # Errors
+/// Those of `modbus_burst::process_link`: a fault of the line, refused memory.
+pub fn serve<L: TimedLink + Drop>(
+    alloc: Global,
+    line: L,
+    device: &mut Device,
+) -> Result<(), ProcessError>
+    ensures { IfErr result (λ error. IsOfNoBurst error → ⊥) }
+{
+    let mut bursts = BurstLink::new(line);
+    process_link(alloc, &mut bursts, device, u64::MAX)
+}
