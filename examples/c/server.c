@@ -1,0 +1,106 @@
+/* A Modbus TCP server on the loopback address: sockets in C, every byte of the protocol by the library.
+ * usage: server [PORT]; without a port, or with 0, any free one. It prints the port. */
+#include "modbus.h"
+
+#include <arpa/inet.h>
+#include <poll.h>
+#include <stdio.h>
+#include <stdlib.h>
+#include <string.h>
+#include <sys/socket.h>
+#include <unistd.h>
+
+enum { CONNECTIONS = 64, HELD = 1024, ENTRIES = 1024 };
+
+static bool coils[ENTRIES], discrete_inputs[ENTRIES];
+static uint16_t holding_registers[ENTRIES], input_registers[ENTRIES];
+
+struct connection {
+    uint8_t held[HELD];
+    size_t held_len;
+};
+
+static struct connection connections[CONNECTIONS + 1];
+static struct pollfd polled[CONNECTIONS + 1];
+
+/* Answers the ADU at the front of these bytes. */
+static modbus_served serve(const uint8_t *input, size_t input_len, uint8_t *output, size_t output_len) {
+    return modbus_tcp_serve(input, input_len, coils, ENTRIES, discrete_inputs, ENTRIES, holding_registers, ENTRIES, input_registers,
+                            ENTRIES, false, output, output_len);
+}
+
+/* Answers all whole ADUs that are held, and keeps the rest. Whether the connection goes on. */
+static bool answer(int socket, struct connection *it) {
+    size_t at = 0;
+    bool goes_on = true;
+    for (;;) {
+        uint8_t reply[MODBUS_LONGEST_REPLY];
+        modbus_served served = serve(it->held + at, it->held_len - at, reply, sizeof reply);
+        if (served.status == MODBUS_WAITING) {
+            break;
+        }
+        if (served.status != MODBUS_DONE && served.status != MODBUS_SILENT) {
+            goes_on = false;
+            break;
+        }
+        if (served.written > 0 && send(socket, reply, served.written, MSG_NOSIGNAL) != (ssize_t)served.written) {
+            goes_on = false;
+            break;
+        }
+        at += served.used;
+    }
+    it->held_len -= at;
+    memmove(it->held, it->held + at, it->held_len);
+    return goes_on && it->held_len < HELD;
+}
+
+/* Reads what came, and answers it. Whether the connection goes on. */
+static bool turn(int socket, struct connection *it) {
+    ssize_t got = recv(socket, it->held + it->held_len, HELD - it->held_len, 0);
+    if (got <= 0) {
+        return false;
+    }
+    it->held_len += (size_t)got;
+    return answer(socket, it);
+}
+
+int main(int argc, char **argv) {
+    struct sockaddr_in here = {.sin_family = AF_INET};
+    socklen_t size = sizeof here;
+    int one = 1, listener = socket(AF_INET, SOCK_STREAM, 0);
+    nfds_t count = 1;
+    here.sin_addr.s_addr = htonl(INADDR_LOOPBACK);
+    here.sin_port = htons((uint16_t)(argc > 1 ? atoi(argv[1]) : 0));
+    setsockopt(listener, SOL_SOCKET, SO_REUSEADDR, &one, sizeof one);
+    if (bind(listener, (struct sockaddr *)&here, sizeof here) || listen(listener, 16)) {
+        perror("server");
+        return 1;
+    }
+    getsockname(listener, (struct sockaddr *)&here, &size);
+    printf("%d\n", ntohs(here.sin_port));
+    fflush(stdout);
+    for (int i = 0; i < ENTRIES; i++) {
+        input_registers[i] = (uint16_t)(65535 - i);
+        discrete_inputs[i] = i % 2 == 1;
+    }
+    polled[0] = (struct pollfd){.fd = listener, .events = POLLIN};
+    for (;;) {
+        poll(polled, count, -1);
+        for (nfds_t i = count - 1; i > 0; i--) {
+            if (polled[i].revents && !turn(polled[i].fd, &connections[i])) {
+                close(polled[i].fd);
+                count--;
+                polled[i] = polled[count];
+                connections[i] = connections[count];
+            }
+        }
+        if (polled[0].revents && count <= CONNECTIONS) {
+            int taken = accept(listener, NULL, NULL);
+            if (taken >= 0) {
+                polled[count] = (struct pollfd){.fd = taken, .events = POLLIN};
+                connections[count].held_len = 0;
+                count++;
+            }
+        }
+    }
+}

@@ -1,0 +1,218 @@
+/* Worked rows against the library: bytes in, and what it answers, writes and leaves alone. The last line is 'N passed, M failed'. */
+#include "modbus.h"
+
+#include <stdio.h>
+#include <stdlib.h>
+#include <string.h>
+
+enum { ENTRIES = 64 };
+
+static int passed, failed;
+
+static void row(const char *name, bool holds) {
+    if (holds) {
+        passed++;
+    } else {
+        failed++;
+        printf("FAILED: %s\n", name);
+    }
+}
+
+struct device {
+    bool coils[ENTRIES], discrete_inputs[ENTRIES];
+    uint16_t holding_registers[ENTRIES], input_registers[ENTRIES];
+};
+
+/* The bytes of hexadecimal digits, on the heap with no byte to spare, so that the address sanitizer sees a read past them. */
+static uint8_t *bytes_of(const char *digits, size_t *len) {
+    uint8_t *made = malloc(strlen(digits) / 2 + 1), *exact;
+    unsigned byte;
+    size_t n = 0;
+    while (*digits) {
+        if (*digits == ' ') {
+            digits++;
+            continue;
+        }
+        if (sscanf(digits, "%2x", &byte) != 1) {
+            abort();
+        }
+        made[n++] = (uint8_t)byte;
+        digits += 2;
+    }
+    exact = malloc(n ? n : 1);
+    memcpy(exact, made, n);
+    free(made);
+    *len = n;
+    return exact;
+}
+
+typedef modbus_served serve_function(const uint8_t *, size_t, bool *, size_t, const bool *, size_t, uint16_t *, size_t, const uint16_t *,
+                                     size_t, bool, uint8_t *, size_t);
+
+/* One message: its status, detail, where it ends, the reply, and whether tables and output are as they were where they have to be. */
+static void serves(const char *name, serve_function *serve, bool broadcast, const char *input, struct device *device, uint32_t status,
+                   uint32_t detail, size_t used, const char *reply) {
+    size_t input_len, reply_len;
+    uint8_t *in = bytes_of(input, &input_len), *wanted = bytes_of(reply, &reply_len);
+    uint8_t *output = malloc(MODBUS_LONGEST_REPLY), before[MODBUS_LONGEST_REPLY];
+    struct device old = *device;
+    modbus_served done;
+    memset(output, 0xA5, MODBUS_LONGEST_REPLY);
+    memcpy(before, output, sizeof before);
+    memcpy(before, wanted, reply_len);
+    done = serve(in, input_len, device->coils, ENTRIES, device->discrete_inputs, ENTRIES, device->holding_registers, ENTRIES,
+                 device->input_registers, ENTRIES, broadcast, output, MODBUS_LONGEST_REPLY);
+    row(name, done.status == status && done.detail == detail && done.used == used && done.written == reply_len &&
+                  memcmp(output, before, sizeof before) == 0);
+    if (status != MODBUS_DONE && status != MODBUS_SILENT) {
+        row(name, memcmp(&old, device, sizeof old) == 0);
+    }
+    free(in);
+    free(wanted);
+    free(output);
+}
+
+static void serving(void) {
+    struct device device = {0};
+    device.input_registers[3] = 0xBEEF;
+    device.discrete_inputs[1] = true;
+    serves("write registers", modbus_tcp_serve, false, "0001 0000 000B 11 10 0001 0002 04 000A 0102", &device, MODBUS_DONE, 0, 17,
+           "0001 0000 0006 11 10 0001 0002");
+    row("the registers", device.holding_registers[1] == 10 && device.holding_registers[2] == 0x102);
+    serves("read registers", modbus_tcp_serve, false, "0002 0000 0006 11 03 0001 0002 00 03", &device, MODBUS_DONE, 0, 12,
+           "0002 0000 0007 11 03 04 000A 0102");
+    serves("read an input register", modbus_tcp_serve, false, "0003 0000 0006 11 04 0003 0001", &device, MODBUS_DONE, 0, 12,
+           "0003 0000 0005 11 04 02 BEEF");
+    serves("read discrete inputs", modbus_tcp_serve, false, "0003 0000 0006 11 02 0000 0003", &device, MODBUS_DONE, 0, 12,
+           "0003 0000 0004 11 02 01 02");
+    serves("write coils", modbus_tcp_serve, false, "0004 0000 0009 11 0F 0003 000A 02 CD01", &device, MODBUS_DONE, 0, 15,
+           "0004 0000 0006 11 0F 0003 000A");
+    serves("an address past the end", modbus_tcp_serve, false, "0005 0000 0006 11 06 0040 0001", &device, MODBUS_DONE, 0, 12,
+           "0005 0000 0003 11 86 02");
+    serves("a quantity of 0", modbus_tcp_serve, false, "0005 0000 0006 11 03 0000 0000", &device, MODBUS_DONE, 0, 12,
+           "0005 0000 0003 11 83 03");
+    serves("a function that there is not", modbus_tcp_serve, false, "0006 0000 0003 11 64 00", &device, MODBUS_DONE, 0, 9,
+           "0006 0000 0003 11 E4 01");
+    serves("nothing", modbus_tcp_serve, false, "", &device, MODBUS_WAITING, 0, 0, "");
+    serves("a front", modbus_tcp_serve, false, "0001 0000 0006 11 03 0000 00", &device, MODBUS_WAITING, 0, 0, "");
+    serves("no length", modbus_tcp_serve, false, "0001 0000 0000 11", &device, MODBUS_NO_LENGTH, 0, 0, "");
+    serves("another protocol", modbus_tcp_serve, false, "0001 0007 0002 11 03", &device, MODBUS_FOREIGN, 7, 0, "");
+    serves("no request", modbus_tcp_serve, false, "0001 0000 0006 11 05 0000 1234", &device, MODBUS_REFUSED, 5, 12, "");
+    serves("a broadcast", modbus_tcp_serve, true, "0001 0000 0006 00 06 0000 1234", &device, MODBUS_SILENT, 0, 12, "");
+    row("its effect", device.holding_registers[0] == 0x1234);
+    serves("a frame", modbus_rtu_serve, false, "11 06 0001 0003 9A9B", &device, MODBUS_DONE, 0, 8, "11 06 0001 0003 9A9B");
+    serves("noise and a frame", modbus_rtu_serve, false, "FF FF 11 06 0001 0003 9A9B 11", &device, MODBUS_DONE, 0, 10,
+           "11 06 0001 0003 9A9B");
+    serves("noise and a front", modbus_rtu_serve, false, "FF FF 11 06 0001", &device, MODBUS_WAITING, 0, 2, "");
+    serves("another checksum", modbus_rtu_serve, false, "11 06 0001 0003 9A9C FFFFFFFFFFFFFFFFFFFFFFFFFFFFFFFFFF", &device, MODBUS_CROWD, 0,
+           20, "");
+}
+
+static void bad_lengths(void) {
+    struct device device = {0}, old = device;
+    static const uint8_t write[] = {0, 1, 0, 0, 0, 6, 1, 6, 0, 0, 0, 1};
+    for (size_t room = 0; room < MODBUS_LONGEST_REPLY; room++) {
+        uint8_t *output = malloc(room ? room : 1);
+        modbus_served done;
+        memset(output, 0xA5, room);
+        done = modbus_tcp_serve(write, sizeof write, device.coils, ENTRIES, device.discrete_inputs, ENTRIES, device.holding_registers,
+                                ENTRIES, device.input_registers, ENTRIES, false, output, room);
+        bool is_kept = true;
+        for (size_t i = 0; i < room; i++) {
+            is_kept = is_kept && output[i] == 0xA5;
+        }
+        row("a short output", done.status == MODBUS_NO_ROOM && is_kept && memcmp(&device, &old, sizeof old) == 0);
+        free(output);
+    }
+    uint8_t output[MODBUS_LONGEST_REPLY];
+    modbus_served done = modbus_tcp_serve(write, sizeof write, device.coils, 0, device.discrete_inputs, 0, device.holding_registers, 0,
+                                          device.input_registers, 0, false, output, sizeof output);
+    row("tables of no entry", done.status == MODBUS_DONE && done.written == 9 && output[7] == 0x86 && output[8] == 2);
+}
+
+static void coding(void) {
+    size_t len;
+    uint8_t *pdu = bytes_of("17 0003 0006 000E 0003 06 00FF 00FF 00FF", &len), *made = malloc(len);
+    uint16_t words[4] = {1, 2, 3, 4};
+    bool coils[16] = {0};
+    modbus_request request = {.function = 99};
+    modbus_done done = modbus_request_decode(pdu, len, &request, words, 2, coils, 16);
+    row("words that do not fit", done.status == MODBUS_NO_ROOM && request.function == 99 && words[0] == 1);
+    done = modbus_request_decode(pdu, len, &request, words, 4, coils, 16);
+    row("a request is read", done.status == MODBUS_DONE && request.function == 0x17 && request.address == 3 && request.quantity == 6 &&
+                                 request.write_address == 14 && request.count == 3 && words[2] == 255 && words[3] == 4);
+    done = modbus_request_encode(&request, words, 3, coils, 0, made, len);
+    row("and written", done.status == MODBUS_DONE && done.written == len && memcmp(made, pdu, len) == 0);
+    done = modbus_request_encode(&request, words, 2, coils, 0, made, len);
+    row("a count past the list", done.status == MODBUS_NO_ROOM && done.written == 0);
+    done = modbus_request_encode(&request, words, 3, coils, 0, made, len - 1);
+    row("a short PDU", done.status == MODBUS_NO_ROOM && done.written == 0);
+    done = modbus_request_encode(&(modbus_request){.function = 100}, words, 3, coils, 0, made, len);
+    row("another function", done.status == MODBUS_UNTOLD && done.written == 0);
+    done = modbus_request_decode((const uint8_t *)"\x2B\x0E\x01\x00", 4, &request, words, 4, coils, 16);
+    row("device identification", done.status == MODBUS_UNTOLD && request.function == 0x17);
+    done = modbus_request_decode((const uint8_t *)"\x03\x00", 2, &request, words, 4, coils, 16);
+    row("no request", done.status == MODBUS_REFUSED && done.detail == MODBUS_UNEXPECTED_END);
+    free(pdu);
+    free(made);
+
+    static uint16_t many[200];
+    uint8_t room[600];
+    done = modbus_request_encode(&(modbus_request){.function = 0x10, .count = 124}, many, 200, coils, 0, room, sizeof room);
+    row("124 registers", done.status == MODBUS_TOO_LONG && done.written == 0);
+
+    modbus_response response;
+    done = modbus_response_decode((const uint8_t *)"\x01\x01\x05", 3, &response, words, 4, coils, 16);
+    row("coils are read", done.status == MODBUS_DONE && response.function == 1 && response.count == 8 && coils[0] && !coils[1] && coils[2]);
+    done = modbus_response_decode((const uint8_t *)"\x83\x02", 2, &response, words, 4, coils, 16);
+    row("an exception", done.status == MODBUS_DONE && response.exception && response.function == 3 && response.code == 2);
+    done = modbus_response_decode((const uint8_t *)"\x03\x04\x00\x01\x00\x02", 6, &response, words, 1, coils, 16);
+    row("a list that does not fit", done.status == MODBUS_NO_ROOM && response.exception);
+    done = modbus_response_decode((const uint8_t *)"\x03\x03\x00\x01\x00", 5, &response, words, 4, coils, 16);
+    row("no response", done.status == MODBUS_REFUSED && done.detail == MODBUS_INVALID_QUANTITY);
+}
+
+static void wrapping(void) {
+    static const uint8_t pdu[254] = {6, 0, 1, 0, 3};
+    uint8_t output[300];
+    modbus_done done = modbus_rtu_wrap(17, pdu, 5, output, 8);
+    row("a frame of a PDU", done.status == MODBUS_DONE && done.written == 8 && memcmp(output, "\x11\x06\x00\x01\x00\x03\x9A\x9B", 8) == 0);
+    row("its search", modbus_rtu_find_request(output, 8).used == 8 && modbus_rtu_find_response(output, 8).pdu_len == 5);
+    done = modbus_rtu_wrap(17, pdu, 5, output, 7);
+    row("no room", done.status == MODBUS_NO_ROOM && done.written == 0);
+    done = modbus_tcp_wrap(258, 17, pdu, 5, output, 12);
+    row("an ADU", done.status == MODBUS_DONE && done.written == 12 && memcmp(output, "\1\2\0\0\0\6\x11\6\0\1\0\3", 12) == 0);
+    row("its search", modbus_tcp_find(output, 12).transaction_id == 258 && modbus_tcp_find(output, 11).status == MODBUS_WAITING);
+    done = modbus_tcp_wrap(258, 17, pdu, 254, output, sizeof output);
+    row("a PDU of 254 bytes", done.status == MODBUS_TOO_LONG && done.written == 0);
+    row("a checksum of nothing", modbus_crc(pdu, 0) == 0xFFFF);
+}
+
+static void inbox(void) {
+    struct device device = {0};
+    modbus_inbox held;
+    uint8_t output[MODBUS_LONGEST_REPLY];
+    static const uint8_t noise_and_frame[] = {0xFF, 0x11, 0x06, 0x00, 0x01, 0x00, 0x03, 0x9A, 0x9B};
+    static const uint8_t zeros[300];
+    int answers = 0;
+    modbus_inbox_open(&held);
+    for (size_t i = 0; i < sizeof noise_and_frame; i++) {
+        row("a byte is fed", modbus_inbox_feed(&held, noise_and_frame + i, 1));
+        modbus_served done = modbus_inbox_next(&held, device.coils, ENTRIES, device.discrete_inputs, ENTRIES, device.holding_registers,
+                                               ENTRIES, device.input_registers, ENTRIES, false, output, sizeof output);
+        answers += done.status == MODBUS_DONE && done.written == 8;
+    }
+    row("one answer", answers == 1 && held.len == 0 && device.holding_registers[1] == 3);
+    row("too long a piece", !modbus_inbox_feed(&held, zeros, 269) && held.len == 0);
+    row("the longest piece", modbus_inbox_feed(&held, zeros, 268) && !modbus_inbox_feed(&held, zeros, 1));
+}
+
+int main(void) {
+    serving();
+    bad_lengths();
+    coding();
+    wrapping();
+    inbox();
+    printf("%d passed, %d failed\n", passed, failed);
+    return failed != 0;
+}
