@@ -39,7 +39,7 @@ module _ {L : Type 0} where
   pub links_more : (xs ys : List (Event L)) → links_of (xs ++ ys) ≡ links_of xs ++ links_of ys
   links_more [] ys = refl
   links_more (came key link ∷ xs) ys = ap (λ (l : List L). link ∷ l) (links_more xs ys)
-  links_more (refused link ∷ xs) ys = ap (λ (l : List L). link ∷ l) (links_more xs ys)
+  links_more (refused cause link ∷ xs) ys = ap (λ (l : List L). link ∷ l) (links_more xs ys)
   links_more (told key x ∷ xs) ys = links_more xs ys
   links_more (turned key link turn ∷ xs) ys = links_more xs ys
   links_more (dropped key ∷ xs) ys = links_more xs ys

@@ -1,14 +1,23 @@
 -- One round after another, and the links that came in them.
-use Rattle.std.proofs.Common.{◌≡◌, ℕ, List, [], ◌∷◌, ◌++◌, Option, Some, None, Result, Ok, Err, refl, sym, ap, ◌∙◌, subst}
+use Rattle.std.proofs.Common.{◌≡◌, ℕ, List, [], ◌∷◌, ◌++◌, Option, Some, None, Result, Ok, Err, ◌≤◌, refl, sym, ap, ◌∙◌, subst, arith}
+use Rattle.std.proofs.Math.Nat.{le_trans, le_refl}
+use Rattle.modbus_link.specs.Memory.{counted}
 use Rattle.modbus_link.specs.declared.outside.Failed.{Failed}
 use Rattle.modbus_link.specs.declared.polled.Polled.{Polled}
 use Rattle.modbus_link.specs.declared.polled.Polled.TheVariants.{Ready, Pending}
 use Rattle.modbus_turn.specs.declared.turn.Turn.{Turn}
 use Rattle.modbus_hub.specs.Accepting.{with_given, GivesByPolls, GivesLinks}
-use Rattle.modbus_hub.specs.Events.{Event, came, refused, told, turned, dropped, by_key, links_of}
+use Rattle.modbus_hub.specs.Events.{Event, Refusal, no_watch, no_memory, came, refused, told, turned, dropped, by_key, links_of, counted_if, counted_over}
 use Rattle.modbus_hub.specs.Seats.{SeatsState, IsTurnOf, IsDrop}
-use Rattle.modbus_hub.specs.Turns.{Serves, Brings, ServesLeft, Comes, TakesRound}
+use Rattle.modbus_hub.specs.Turns.{ServerState, Serves, Counts, Brings, ServesLeft, Comes, TakesRound}
 use Rattle.modbus_hub.proofs.Histories.{links_more, links_told, turn_after}
+
+counted_up : (a b : ℕ) → a ≤ b → counted a ≤ counted b
+counted_up a b h = grind (arith)
+
+-- a server of these parts
+abbrev pub state : {A S L : Type 0} → A → S → SeatsState L → ℕ → ServerState A S L
+state acceptor readiness seats unseated = record { acceptor = acceptor; readiness = readiness; seats = seats; unseated = unseated }
 
 module _ {L : Type 0} where
   pub turn_serves : (key : ℕ) (turn : Option Turn) (history more : List (Event L)) → IsTurnOf key turn history more → Serves history more
@@ -26,9 +35,92 @@ module _ {L : Type 0} where
   drops_links history [] s = refl
   drops_links history (dropped key ∷ more) s = drops_links history more s
   drops_links history (came key link ∷ more) s = absurd s
-  drops_links history (refused link ∷ more) s = absurd s
+  drops_links history (refused cause link ∷ more) s = absurd s
   drops_links history (told key x ∷ more) s = absurd s
   drops_links history (turned key link turn ∷ more) s = absurd s
+
+  pub counted_more : (cause : Refusal) (xs ys : List (Event L)) (count : ℕ) → counted_over cause (xs ++ ys) count ≡ counted_over cause ys (counted_over cause xs count)
+  counted_more cause [] ys count = refl
+  counted_more cause (x ∷ xs) ys count = counted_more cause xs ys (counted_if cause x count)
+
+  -- where no link came none was dropped
+  pub counted_none : (cause : Refusal) (xs : List (Event L)) (count : ℕ) → links_of xs ≡ [] → counted_over cause xs count ≡ count
+  counted_none cause [] count none = refl
+  counted_none cause (came key link ∷ xs) count none = absurd (cc)
+  counted_none cause (refused other link ∷ xs) count none = absurd (cc)
+  counted_none no_watch (told key x ∷ xs) count none = counted_none no_watch xs count none
+  counted_none no_memory (told key x ∷ xs) count none = counted_none no_memory xs count none
+  counted_none no_watch (turned key link turn ∷ xs) count none = counted_none no_watch xs count none
+  counted_none no_memory (turned key link turn ∷ xs) count none = counted_none no_memory xs count none
+  counted_none no_watch (dropped key ∷ xs) count none = counted_none no_watch xs count none
+  counted_none no_memory (dropped key ∷ xs) count none = counted_none no_memory xs count none
+
+  counts_up : (cause : Refusal) (x : Event L) (a b : ℕ) → a ≤ b → counted_if cause x a ≤ counted_if cause x b
+  counts_up no_watch (refused no_watch link) a b h = counted_up a b h
+  counts_up no_memory (refused no_memory link) a b h = counted_up a b h
+  counts_up no_watch (refused no_memory link) a b h = h
+  counts_up no_memory (refused no_watch link) a b h = h
+  counts_up no_watch (came key link) a b h = h
+  counts_up no_memory (came key link) a b h = h
+  counts_up no_watch (told key x) a b h = h
+  counts_up no_memory (told key x) a b h = h
+  counts_up no_watch (turned key link turn) a b h = h
+  counts_up no_memory (turned key link turn) a b h = h
+  counts_up no_watch (dropped key) a b h = h
+  counts_up no_memory (dropped key) a b h = h
+
+  -- a counter that was further on is further on afterwards
+  pub counted_on : (cause : Refusal) (xs : List (Event L)) (a b : ℕ) → a ≤ b → counted_over cause xs a ≤ counted_over cause xs b
+  counted_on cause [] a b h = h
+  counted_on cause (x ∷ xs) a b h = counted_on cause xs (counted_if cause x a) (counted_if cause x b) (counts_up cause x a b h)
+
+module _ {A S L : Type 0} (faults : S → ℕ) where
+  pub counts_both : (a b c : ServerState A S L) (xs ys : List (Event L)) → Counts faults a b xs → Counts faults b c ys → Counts faults a c (xs ++ ys)
+  counts_both a b c xs ys first second = record {
+    watch = subst (λ (n : ℕ). n ≤ faults c.readiness) (sym (counted_more no_watch xs ys (faults a.readiness)))
+        (le_trans (counted_on no_watch ys (counted_over no_watch xs (faults a.readiness)) (faults b.readiness) first.watch) second.watch);
+    memory = second.memory ∙ ap (λ (n : ℕ). counted_over no_memory ys n) first.memory ∙ sym (counted_more no_memory xs ys a.unseated);
+  }
+
+  -- where no link came each count is as it was, or further on
+  pub counts_none : (a b : ServerState A S L) (more : List (Event L)) → links_of more ≡ [] → faults a.readiness ≤ faults b.readiness → b.unseated ≡ a.unseated → Counts faults a b more
+  counts_none a b more none later same = record {
+    watch = subst (λ (n : ℕ). n ≤ faults b.readiness) (sym (counted_none no_watch more (faults a.readiness) none)) later;
+    memory = same ∙ sym (counted_none no_memory more a.unseated none);
+  }
+
+  -- a link that came is a connection
+  pub brings_seat : (a b : ServerState A S L) (key : ℕ) (link : L) (history more : List (Event L)) → faults a.readiness ≤ faults b.readiness → b.unseated ≡ a.unseated
+      → more ≡ came key link ∷ [] → Brings faults link a b history more
+  brings_seat a b key link history more later count e = record {
+    links = ap links_of e;
+    counts = record {
+      watch = subst (λ (l : List (Event L)). counted_over no_watch l (faults a.readiness) ≤ faults b.readiness) (sym e) later;
+      memory = subst (λ (l : List (Event L)). b.unseated ≡ counted_over no_memory l a.unseated) (sym e) count;
+    };
+  }
+
+  -- one that could not be watched
+  pub brings_unwatched : (a b : ServerState A S L) (link : L) (history more : List (Event L)) → counted (faults a.readiness) ≤ faults b.readiness → b.unseated ≡ a.unseated
+      → more ≡ refused no_watch link ∷ [] → Brings faults link a b history more
+  brings_unwatched a b link history more rose count e = record {
+    links = ap links_of e;
+    counts = record {
+      watch = subst (λ (l : List (Event L)). counted_over no_watch l (faults a.readiness) ≤ faults b.readiness) (sym e) rose;
+      memory = subst (λ (l : List (Event L)). b.unseated ≡ counted_over no_memory l a.unseated) (sym e) count;
+    };
+  }
+
+  -- one for which memory was refused
+  pub brings_unseated : (a b : ServerState A S L) (link : L) (history more : List (Event L)) → faults a.readiness ≤ faults b.readiness → b.unseated ≡ counted a.unseated
+      → more ≡ refused no_memory link ∷ [] → Brings faults link a b history more
+  brings_unseated a b link history more later count e = record {
+    links = ap links_of e;
+    counts = record {
+      watch = subst (λ (l : List (Event L)). counted_over no_watch l (faults a.readiness) ≤ faults b.readiness) (sym e) later;
+      memory = subst (λ (l : List (Event L)). b.unseated ≡ counted_over no_memory l a.unseated) (sym e) count;
+    };
+  }
 
 module _ {A L : Type 0} (accepts : A → Result (Polled L) Failed → A → Type 0) where
   pub none_given : (a : A) → GivesLinks accepts a [] a
@@ -39,39 +131,63 @@ module _ {A L : Type 0} (accepts : A → Result (Polled L) Failed → A → Type
   given_more (Ok Pending) later ys = refl
   given_more (Err failed) later ys = refl
 
-  gives_both : (a b c : A) (polls : List (Result (Polled L) Failed)) (xs ys : List L) → GivesByPolls accepts a polls xs b → GivesLinks accepts b ys c → GivesLinks accepts a (xs ++ ys) c
+  pub gives_both : (a b c : A) (polls : List (Result (Polled L) Failed)) (xs ys : List L) → GivesByPolls accepts a polls xs b → GivesLinks accepts b ys c → GivesLinks accepts a (xs ++ ys) c
   gives_both a b c [] xs ys (none, same) second =
       subst (λ (l : List L). GivesLinks accepts a (l ++ ys) c) (sym none) (subst (λ (x : A). GivesLinks accepts x ys c) same second)
   gives_both a b c (poll ∷ polls) xs ys (next, later, accepted, e, rest) second =
       let on = gives_both next b c polls later ys rest second in
       (poll ∷ on.0, (next, later ++ ys, accepted, ap (λ (l : List L). l ++ ys) e ∙ given_more poll later ys, on.1))
 
-  pub comes_both : (a b c : A) (history xs ys : List (Event L)) → Comes accepts a b history xs → Comes accepts b c (history ++ xs) ys → Comes accepts a c history (xs ++ ys)
-  comes_both a b c history xs ys first second =
-      subst (λ (l : List L). GivesLinks accepts a l c) (sym (links_more xs ys)) (gives_both a b c first.0 (links_of xs) (links_of ys) first.1 second)
+module _ {A S L : Type 0} (accepts : A → Result (Polled L) Failed → A → Type 0) (faults : S → ℕ) where
+  abbrev Server : Type 0
+  Server = ServerState A S L
+
+  abbrev Came : Server → Server → List (Event L) → List (Event L) → Type 0
+  Came a b history more = Comes accepts faults a b history more
+
+  pub comes_both : (a b c : Server) (history xs ys : List (Event L)) → Came a b history xs → Came b c (history ++ xs) ys → Came a c history (xs ++ ys)
+  comes_both a b c history xs ys first second = record {
+    gives = subst (λ (l : List L). GivesLinks accepts a.acceptor l c.acceptor) (sym (links_more xs ys))
+        (gives_both accepts a.acceptor b.acceptor c.acceptor first.gives.0 (links_of xs) (links_of ys) first.gives.1 second.gives);
+    counts = counts_both faults a b c xs ys first.counts second.counts;
+  }
 
   -- where no link came the acceptor is as it was
-  pub none_come : (a b : A) (history more : List (Event L)) → b ≡ a → links_of more ≡ [] → Comes accepts a b history more
-  none_come a b history more same none =
-      subst (λ (l : List L). GivesLinks accepts a l b) (sym none) (subst (λ (x : A). GivesLinks accepts a [] x) (sym same) (none_given a))
+  pub none_come : (a b : Server) (history more : List (Event L)) → b.acceptor ≡ a.acceptor → faults a.readiness ≤ faults b.readiness → b.unseated ≡ a.unseated → links_of more ≡ []
+      → Came a b history more
+  none_come a b history more same later count none = record {
+    gives = subst (λ (l : List L). GivesLinks accepts a.acceptor l b.acceptor) (sym none)
+        (subst (λ (x : A). GivesLinks accepts a.acceptor [] x) (sym same) (none_given accepts a.acceptor));
+    counts = counts_none faults a b more none later count;
+  }
 
   -- one poll
-  pub brings : (a now b : A) (link : L) (history more : List (Event L)) → accepts a (Ok (Ready link)) now → b ≡ now → Brings link history more → Comes accepts a b history more
-  brings a now b link history more accepted same e =
-      subst (λ (x : A). GivesLinks accepts a (links_of more) x) (sym same) (Ok (Ready link) ∷ [], (now, [], accepted, e, (refl, refl)))
+  pub brings : (a now b : Server) (link : L) (history more : List (Event L)) → accepts a.acceptor (Ok (Ready link)) now.acceptor → b.acceptor ≡ now.acceptor
+      → faults now.readiness ≡ faults a.readiness → now.unseated ≡ a.unseated → Brings faults link now b history more → Came a b history more
+  brings a now b link history more accepted same later count e = record {
+    gives = subst (λ (x : A). GivesLinks accepts a.acceptor (links_of more) x) (sym same) (Ok (Ready link) ∷ [], (now.acceptor, [], accepted, e.links, (refl, refl)));
+    counts = record {
+      watch = subst (λ (n : ℕ). counted_over no_watch more n ≤ faults b.readiness) later e.counts.watch;
+      memory = subst (λ (n : ℕ). b.unseated ≡ counted_over no_memory more n) count e.counts.memory;
+    };
+  }
 
-  pub nobody : (a b : A) → accepts a (Ok Pending) b → GivesLinks accepts a [] b
-  nobody a b accepted = (Ok Pending ∷ [], (b, [], accepted, refl, (refl, refl)))
+  pub nobody : (a b : Server) (history : List (Event L)) (poll : Result (Polled L) Failed) → with_given poll [] ≡ [] → accepts a.acceptor poll b.acceptor
+      → faults a.readiness ≤ faults b.readiness → b.unseated ≡ a.unseated → Came a b history []
+  nobody a b history poll none accepted later count = record {
+    gives = (poll ∷ [], (b.acceptor, [], accepted, sym none, (refl, refl)));
+    counts = counts_none faults a b [] refl later count;
+  }
 
-  pub fails : (a b : A) (failed : Failed) → accepts a (Err failed) b → GivesLinks accepts a [] b
-  fails a b failed accepted = (Err failed ∷ [], (b, [], accepted, refl, (refl, refl)))
+  pub round_of : (a now b : Server) (history xs ys : List (Event L)) → now.acceptor ≡ a.acceptor → faults a.readiness ≤ faults now.readiness → now.unseated ≡ a.unseated
+      → ServesLeft a.seats history xs → Came now b (history ++ xs) ys → TakesRound accepts faults a b (Ok tt) history (xs ++ ys)
+  round_of a now b history xs ys same later count first second = (
+    comes_both a now b history xs ys (none_come a now history xs same later count first.0) second,
+    λ left key spent. turn_after key xs ys (first.1 left key spent),
+  )
 
-  pub round_of : (seats : SeatsState L) (a now b : A) (history xs ys : List (Event L)) → now ≡ a → ServesLeft seats history xs → Comes accepts now b (history ++ xs) ys
-      → TakesRound accepts seats a b (Ok tt) history (xs ++ ys)
-  round_of seats a now b history xs ys same first second =
-      (comes_both a now b history xs ys (none_come a now history xs same first.0) second, λ left key spent. turn_after key xs ys (first.1 left key spent))
-
-  pub then_drops : (seats : SeatsState L) (a now b : A) (history xs ys : List (Event L)) → b ≡ now → TakesRound accepts seats a now (Ok tt) history xs → IsDrop (history ++ xs) ys
-      → Comes accepts a b history (xs ++ ys)
-  then_drops seats a now b history xs ys same first second =
-      comes_both a now b history xs ys first.0 (none_come now b (history ++ xs) ys same (drops_links (history ++ xs) ys second))
+  pub then_drops : (a now b : Server) (history xs ys : List (Event L)) → b.acceptor ≡ now.acceptor → b.readiness ≡ now.readiness → b.unseated ≡ now.unseated
+      → TakesRound accepts faults a now (Ok tt) history xs → IsDrop (history ++ xs) ys → Came a b history (xs ++ ys)
+  then_drops a now b history xs ys same ready count first second =
+      let later : faults now.readiness ≤ faults b.readiness = subst (λ (s : S). faults now.readiness ≤ faults s) (sym ready) (le_refl (faults now.readiness)) in
+      comes_both a now b history xs ys first.0 (none_come now b (history ++ xs) ys same later count (drops_links (history ++ xs) ys second))

@@ -42,7 +42,7 @@ module _ {L : Type 0} where
   drop_any history later [] s = tt
   drop_any history later (dropped key ∷ more) s = drop_any history later more s
   drop_any history later (came key link ∷ more) s = absurd s
-  drop_any history later (refused link ∷ more) s = absurd s
+  drop_any history later (refused cause link ∷ more) s = absurd s
   drop_any history later (told key x ∷ more) s = absurd s
   drop_any history later (turned key link turn ∷ more) s = absurd s
 
@@ -50,6 +50,6 @@ module _ {L : Type 0} where
   drops_both history [] ys first second = drop_any (history ++ []) history ys second
   drops_both history (dropped key ∷ more) ys first second = drops_both history more ys first (drop_any (history ++ dropped key ∷ more) (history ++ more) ys second)
   drops_both history (came key link ∷ more) ys first second = absurd first
-  drops_both history (refused link ∷ more) ys first second = absurd first
+  drops_both history (refused cause link ∷ more) ys first second = absurd first
   drops_both history (told key x ∷ more) ys first second = absurd first
   drops_both history (turned key link turn ∷ more) ys first second = absurd first

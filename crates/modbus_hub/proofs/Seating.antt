@@ -1,5 +1,5 @@
 -- Connections that take turns at one service, over one event after another.
-use Rattle.std.proofs.Common.{◌≡◌, ◌≢◌, inl, inr, ℕ, List, [], ◌∷◌, ◌++◌, Option, Some, None, refl, sym, ap, ◌∙◌, subst, append_assoc, append-nil, Ok, Err, arith, ◌+◌, ◌-◌, Bool, true, false, IsTrue}
+use Rattle.std.proofs.Common.{◌≡◌, ◌≢◌, inl, inr, ℕ, List, [], ◌∷◌, ◌++◌, Option, Some, None, refl, sym, ap, ◌∙◌, subst, append_assoc, append-nil, Ok, arith, Bool, true, false, IsTrue}
 use Rattle.std.proofs.lemmas.Bool.{cases_eq}
 use Rattle.std.proofs.lemmas.List.Elements.{All-nil}
 use Rattle.modbus_link.specs.Line.{LinkMeaning}
@@ -12,7 +12,7 @@ use Rattle.modbus_turn.specs.declared.turn.Turn.TheVariants.{Waiting, Spent, Ove
 use Rattle.modbus_turn.specs.InTurn.{Said}
 use Rattle.modbus_turn.specs.Turn.{StandsAlone, TurnLeaves, TakesTurn, is_going_on}
 use Rattle.slab.specs.Slab.{Slab, get, Updates}
-use Rattle.modbus_hub.specs.Events.{Event, came, refused, turned, dropped, Place, Account, after_turn, account_of, by_key, HasTurn, links_of}
+use Rattle.modbus_hub.specs.Events.{Event, Refusal, came, refused, turned, dropped, Place, Account, after_turn, account_of, by_key, HasTurn, links_of}
 use Rattle.modbus_hub.specs.Seats.{turns, EndsTurn, RunsOn, IsSeatedAs, AreSeated, SeatsGoOn, IsTurnOf, Admits, IsDrop, is_spent_at}
 use Rattle.modbus_hub.proofs.Histories.{at_key, off_key, account_more, account_told, account_other, runs_both, runs_told, links_more, links_told}
 
@@ -129,14 +129,18 @@ module _ (F : Framing) {S : Type 0} (A : Answering S) {L : Type 0} (M : LinkMean
         refl,
       )
 
-  pub turned_away : {E : Type 0} (link : L) (error : E) (olds news : Slab (Place L)) (s : S) → ((key : ℕ) → get news key ≡ get olds key)
-      → SeatsGoOn F A M (Admits link (Err error)) olds news s s
-  turned_away link error olds news s same start history all = (
-    refused link ∷ [],
+  -- a link came, and was dropped for this
+  abbrev pub Refuses : Refusal → L → List (Event L) → List (Event L) → Type 0
+  Refuses cause link history more = more ≡ refused cause link ∷ []
+
+  pub turned_away : (cause : Refusal) (link : L) (olds news : Slab (Place L)) (s : S) → ((key : ℕ) → get news key ≡ get olds key)
+      → SeatsGoOn F A M (Refuses cause link) olds news s s
+  turned_away cause link olds news s same start history all = (
+    refused cause link ∷ [],
     record {
-      run = runs_both F A M [] history (refused link ∷ []) start s s all.run (s, refl, refl);
-      each = λ k. reseated (account_of k None history) (account_of k None (history ++ refused link ∷ [])) (get olds k) (get news k)
-          (sym (account_more k None history (refused link ∷ []))) (sym (same k)) (all.each k);
+      run = runs_both F A M [] history (refused cause link ∷ []) start s s all.run (s, refl, refl);
+      each = λ k. reseated (account_of k None history) (account_of k None (history ++ refused cause link ∷ [])) (get olds k) (get news k)
+          (sym (account_more k None history (refused cause link ∷ []))) (sym (same k)) (all.each k);
     },
     refl,
   )

@@ -1,15 +1,23 @@
 -- What happens to the connections of one thread, in order, and what that says of the connection under each key.
 use Rattle.std.specs.Prelude.{◌≡◌, ℕ, ◌==◌, List, [], ◌∷◌, ◌++◌, map, Option, Some, None, Bool, if◌then◌else◌}
+use Rattle.modbus_link.specs.Memory.{counted}
 use Rattle.modbus_turn.specs.declared.turn.Turn.{Turn}
 use Rattle.modbus_turn.specs.declared.turn.Turn.TheVariants.{Waiting, Spent, Over}
 use Rattle.modbus_turn.specs.InTurn.{Said}
 use Rattle.modbus_turn.specs.Turn.{SeatState}
 
+-- why a link that came is dropped at once
+pub data Refusal : Type 0 where
+  -- the source of readiness can't watch it
+  no_watch : Refusal
+  -- memory is refused for its connection
+  no_memory : Refusal
+
 pub data Event (L : Type 0) : Type 0 where
   -- this link came, as a connection under this key
   came : ℕ → L → Event L
-  -- this link came, and was dropped at once
-  refused : L → Event L
+  -- this link came, and was dropped at once for this
+  refused : Refusal → L → Event L
   -- the service told this to the connection under this key
   told : ℕ → Said → Event L
   -- a turn of the connection under this key ended so, with its link as it was then; that of one that is over is dropped
@@ -42,7 +50,7 @@ after_turn (Over result) account = None
 
 abbrev pub account_after : {L : Type 0} → ℕ → Account L → Event L → Account L
 account_after key account (came j link) = if j == key then Some (link, []) else account
-account_after key account (refused link) = account
+account_after key account (refused cause link) = account
 account_after key account (told j x) = if j == key then told_more x account else account
 account_after key account (turned j link turn) = if j == key then after_turn turn account else account
 account_after key account (dropped j) = if j == key then None else account
@@ -64,7 +72,18 @@ HasTurn {L} key events = (earlier later : List (Event L)) × (link : L) × (turn
 abbrev pub links_of : {L : Type 0} → List (Event L) → List L
 links_of [] = []
 links_of (came key link ∷ es) = link ∷ links_of es
-links_of (refused link ∷ es) = link ∷ links_of es
+links_of (refused cause link ∷ es) = link ∷ links_of es
 links_of (told key x ∷ es) = links_of es
 links_of (turned key link turn ∷ es) = links_of es
 links_of (dropped key ∷ es) = links_of es
+
+-- a counter after an event, which counts each link that is dropped at once for this
+abbrev pub counted_if : {L : Type 0} → Refusal → Event L → ℕ → ℕ
+counted_if no_watch (refused no_watch link) count = counted count
+counted_if no_memory (refused no_memory link) count = counted count
+counted_if cause e count = count
+
+-- the same after these events
+abbrev pub counted_over : {L : Type 0} → Refusal → List (Event L) → ℕ → ℕ
+counted_over cause [] count = count
+counted_over cause (e ∷ es) count = counted_over cause es (counted_if cause e count)

@@ -10,7 +10,7 @@ use Rattle.modbus_turn.specs.declared.turn.Turn.TheVariants.{Waiting, Spent, Ove
 use Rattle.modbus_turn.specs.InTurn.{Said}
 use Rattle.modbus_turn.specs.Turn.{StandsAlone, RanAlone}
 use Rattle.slab.specs.Slab.{Slab, get}
-use Rattle.modbus_hub.specs.Events.{Event, came, refused, told, turned, dropped, Place, Account, account_of, by_key, HasTurn, links_of}
+use Rattle.modbus_hub.specs.Events.{Event, came, refused, told, turned, dropped, no_memory, Place, Account, account_of, by_key, HasTurn, links_of}
 
 -- the connections of one thread
 pub record SeatsState (L : Type 0) : Type 0 where
@@ -36,7 +36,7 @@ module _ (F : Framing) {S : Type 0} (A : Answering S) {L : Type 0} (M : LinkMean
   -- what an event after these does to the service
   abbrev pub Happens : List (Event L) → S → Event L → S → Type 0
   Happens earlier old (came key link) new = (account_of key None earlier ≡ None) × (new ≡ old)
-  Happens earlier old (refused link) new = new ≡ old
+  Happens earlier old (refused cause link) new = new ≡ old
   Happens earlier old (told key x) new = IsSome (account_of key None earlier) × GivesOutcome (λ slave. slave) A old x new
   Happens earlier old (turned key last turn) new = EndsTurn (account_of key None earlier) last old new turn
   Happens earlier old (dropped key) new = new ≡ old
@@ -69,10 +69,10 @@ module _ {L : Type 0} where
   IsTurnOf key None history more = (more ≡ []) × (account_of key None history ≡ None)
   IsTurnOf key (Some turn) history more = (fresh : List Said) × (last : L) × (more ≡ by_key key fresh ++ turned key last turn ∷ [])
 
-  -- a link came under this key, or was dropped
+  -- a link came under this key, or was dropped since memory was refused for its connection
   abbrev pub Admits : {E : Type 0} → L → Result ℕ E → List (Event L) → List (Event L) → Type 0
   Admits link (Ok key) history more = more ≡ came key link ∷ []
-  Admits link (Err error) history more = more ≡ refused link ∷ []
+  Admits link (Err error) history more = more ≡ refused no_memory link ∷ []
 
   abbrev pub is_spent_at : Option (Place L) → Bool
   is_spent_at None = false

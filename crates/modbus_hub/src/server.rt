@@ -12,7 +12,7 @@ use modbus_link::{Failed, Polled, PolledLink, Stop};
 use modbus_ready::{PolledAcceptor, Readiness, Ready};
 use modbus_server::{Answerer, Framing};
 use modbus_turn::InTurn;
-use std::alloc::Global;
+use std::alloc::{AllocError, Global};
 use std::marker::Model;
 use std::sync::Wait;
 use std::time::{Clock, Duration, Instant};
@@ -31,15 +31,21 @@ pub struct EventServer<I: Framing, A: PolledAcceptor, S> {
     seats: Seats<I, A::Link>,
     // whether a peer may wait to be accepted
     is_asked: bool,
+    unseated: u64,
 }
 
-/// A contract sees the acceptor, the source of readiness and the connections.
+/// A contract sees the acceptor, the source of readiness, the connections, and how many links were dropped for want of memory.
 impl<I: Framing, A: PolledAcceptor, S> Model for EventServer<I, A, S> {
     ghost use Rattle.modbus_hub.specs.Turns.{ServerState};
 
     ghost Value = { ServerState A S A.Link };
 
-    ghost view = { λ it. record { acceptor = it.acceptor; readiness = it.readiness; seats = it.seats } };
+    ghost view = { λ it. record {
+      acceptor = it.acceptor;
+      readiness = it.readiness;
+      seats = it.seats;
+      unseated = it.unseated;
+    } };
 }
 
 impl<I, A, S> EventServer<I, A, S>
@@ -55,12 +61,14 @@ where
         ensures readiness { result.readiness ≡ readiness }
         ensures empty { result.seats.seats.slots ≡ [] }
         ensures reads { result.seats.reads ≡ limits.reads }
+        ensures unseated { result.unseated ≡ 0 }
     {
         EventServer {
             acceptor,
             readiness,
             seats: Seats::new(alloc, limits),
             is_asked: true,
+            unseated: 0,
         }
     }
 
@@ -74,19 +82,32 @@ where
         self.seats.is_empty()
     }
 
-    // Takes a link under the next key. One that can't be watched, or for which memory is wanting, is dropped.
+    /// How many links were dropped at once, since memory was refused for their connections. The count stands still at the end of its type.
+    pub fn unseated(&self) -> u64
+        ensures { result ≡ self.now.unseated }
+    {
+        self.unseated
+    }
+
+    // Takes a link under the next key. One that can't be watched, or for which memory is refused, is dropped and counted.
     fn admit<V: Answerer>(&mut self, mut link: A::Link, service: &InTurn<V>)
         ensures acceptor { self.new.acceptor ≡ self.old.acceptor }
         ensures later { S.faults self.old.readiness ≤ S.faults self.new.readiness }
         ensures goes_on { SeatsGoOn I.framing V.answering
-            (meaning_of A.Link.input A.Link.output A.Link.line) (Brings link) self.old.seats.seats
-            self.new.seats.seats service.now.service service.now.service }
+            (meaning_of A.Link.input A.Link.output A.Link.line)
+            (Brings S.faults link self.old self.new) self.old.seats.seats self.new.seats.seats
+            service.now.service service.now.service }
     {
         let key = self.seats.next_key();
-        if self.readiness.watch(&mut link, key).is_err() {
-            return;
+        match self.readiness.watch(&mut link, key) {
+            Err(Failed) => {}
+            Ok(()) => match self.seats.admit(link, service) {
+                Ok(_key) => {}
+                Err(AllocError) => {
+                    self.unseated = self.unseated.saturating_add(1);
+                }
+            },
         }
-        let _ = self.seats.admit(link, service);
     }
 
     // Accepts the next peer that waits, where there is room; whether another may wait then. After a fault the others wait for the next try.
@@ -94,8 +115,8 @@ where
         ensures later { S.faults self.old.readiness ≤ S.faults self.new.readiness }
         ensures goes_on { SeatsGoOn I.framing V.answering
             (meaning_of A.Link.input A.Link.output A.Link.line)
-            (Comes A.accepts self.old.acceptor self.new.acceptor) self.old.seats.seats
-            self.new.seats.seats service.now.service service.now.service }
+            (Comes A.accepts S.faults self.old self.new) self.old.seats.seats self.new.seats.seats
+            service.now.service service.now.service }
     {
         let _service = service;
         if self.seats.is_full() {
@@ -119,8 +140,8 @@ where
         ensures later { S.faults self.old.readiness ≤ S.faults self.new.readiness }
         ensures goes_on { SeatsGoOn I.framing V.answering
             (meaning_of A.Link.input A.Link.output A.Link.line)
-            (Comes A.accepts self.old.acceptor self.new.acceptor) self.old.seats.seats
-            self.new.seats.seats service.now.service service.now.service }
+            (Comes A.accepts S.faults self.old self.new) self.old.seats.seats self.new.seats.seats
+            service.now.service service.now.service }
     {
         let _service = service;
         'peers: for _ in 0..u64::MAX {
@@ -135,6 +156,7 @@ where
         ensures own { service.new.ahead ≡ [] }
         ensures acceptor { self.new.acceptor ≡ self.old.acceptor }
         ensures readiness { self.new.readiness ≡ self.old.readiness }
+        ensures unseated { self.new.unseated ≡ self.old.unseated }
         ensures goes_on { SeatsGoOn I.framing V.answering
             (meaning_of A.Link.input A.Link.output A.Link.line) Serves self.old.seats.seats
             self.new.seats.seats service.old.service service.new.service }
@@ -158,6 +180,7 @@ where
         ensures own { service.new.ahead ≡ [] }
         ensures acceptor { self.new.acceptor ≡ self.old.acceptor }
         ensures readiness { self.new.readiness ≡ self.old.readiness }
+        ensures unseated { self.new.unseated ≡ self.old.unseated }
         ensures goes_on { SeatsGoOn I.framing V.answering
             (meaning_of A.Link.input A.Link.output A.Link.line) Serves self.old.seats.seats
             self.new.seats.seats service.old.service service.new.service }
@@ -174,6 +197,7 @@ where
         ensures own { service.new.ahead ≡ [] }
         ensures acceptor { self.new.acceptor ≡ self.old.acceptor }
         ensures readiness { self.new.readiness ≡ self.old.readiness }
+        ensures unseated { self.new.unseated ≡ self.old.unseated }
         ensures goes_on { SeatsGoOn I.framing V.answering
             (meaning_of A.Link.input A.Link.output A.Link.line) (ServesLeft self.old.seats)
             self.old.seats.seats self.new.seats.seats service.old.service service.new.service }
@@ -190,8 +214,8 @@ where
         ensures later { S.faults self.old.readiness ≤ S.faults self.new.readiness }
         ensures goes_on { SeatsGoOn I.framing V.answering
             (meaning_of A.Link.input A.Link.output A.Link.line)
-            (Comes A.accepts self.old.acceptor self.new.acceptor) self.old.seats.seats
-            self.new.seats.seats service.now.service service.now.service }
+            (Comes A.accepts S.faults self.old self.new) self.old.seats.seats self.new.seats.seats
+            service.now.service service.now.service }
     {
         let _service = service;
         if self.is_asked {
@@ -226,8 +250,8 @@ where
             (S.faults self.new.readiness)) }
         ensures goes_on { SeatsGoOn I.framing V.answering
             (meaning_of A.Link.input A.Link.output A.Link.line)
-            (TakesRound A.accepts self.old.seats self.old.acceptor self.new.acceptor result)
-            self.old.seats.seats self.new.seats.seats service.old.service service.new.service }
+            (TakesRound A.accepts S.faults self.old self.new result) self.old.seats.seats
+            self.new.seats.seats service.old.service service.new.service }
     {
         let _before = service.service();
         let patience = self.patience(timeout);
@@ -246,6 +270,7 @@ where
     pub fn drop_idle<V: Answerer>(&mut self, service: &InTurn<V>)
         ensures acceptor { self.new.acceptor ≡ self.old.acceptor }
         ensures readiness { self.new.readiness ≡ self.old.readiness }
+        ensures unseated { self.new.unseated ≡ self.old.unseated }
         ensures goes_on { SeatsGoOn I.framing V.answering
             (meaning_of A.Link.input A.Link.output A.Link.line) IsDrop self.old.seats.seats
             self.new.seats.seats service.now.service service.now.service }
@@ -269,8 +294,8 @@ where
             (S.faults self.new.readiness)) }
         ensures goes_on { SeatsGoOn I.framing V.answering
             (meaning_of A.Link.input A.Link.output A.Link.line)
-            (Comes A.accepts self.old.acceptor self.new.acceptor) self.old.seats.seats
-            self.new.seats.seats service.old.service service.new.service }
+            (Comes A.accepts S.faults self.old self.new) self.old.seats.seats self.new.seats.seats
+            service.old.service service.new.service }
     {
         let timeout = shorter(idle, Duration::from_millis(LOOK));
         match self.turn(service, timeout) {
@@ -309,8 +334,8 @@ where
             (S.faults self.new.readiness)) }
         ensures goes_on { SeatsGoOn I.framing V.answering
             (meaning_of A.Link.input A.Link.output A.Link.line)
-            (Comes A.accepts self.old.acceptor self.new.acceptor) self.old.seats.seats
-            self.new.seats.seats service.old.service service.new.service }
+            (Comes A.accepts S.faults self.old self.new) self.old.seats.seats self.new.seats.seats
+            service.old.service service.new.service }
     {
         let _before = service.service();
         let mut swept = Instant::now(rt).ok();

@@ -2,13 +2,13 @@ use Rattle.std.proofs.Common.{◌≡◌, ◌∙◌, sym, ap, ℕ}
 use Rattle.std.specs.declared.alloc.AllocError.{AllocError}
 use Rattle.modbus_link.specs.Line.{meaning_of}
 use Rattle.slab.specs.Slab.{Slab, get}
-use Rattle.modbus_hub.specs.Events.{Place}
+use Rattle.modbus_hub.specs.Events.{Place, no_memory}
 use Rattle.modbus_hub.proofs.Seating.{admitted, turned_away}
 use Rattle.modbus_hub.proofs.seats.Seats.admit.Goals as goal
 
 pub returns-then-is_err-clause-goes_on : goal.returns-then-is_err-clause-goes_on
 returns-then-is_err-clause-goes_on g c =
-    rw (← c.self.view_is) (turned_away g.I.Framing.framing g.V.Answerer.answering (meaning_of g.L.Ends.input g.L.Ends.output g.L.Ends.line) {E = AllocError} c.args.link _ c.self.inside.seats c.reserve.new.self c.args.service.now.service
+    rw (← c.self.view_is) (turned_away g.I.Framing.framing g.V.Answerer.answering (meaning_of g.L.Ends.input g.L.Ends.output g.L.Ends.line) no_memory c.args.link c.self.inside.seats c.reserve.new.self c.args.service.now.service
     (λ key. ap (λ (s : Slab (Place g.row.L.Denot)). get s key) c.reserve.ensures.rest_kept))
 
 pub returns-in-Ok-clause-goes_on : goal.returns-in-Ok-clause-goes_on
@@ -22,5 +22,5 @@ returns-in-Ok-clause-goes_on g c =
 
 pub returns-in-Err-clause-goes_on : goal.returns-in-Err-clause-goes_on
 returns-in-Err-clause-goes_on g c =
-    rw (← c.self.view_is) (turned_away g.I.Framing.framing g.V.Answerer.answering (meaning_of g.L.Ends.input g.L.Ends.output g.L.Ends.line) {E = AllocError} c.args.link _ c.self.inside.seats c.reserve.new.self c.args.service.now.service
+    rw (← c.self.view_is) (turned_away g.I.Framing.framing g.V.Answerer.answering (meaning_of g.L.Ends.input g.L.Ends.output g.L.Ends.line) no_memory c.args.link c.self.inside.seats c.reserve.new.self c.args.service.now.service
     (λ key. ap (λ (s : Slab (Place g.row.L.Denot)). get s key) c.reserve.ensures.rest_kept))

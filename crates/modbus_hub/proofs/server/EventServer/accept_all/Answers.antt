@@ -8,25 +8,27 @@ use Rattle.modbus_hub.proofs.server.EventServer.accept_all.Goals as goal
 pub returns-then-not-accept_one-clause-goes_on : goal.returns-then-not-accept_one-clause-goes_on
 returns-then-not-accept_one-clause-goes_on g c =
     let accepts = g.A.PolledAcceptor.accepts in
+    let faults = g.S.Readiness.faults in
     let first = c.args.self.now in
     let now = c.peers.self in
     let next = c.accept_one.new.self in
     let service = c.args.service.now.service in
     go_both g.I.Framing.framing g.V.Answerer.answering (meaning_of g.A.Link.Ends.input g.A.Link.Ends.output g.A.Link.Ends.line)
-    (Comes accepts first.acceptor now.acceptor) (Comes accepts now.acceptor next.acceptor) (Comes accepts first.acceptor next.acceptor)
+    (Comes accepts faults first now) (Comes accepts faults now next) (Comes accepts faults first next)
     first.seats.seats now.seats.seats next.seats.seats service service service c.peers.invariant.1 c.accept_one.ensures.goes_on
-    (comes_both accepts first.acceptor now.acceptor next.acceptor)
+    (comes_both accepts faults first now next)
 
 pub peers-preserved : goal.peers-preserved
 peers-preserved g c =
     let accepts = g.A.PolledAcceptor.accepts in
+    let faults = g.S.Readiness.faults in
     let first = c.args.self.now in
     let now = c.peers.self in
     let next = c.accept_one.new.self in
     let service = c.args.service.now.service in (
       omega (arith, c.peers.invariant.0, c.accept_one.ensures.later),
       go_both g.I.Framing.framing g.V.Answerer.answering (meaning_of g.A.Link.Ends.input g.A.Link.Ends.output g.A.Link.Ends.line)
-          (Comes accepts first.acceptor now.acceptor) (Comes accepts now.acceptor next.acceptor) (Comes accepts first.acceptor next.acceptor)
+          (Comes accepts faults first now) (Comes accepts faults now next) (Comes accepts faults first next)
           first.seats.seats now.seats.seats next.seats.seats service service service c.peers.invariant.1 c.accept_one.ensures.goes_on
-          (comes_both accepts first.acceptor now.acceptor next.acceptor),
+          (comes_both accepts faults first now next),
     )

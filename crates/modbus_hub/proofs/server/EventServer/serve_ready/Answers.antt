@@ -10,7 +10,8 @@ ready-preserved g c = (
   c.take.ensures.own,
   c.take.ensures.acceptor ∙ c.ready.invariant.1,
   c.take.ensures.readiness ∙ c.ready.invariant.2,
+  c.take.ensures.unseated ∙ c.ready.invariant.3,
   go_both g.I.Framing.framing g.V.Answerer.answering (meaning_of g.A.Link.Ends.input g.A.Link.Ends.output g.A.Link.Ends.line) Serves Serves Serves
       c.args.self.now.seats.seats c.ready.self.seats.seats c.take.new.self.seats.seats c.args.service.now.service c.ready.service.service c.take.new.service.service
-      c.ready.invariant.3 c.take.ensures.goes_on serves_both,
+      c.ready.invariant.4 c.take.ensures.goes_on serves_both,
 )

@@ -1,8 +1,8 @@
-use Rattle.std.proofs.Common.{refl, arith}
+use Rattle.std.proofs.Common.{refl, arith, []}
 use Rattle.modbus_link.specs.Line.{meaning_of}
 use Rattle.modbus_hub.specs.Turns.{Comes}
 use Rattle.modbus_hub.proofs.Seating.{go_both, go_same}
-use Rattle.modbus_hub.proofs.Rounding.{comes_both, none_given}
+use Rattle.modbus_hub.proofs.Rounding.{comes_both, none_come}
 use Rattle.modbus_hub.proofs.server.EventServer.serve_until.Goals as goal
 
 pub rounds-init : goal.rounds-init
@@ -11,13 +11,14 @@ rounds-init g c = (
   omega arith,
   omega arith,
   go_same g.I.Framing.framing g.V.Answerer.answering (meaning_of g.A.Link.Ends.input g.A.Link.Ends.output g.A.Link.Ends.line)
-      (Comes g.A.PolledAcceptor.accepts c.args.self.now.acceptor c.args.self.now.acceptor) c.args.self.now.seats.seats c.args.self.now.seats.seats c.args.service.now.service
-      (λ key. refl) (λ start history all. none_given g.A.PolledAcceptor.accepts c.args.self.now.acceptor),
+      (Comes g.A.PolledAcceptor.accepts g.S.Readiness.faults c.args.self.now c.args.self.now) c.args.self.now.seats.seats c.args.self.now.seats.seats c.args.service.now.service
+      (λ key. refl) (λ start history all. none_come g.A.PolledAcceptor.accepts g.S.Readiness.faults c.args.self.now c.args.self.now history [] refl (omega arith) refl refl),
 )
 
 pub rounds-preserved : goal.rounds-preserved
 rounds-preserved g c =
     let accepts = g.A.PolledAcceptor.accepts in
+    let faults = g.S.Readiness.faults in
     let first = c.args.self.now in
     let now = c.rounds.self in
     let next = c.round.new.self in (
@@ -25,18 +26,19 @@ rounds-preserved g c =
       omega (arith, c.rounds.invariant.1, c.round.ensures.later),
       omega (arith, c.rounds.invariant.2, c.is_set.ensures.later),
       go_both g.I.Framing.framing g.V.Answerer.answering (meaning_of g.A.Link.Ends.input g.A.Link.Ends.output g.A.Link.Ends.line)
-          (Comes accepts first.acceptor now.acceptor) (Comes accepts now.acceptor next.acceptor) (Comes accepts first.acceptor next.acceptor)
+          (Comes accepts faults first now) (Comes accepts faults now next) (Comes accepts faults first next)
           first.seats.seats now.seats.seats next.seats.seats c.args.service.now.service c.rounds.service.service c.round.new.service.service
-          c.rounds.invariant.3 c.round.ensures.goes_on (comes_both accepts first.acceptor now.acceptor next.acceptor),
+          c.rounds.invariant.3 c.round.ensures.goes_on (comes_both accepts faults first now next),
     )
 
 pub returns-in-Err-clause-goes_on : goal.returns-in-Err-clause-goes_on
 returns-in-Err-clause-goes_on g c =
     let accepts = g.A.PolledAcceptor.accepts in
+    let faults = g.S.Readiness.faults in
     let first = c.args.self.now in
     let now = c.rounds.self in
     let next = c.round.new.self in
     go_both g.I.Framing.framing g.V.Answerer.answering (meaning_of g.A.Link.Ends.input g.A.Link.Ends.output g.A.Link.Ends.line)
-    (Comes accepts first.acceptor now.acceptor) (Comes accepts now.acceptor next.acceptor) (Comes accepts first.acceptor next.acceptor)
+    (Comes accepts faults first now) (Comes accepts faults now next) (Comes accepts faults first next)
     first.seats.seats now.seats.seats next.seats.seats c.args.service.now.service c.rounds.service.service c.round.new.service.service
-    c.rounds.invariant.3 c.round.ensures.goes_on (comes_both accepts first.acceptor now.acceptor next.acceptor)
+    c.rounds.invariant.3 c.round.ensures.goes_on (comes_both accepts faults first now next)
