@@ -170,6 +170,16 @@ static void coding(void) {
     row("a list that does not fit", done.status == MODBUS_NO_ROOM && response.exception);
     done = modbus_response_decode((const uint8_t *)"\x03\x03\x00\x01\x00", 5, &response, words, 4, coils, 16);
     row("no response", done.status == MODBUS_REFUSED && done.detail == MODBUS_INVALID_QUANTITY);
+
+    uint8_t answer[8] = {0};
+    done = modbus_response_encode(&(modbus_response){.function = 3, .count = 2}, words, 4, coils, 16, answer, 5);
+    row("a response past its room", done.status == MODBUS_NO_ROOM && done.written == 0 && answer[0] == 0);
+    done = modbus_response_encode(&(modbus_response){.function = 3, .count = 2}, (uint16_t[]){10, 258}, 2, coils, 16, answer, 6);
+    row("a response", done.status == MODBUS_DONE && done.written == 6 && memcmp(answer, "\3\4\0\12\1\2\0\0", 8) == 0);
+    done = modbus_response_encode(&(modbus_response){.function = 3, .exception = true, .code = 2}, words, 0, coils, 0, answer, 8);
+    row("an exception is written", done.status == MODBUS_DONE && done.written == 2 && answer[0] == 0x83 && answer[1] == 2);
+    done = modbus_response_encode(&(modbus_response){.function = 0x83, .exception = true, .code = 2}, words, 0, coils, 0, answer, 8);
+    row("an exception of no function", done.status == MODBUS_UNTOLD && done.written == 0);
 }
 
 static void wrapping(void) {

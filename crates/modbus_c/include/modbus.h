@@ -124,7 +124,7 @@ typedef struct {
     size_t count;
 } modbus_request;
 
-/* A response without its lists, or an exception. A field that is not named is 0.
+/* A response without its lists, or an exception. A field that is not named is 0 when it is read, and is not looked at when it is written.
  *
  *   an exception                               exception: true, code, function: the request's   AP 7
  *   01, 02  coils, discrete inputs             count: so many coils, eight for each byte
@@ -184,6 +184,12 @@ modbus_done modbus_request_encode(const modbus_request *request, const uint16_t 
  * caller's; MODBUS_NO_MEMORY. Where it is not done nothing is written. `written` is 0. */
 modbus_done modbus_response_decode(const uint8_t *pdu, size_t pdu_len, modbus_response *response, uint16_t *words, size_t words_len,
                                    bool *coils, size_t coils_len);
+
+/* Writes the PDU of a response or an exception to the front of `pdu`. The function of an exception is that of the request, below 128.
+ * MODBUS_DONE; MODBUS_UNTOLD; MODBUS_NO_ROOM: `count` is more than the list has, or `pdu` is too short; MODBUS_TOO_LONG;
+ * MODBUS_NO_MEMORY. Where it is not done nothing is written, and `written` is 0. */
+modbus_done modbus_response_encode(const modbus_response *response, const uint16_t *words, size_t words_len, const bool *coils,
+                                   size_t coils_len, uint8_t *pdu, size_t pdu_len);
 
 /* Writes a PDU as the ADU or the frame that carries it to the front of the output (TCP 3.1.3, SL 2.5.1).
  * MODBUS_DONE; MODBUS_TOO_LONG: the PDU has more than 253 bytes; MODBUS_NO_ROOM. Where it is not done nothing is written, and `written` is

@@ -3,6 +3,7 @@ pub mod Found
 pub mod Laid
 pub mod Requests
 pub mod Responses
+pub mod Answers
 pub mod Serving
 pub mod Served
 pub mod Inbox

@@ -4,6 +4,7 @@
 //! the library that it makes, over structs of C and the caller's own arrays. `include/modbus.h` declares them.
 #![tactic(auto)]
 
+mod answer;
 mod export;
 mod find;
 mod inbox;
