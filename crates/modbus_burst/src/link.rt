@@ -105,7 +105,8 @@ fn poll_next<L: TimedLink>(
 fn finish<L: TimedLink>(link: &mut L, room: &mut [u8], first: usize) -> Result<usize, Failed>
     requires some { 0 < first }
     requires within { first ≤ length room.old }
-    ensures finishes { Finishes (L.input link.old) (L.input link.new) (L.not_ready link.old) (L.not_ready link.new) first room.old room.new result }
+    ensures finishes { Finishes (L.input link.old) (L.input link.new) (L.not_ready link.old)
+        (L.not_ready link.new) first room.old room.new result }
     ensures sink { L.output link.new ≡ L.output link.old }
     ensures line { L.line link.new ≡ L.line link.old }
 {
@@ -128,7 +129,8 @@ fn finish<L: TimedLink>(link: &mut L, room: &mut [u8], first: usize) -> Result<u
 fn read_burst<L: TimedLink>(link: &mut L, room: &mut [u8]) -> Result<usize, Failed>
     requires { 0 < length room.old }
     ensures bound { ReadsAtMost result room.new }
-    ensures gives { GivesBurst (L.input link.old) (L.input link.new) (L.not_ready link.old) (L.not_ready link.new) (length room.old) room.new result }
+    ensures gives { GivesBurst (L.input link.old) (L.input link.new) (L.not_ready link.old)
+        (L.not_ready link.new) (length room.old) room.new result }
     ensures sink { L.output link.new ≡ L.output link.old }
     ensures line { L.line link.new ≡ L.line link.old }
 {
@@ -179,11 +181,16 @@ impl<L: TimedLink> Source for BurstLink<L> {
         requires { 0 < length room.old }
         ensures bound { ReadsAtMost result room.new }
         ensures source { Advances (untold_input self.old.read_faults) (untold_input self.new.read_faults) }
-        ensures sink { output_over (L.output self.new.link) self.new.write_faults ≡ output_over (L.output self.old.link) self.old.write_faults }
+        ensures sink { output_over (L.output self.new.link) self.new.write_faults
+            ≡ output_over (L.output self.old.link) self.old.write_faults }
         ensures line { L.line self.new.link ≡ L.line self.old.link }
 
-        ensures gives { GivesBurst (L.input self.old.link) (L.input self.new.link) (L.not_ready self.old.link) (L.not_ready self.new.link) (length room.old) room.new result }
-        ensures counts { self.new ≡ record self.old { link = self.new.link; read_faults = faults_after result self.old.read_faults } }
+        ensures gives { GivesBurst (L.input self.old.link) (L.input self.new.link)
+            (L.not_ready self.old.link) (L.not_ready self.new.link) (length room.old) room.new result }
+        ensures counts { self.new ≡ record self.old {
+          link = self.new.link;
+          read_faults = faults_after result self.old.read_faults;
+        } }
     {
         match read_burst(&mut self.link, room) {
             Ok(count) => Ok(count),
@@ -203,14 +210,18 @@ impl<L: TimedLink> Sink for BurstLink<L> {
     fn write(&mut self, piece: &[u8]) -> Result<usize, Failed>
         ensures bound { WritesAtMost result piece.now }
         ensures some { IfOk result (λ count. 0 < length piece.now → 0 < count) }
-        ensures sink { Extends (output_over (L.output self.old.link) self.old.write_faults) (output_over (L.output self.new.link) self.new.write_faults) }
+        ensures sink { Extends (output_over (L.output self.old.link) self.old.write_faults)
+            (output_over (L.output self.new.link) self.new.write_faults) }
         ensures told { IsTrue (L.output self.old.link).told
             → bytes_appended (L.output self.old.link) (L.output self.new.link) ≡ front_of result piece.now }
         ensures line { L.line self.new.link ≡ L.line self.old.link }
 
         ensures fails { OnErr result
             (Rose (L.output self.old.link).faults (L.output self.new.link).faults ⊎ (last_count ≤ L.not_ready self.new.link)) }
-        ensures counts { self.new ≡ record self.old { link = self.new.link; write_faults = faults_after result self.old.write_faults } }
+        ensures counts { self.new ≡ record self.old {
+          link = self.new.link;
+          write_faults = faults_after result self.old.write_faults;
+        } }
     {
         match write_through(&mut self.link, piece) {
             Ok(count) => Ok(count),
