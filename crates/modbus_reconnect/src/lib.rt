@@ -19,6 +19,7 @@ mod telling;
 mod waiting;
 
 pub use crate::client::ReconnectingClient;
+pub use crate::owing::leaves_nothing;
 pub use crate::resend::Resend;
 pub use crate::settling::{Unsettled, settle};
 pub use crate::settling_client::SettlingClient;

@@ -31,8 +31,10 @@ pub(crate) fn is_settled(request: &Request<'_>, answer: &Result<Response>) -> bo
     }
 }
 
-/// The same of an answer with so many bytes left over behind it, of which none may be left.
-pub(crate) fn leaves_nothing(request: &Request<'_>, answer: &Result<Response>, held: usize) -> bool
+/// Whether a call with this answer, and so many bytes that were read behind it, leaves nothing owed on its link: it was answered by its own
+/// reply, with no byte left over, or sent nothing. A link on which something is owed is dropped, so that no answer is taken from the bytes
+/// of an earlier request.
+pub fn leaves_nothing(request: &Request<'_>, answer: &Result<Response>, held: usize) -> bool
     ensures { (bytes : List ℕ) → length bytes ≡ held
         → result ≡ leaves_nothing (meaning request.now) answer.now bytes }
 {

@@ -1,0 +1,9 @@
+use Rattle.std.proofs.Common.{◌≡◌, None}
+use Rattle.modbus_link.specs.Line.{meaning_of}
+use Rattle.modbus_fleet.specs.Device.{fleet_by}
+use Rattle.modbus_fleet.specs.Fleet.{EachGoes}
+use Rattle.modbus_fleet.proofs.fleet.Fleet.next_answer.Given as goal
+
+abbrev pub invariant-ready : goal.invariant-ready
+invariant-ready g l = EachGoes (fleet_by g.P.Protocol.protocol (meaning_of g.L.Ends.input g.L.Ends.output g.L.Ends.line) g.L.PolledLink.not_ready) l.fn.self.devices None l.self.devices
+    × (l.self.readiness ≡ l.fn.self.readiness)

@@ -1,0 +1,115 @@
+//! Two devices whose links are ready in turn, by a schedule that the test sets.
+
+ghost use Rattle.std.specs.Prelude.{◌<◌};
+
+use modbus_client::tcp::OwnAdus;
+use modbus_fleet::{Device, Fleet, Told};
+use modbus_frame::{Request, Response, Slave};
+use modbus_link::{MemoryLink, MemorySink, MemorySource, PolledMemoryLink};
+use modbus_ready::{Ready, ScheduledReadiness};
+use std::alloc::{AllocError, Global};
+use std::test::Fail;
+
+/// The reply of unit 1 to a read of one register: 7.
+const FIRST_REPLY: [u8; 11] = [0, 0, 0, 0, 0, 5, 1, 3, 2, 0, 7];
+
+/// The reply of unit 2: 9.
+const SECOND_REPLY: [u8; 11] = [0, 0, 0, 0, 0, 5, 2, 3, 2, 0, 9];
+
+/// A link that gives these bytes, four at a read, and is not ready at its second poll, nor at its fourth.
+fn link(alloc: Global, input: &[u8]) -> Result<PolledMemoryLink, AllocError> {
+    let source = MemorySource::new(alloc, input, &[4], &[])?;
+    let sink = MemorySink::new(alloc, 256, 256, &[])?;
+    PolledMemoryLink::new(alloc, MemoryLink::new(source, sink, false), &[1, 3])
+}
+
+/// The words of an answer that has some.
+fn words_of(told: &Option<Told>) -> Option<(usize, &[u16])> {
+    match told {
+        Some(
+            Told {
+                key,
+                answer: Ok(Ok(Response::ReadHoldingRegisters(words))),
+            },
+        ) => Some((*key, words.as_slice())),
+        _ => None,
+    }
+}
+
+type TwoDevices<'a> = Fleet<'a, OwnAdus, PolledMemoryLink, ScheduledReadiness>;
+
+/// The devices under the keys 0 and 1, whose readiness comes in this order, and once for a key that no device has.
+fn devices<'a>(alloc: Global) -> Result<TwoDevices<'a>, AllocError> {
+    let schedule = [
+        Ready::Link(1),
+        Ready::Link(0),
+        Ready::Link(7),
+        Ready::Link(1),
+        Ready::Link(1),
+    ];
+    let readiness = ScheduledReadiness::new(alloc, &schedule)?;
+    let mut fleet = Fleet::new(alloc, readiness);
+    let _first = fleet.add(Device::new(Slave(1), 64, 1000))?;
+    let _second = fleet.add(Device::new(Slave(2), 64, 500))?;
+    Ok(fleet)
+}
+
+/// Whether the device under a key is connected by a link that gives these bytes, and asked.
+fn is_asked(
+    alloc: Global,
+    fleet: &mut TwoDevices<'_>,
+    key: usize,
+    reply: &[u8],
+) -> Result<bool, AllocError> {
+    if fleet.connect(key, link(alloc, reply)?).is_err() {
+        return Ok(false);
+    }
+    let request = Request::ReadHoldingRegisters(5, 1);
+    Ok(matches!(fleet.ask(key, request, 100), Some(Ok(()))))
+}
+
+/// Whether the next rounds tell nothing.
+fn tells_nothing(fleet: &mut TwoDevices<'_>, rounds: u32) -> bool {
+    for _ in 0..rounds {
+        if fleet.wait(None).is_err() || fleet.next_answer().is_some() {
+            return false;
+        }
+    }
+    true
+}
+
+/// Whether the next round tells that the device under a key read this register, and nothing more.
+fn tells(fleet: &mut TwoDevices<'_>, key: usize, register: u16) -> bool {
+    if fleet.wait(None).is_err() {
+        return false;
+    }
+    let told = fleet.next_answer();
+    words_of(&told) == Some((key, [register].as_slice())) && fleet.next_answer().is_none()
+}
+
+/// Whether the call of the device under a key is given up at this time and not before, once, and its link is dropped.
+fn expires(fleet: &mut TwoDevices<'_>, key: usize, time: u64) -> bool
+    requires { 0 < time }
+{
+    let before = fleet.expire(time - 1);
+    let then = fleet.expire(time);
+    let after = fleet.expire(u64::MAX);
+    before.is_none()
+        && then == Some(key)
+        && after.is_none()
+        && fleet.device(key).is_some_and(|device| device.is_away())
+}
+
+/// Each answer is told with its device, whose link may be used again; a device whose time is over is away, and is told once.
+#[test]
+fn answers_are_told_with_their_device(rt: HostRuntime) -> Result<(), Fail> {
+    let alloc = rt.alloc();
+    let mut fleet = devices(alloc)?;
+    assert!(rt; is_asked(alloc, &mut fleet, 0, &FIRST_REPLY)?);
+    assert!(rt; is_asked(alloc, &mut fleet, 1, &SECOND_REPLY)?);
+    assert!(rt; tells_nothing(&mut fleet, 4));
+    assert!(rt; tells(&mut fleet, 1, 9));
+    assert!(rt; expires(&mut fleet, 0, 1100));
+    assert!(rt; fleet.device(1).is_some_and(|device| device.is_idle()));
+    Ok(())
+}

@@ -1,0 +1,5 @@
+//! Tests of many devices on one thread, over memory.
+#![tactic(auto)]
+
+#[cfg(test)]
+mod answers;
