@@ -1,0 +1,11 @@
+//! What a device says of itself: Report Server ID (Modbus Application Protocol V1.1b3, section 6.13), and Read Device Identification, its
+//! objects by category or one by one (section 6.21).
+#![tactic(auto)]
+
+mod identified;
+mod identity;
+pub mod laws;
+mod stream;
+
+pub use crate::identified::Identified;
+pub use crate::identity::{Identity, IdentityError, LONGEST_EXTRA, LONGEST_OBJECT};
