@@ -1,0 +1,4 @@
+pub mod Queries
+pub mod Hearing
+pub mod Counting
+pub mod Port

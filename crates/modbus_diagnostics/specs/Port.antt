@@ -1,0 +1,90 @@
+-- A port of a serial line, which counts what it hears and answers for its counters (Modbus Application Protocol V1.1b3, section 6.8).
+use Rattle.std.specs.Prelude.{◌≡◌, ℕ, List, ◌∷◌, ◌++◌, filter, Option, Some, None, Result, Ok, Err}
+use Rattle.modbus_frame.specs.Meaning.{Asked}
+use Rattle.modbus_frame.specs.declared.response.Response.{Response}
+use Rattle.modbus_service.specs.Answering.{Answering}
+use Rattle.modbus_service.specs.Exchange.{Exchange, Run}
+use Rattle.modbus_service.specs.Outcome.{Outcome, silence}
+use Rattle.modbus_service.specs.declared.service.ServiceError.{ServiceError}
+use Rattle.modbus_service.specs.declared.service.ServiceError.TheVariants.{Exception, NoMemory}
+use Rattle.modbus_diagnostics.specs.declared.counters.Counters.{Counters}
+use Rattle.modbus_diagnostics.specs.declared.counters.Ended.{Ended}
+use Rattle.modbus_diagnostics.specs.declared.counters.Ended.TheVariants.{Well, Refused, Silent}
+use Rattle.modbus_diagnostics.specs.declared.heard.Heard.{Heard}
+use Rattle.modbus_diagnostics.specs.declared.heard.Heard.TheVariants.{Noise, Asks}
+use Rattle.modbus_diagnostics.specs.declared.query.Query.{Query}
+use Rattle.modbus_diagnostics.specs.declared.port.Port.{Port}
+use Rattle.modbus_diagnostics.specs.Queries.{query_reply}
+use Rattle.modbus_diagnostics.specs.Hearing.{heard, heard_of, is_passed}
+use Rattle.modbus_diagnostics.specs.Counting.{zeros, with_this, end_of, counted, counts, AreSinceCleared}
+
+-- how a message ended that was told so; untold where memory was refused
+abbrev pub told_end : Result (Option Response) ServiceError → Option Ended
+told_end (Ok None) = Some Silent
+told_end (Ok (Some response)) = Some Well
+told_end (Err (Exception code)) = Some Refused
+told_end (Err NoMemory) = None
+
+-- What a port does with what it heard: nothing with noise; what asks the port itself it answers, and its service does not hear of it; all
+-- else its service answers.
+abbrev pub Answers : {S : Type 0} → Answering S → Counters → Heard → S → ℕ → Asked → Outcome → S → Type 0
+Answers A c Noise old slave request outcome new = (outcome ≡ silence) × (new ≡ old)
+Answers A c (Asks query) old slave request outcome new = (outcome ≡ query_reply (with_this c) request query) × (new ≡ old)
+Answers A c _ old slave request outcome new = A.gives old slave request outcome new
+
+-- where memory is refused, for an answer of the port's own or to its service
+abbrev pub Wants : {S : Type 0} → Answering S → Heard → S → ℕ → Asked → S → Type 0
+Wants A Noise old slave request new = ⊥
+Wants A (Asks query) old slave request new = new ≡ old
+Wants A _ old slave request new = A.wants old slave request new
+
+-- a port with these counters, of what it heard
+abbrev pub hearing : {S : Type 0} → Answering S → Counters → Heard → Answering S
+hearing A c h = record { gives = Answers A c h; wants = Wants A h }
+
+-- the counters after what was heard ended, or memory was refused for it
+abbrev pub counted_when : Counters → Heard → Option Ended → Counters
+counted_when c h None = c
+counted_when c h (Some end) = counted c h end
+
+-- and it counts it
+abbrev pub port_gives : {S : Type 0} → Answering S → Port S → ℕ → Asked → Outcome → Port S → Type 0
+port_gives A old slave request outcome new =
+    (new.units ≡ old.units)
+    × (new.counters ≡ counted old.counters (heard old.units.items slave request) (end_of outcome))
+    × Answers A old.counters (heard old.units.items slave request) old.service slave request outcome new.service
+
+-- where memory is refused nothing is counted
+abbrev pub port_wants : {S : Type 0} → Answering S → Port S → ℕ → Asked → Port S → Type 0
+port_wants A old slave request new =
+    (new.units ≡ old.units) × (new.counters ≡ old.counters)
+    × Wants A (heard old.units.items slave request) old.service slave request new.service
+
+abbrev pub port_answering : {S : Type 0} → Answering S → Answering (Port S)
+port_answering A = record { gives = port_gives A; wants = port_wants A }
+
+-- a port that had heard nothing has counted what there is to count since it was cleared
+abbrev pub CountsAll : (Header : Type 0) → {S : Type 0} → Answering S → Type 0
+CountsAll Header {S} A =
+    (slave : Header → ℕ) (start last : Port S) (xs since : List (Exchange Header))
+    → Run slave (port_answering A) start xs last → start.counters ≡ zeros → AreSinceCleared slave start.units.items xs since
+    → last.counters ≡ counts slave start.units.items since
+
+-- and what asks the port itself is answered of the counts so far, with this message
+abbrev pub TellsCounts : (Header : Type 0) → {S : Type 0} → Answering S → Type 0
+TellsCounts Header {S} A =
+    (slave : Header → ℕ) (start last : Port S) (xs since after : List (Exchange Header)) (x : Exchange Header) (query : Query)
+    → Run slave (port_answering A) start (xs ++ x ∷ after) last → start.counters ≡ zeros → AreSinceCleared slave start.units.items xs since
+    → heard_of slave start.units.items x ≡ Asks query
+    → x.outcome ≡ query_reply (with_this (counts slave start.units.items since)) x.request query
+
+-- the exchanges that a port does not keep from its service, in order
+abbrev pub passed : {Header : Type 0} → (Header → ℕ) → List ℕ → List (Exchange Header) → List (Exchange Header)
+passed slave units xs = filter (λ x. is_passed (heard_of slave units x)) xs
+
+-- a run of a port is a run of its service over these
+abbrev pub PortRuns : (Header : Type 0) → {S : Type 0} → Answering S → Type 0
+PortRuns Header {S} A =
+    (slave : Header → ℕ) (start last : Port S) (xs : List (Exchange Header))
+    → Run slave (port_answering A) start xs last
+    → (last.units ≡ start.units) × Run slave A start.service (passed slave start.units.items xs) last.service

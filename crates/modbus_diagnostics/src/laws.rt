@@ -1,0 +1,27 @@
+//! Laws on what a port counts, tells and leaves to its service, about definitions alone. Each is proved by its contract.
+ghost use Rattle.std.specs.Prelude.{◌≡◌, ℕ, List, [], ◌∷◌, true, false};
+ghost use Rattle.modbus_standard.specs.Unread.{any_request_of};
+ghost use Rattle.modbus_diagnostics.specs.Hearing.{is_noise};
+ghost use Rattle.modbus_diagnostics.specs.Port.{CountsAll, TellsCounts, PortRuns};
+
+use modbus_service::Answerer;
+
+/// The counters of a port are at each time the counts over what it heard since it began, or since they were cleared, and what asks for one
+/// is told its count.
+pub fn counters_are_counts<H, S: Answerer>()
+    ensures counts { CountsAll H S.answering }
+    ensures told { TellsCounts H S.answering }
+{}
+
+/// A run of a port is a run of its service over the messages that do not ask the port itself, in order, with the same answers.
+pub fn port_runs<H, S: Answerer>()
+    ensures { PortRuns H S.answering }
+{}
+
+/// What stands where a PDU is asks as noise exactly where there is no byte of it.
+pub fn noise_has_no_byte()
+    ensures noise { is_noise (any_request_of []) ≡ true }
+    ensures message { (code : ℕ) (rest : List ℕ) → is_noise (any_request_of (code ∷ rest)) ≡ false }
+{
+    modbus_standard::laws::requests_are_read();
+}

@@ -1,0 +1,16 @@
+//! The diagnostics of a port of a serial line (Modbus Application Protocol V1.1b3, sections 6.7 to 6.9).
+//!
+//! A port hears every message of its line, and noise. It counts what it hears and how that ends, and answers by itself what asks for its
+//! counters: Read Exception Status, Diagnostics and Get Comm Event Counter. All else is its service's.
+#![tactic(auto)]
+
+mod counters;
+mod heard;
+pub mod laws;
+mod port;
+mod query;
+
+pub use crate::counters::{Counters, Ended};
+pub use crate::heard::Heard;
+pub use crate::port::Port;
+pub use crate::query::Query;
