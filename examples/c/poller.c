@@ -20,49 +20,32 @@ static void stop(const char *why) {
     exit(1);
 }
 
-/* Sends the ADU of a request. */
-static void send_request(int socket, uint16_t transaction_id, const modbus_request *request) {
-    uint8_t pdu[MODBUS_LONGEST_PDU], adu[MODBUS_LONGEST_REPLY];
-    modbus_done made = modbus_request_encode(request, words, LISTED, coils, LISTED, pdu, sizeof pdu);
-    if (made.status != MODBUS_DONE) {
-        stop("no request");
-    }
-    made = modbus_tcp_wrap(transaction_id, 1, pdu, made.written, adu, sizeof adu);
-    if (made.status != MODBUS_DONE || send(socket, adu, made.written, MSG_NOSIGNAL) != (ssize_t)made.written) {
+/* Asks, and waits for the answer of the same transaction and unit: one that comes too late belongs to the request before, and is dropped. */
+static modbus_response ask(int socket, uint16_t transaction_id, const modbus_request *request) {
+    uint8_t bytes[MODBUS_LONGEST_REPLY];
+    modbus_call call;
+    modbus_response response;
+    modbus_done told = modbus_call_tcp(&call, transaction_id, 1, request, words, LISTED, coils, LISTED, bytes, sizeof bytes);
+    if (told.status != MODBUS_DONE || send(socket, bytes, told.written, MSG_NOSIGNAL) != (ssize_t)told.written) {
         stop("the request was not sent");
     }
-}
-
-/* Asks, and waits for the answer of the same transaction and unit. */
-static modbus_response ask(int socket, uint16_t transaction_id, const modbus_request *request) {
-    uint8_t held[MODBUS_LONGEST_REPLY];
-    size_t held_len = 0;
-    modbus_response response;
-    send_request(socket, transaction_id, request);
-    for (;;) {
-        modbus_adu found = modbus_tcp_find(held, held_len);
-        if (found.status == MODBUS_WAITING) {
-            ssize_t got = held_len < sizeof held ? recv(socket, held + held_len, sizeof held - held_len, 0) : 0;
-            if (got <= 0) {
-                stop("no answer");
+    do {
+        ssize_t got = recv(socket, bytes, sizeof bytes, 0);
+        if (got <= 0) {
+            stop("no answer");
+        }
+        for (size_t fed = 0; fed < (size_t)got;) {
+            fed += modbus_call_feed(&call, bytes + fed, (size_t)got - fed);
+            told = modbus_call_answer(&call, &response, words, LISTED, coils, LISTED);
+            if (told.status != MODBUS_WAITING) {
+                break;
             }
-            held_len += (size_t)got;
-            continue;
         }
-        if (found.status != MODBUS_DONE) {
-            stop("an answer that is not Modbus");
-        }
-        if (found.transaction_id == transaction_id && found.unit_id == 1) {
-            modbus_done read = modbus_response_decode(held + 7, found.pdu_len, &response, words, LISTED, coils, LISTED);
-            if (read.status != MODBUS_DONE || response.function != request->function) {
-                stop("an answer that belongs to no request");
-            }
-            return response;
-        }
-        /* An answer that came too late belongs to the request before. */
-        held_len -= found.used;
-        memmove(held, held + found.used, held_len);
+    } while (told.status == MODBUS_WAITING);
+    if (told.status != MODBUS_DONE) {
+        stop("an answer that belongs to no request");
     }
+    return response;
 }
 
 static void want(bool holds, const char *what) {

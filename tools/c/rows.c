@@ -217,12 +217,176 @@ static void inbox(void) {
     row("the longest piece", modbus_inbox_feed(&held, zeros, 268) && !modbus_inbox_feed(&held, zeros, 1));
 }
 
+/* What is told of the answer of a call that was fed these bytes in pieces of so many, the first time that it is not waited for. */
+static modbus_done answer_of(modbus_call *call, const char *input, size_t piece, modbus_response *response, uint16_t *words, size_t words_len,
+                             bool *coils, size_t coils_len) {
+    size_t len;
+    uint8_t *in = bytes_of(input, &len);
+    modbus_done told = {MODBUS_WAITING, 0, 0};
+    for (size_t at = 0; told.status == MODBUS_WAITING && at < len;) {
+        at += modbus_call_feed(call, in + at, len - at < piece ? len - at : piece);
+        told = modbus_call_answer(call, response, words, words_len, coils, coils_len);
+    }
+    free(in);
+    return told;
+}
+
+static void calling(void) {
+    const modbus_request read = {.function = 3, .address = 1, .quantity = 2}, id = {.function = 0x11};
+    modbus_call call;
+    modbus_response response = {.function = 99};
+    uint16_t words[4] = {0};
+    bool coils[8] = {0};
+    uint8_t output[MODBUS_LONGEST_REPLY], before[12];
+    modbus_done told;
+
+    memset(output, 0xA5, sizeof output);
+    memset(before, 0xA5, sizeof before);
+    told = modbus_call_tcp(&call, 258, 17, &read, words, 0, coils, 0, output, 11);
+    row("no room for a request", told.status == MODBUS_NO_ROOM && told.written == 0 && memcmp(output, before, 12) == 0);
+    told = modbus_call_tcp(&call, 258, 17, &(modbus_request){.function = 100}, words, 0, coils, 0, output, sizeof output);
+    row("a call of another function", told.status == MODBUS_UNTOLD && told.written == 0);
+    told = modbus_call_tcp(&call, 258, 17, &(modbus_request){.function = 16, .count = 5}, words, 4, coils, 0, output, sizeof output);
+    row("a call with a count past the list", told.status == MODBUS_NO_ROOM && told.written == 0);
+    for (size_t piece = 1; piece < 40; piece++) {
+        told = modbus_call_tcp(&call, 258, 17, &read, words, 0, coils, 0, output, 12);
+        row("a request over TCP", told.status == MODBUS_DONE && told.written == 12 && memcmp(output, "\1\2\0\0\0\6\x11\3\0\1\0\2", 12) == 0);
+        told = modbus_call_answer(&call, &response, words, 4, coils, 8);
+        row("nothing came", told.status == MODBUS_WAITING);
+        /* those of another transaction, of another unit, and its own */
+        told = answer_of(&call, "0101 0000 0005 11 03 02 FFFF 0102 0000 0005 12 03 02 FFFF 0102 0000 0007 11 03 04 000A 0102", piece, &response,
+                         words, 4, coils, 8);
+        row("its own answer", told.status == MODBUS_DONE && response.function == 3 && response.count == 2 && words[0] == 10 &&
+                                  words[1] == 258 && call.inbox.len == 0);
+    }
+    modbus_call_tcp(&call, 258, 17, &read, words, 0, coils, 0, output, 12);
+    response.function = 99;
+    told = answer_of(&call, "0102 0000 0007 11 03 04 000A 0102", 99, &response, words, 1, coils, 8);
+    row("words that do not fit", told.status == MODBUS_NO_ROOM && response.function == 99 && call.inbox.len == 13);
+    told = modbus_call_answer(&call, &response, words, 4, coils, 8);
+    row("again with room", told.status == MODBUS_DONE && response.count == 2 && call.inbox.len == 0);
+    told = answer_of(&call, "0102 0000 0003 11 83 02", 99, &response, words, 4, coils, 8);
+    row("an exception", told.status == MODBUS_DONE && response.exception && response.function == 3 && response.code == 2);
+    told = answer_of(&call, "0102 0000 0005 11 04 02 0001", 99, &response, words, 4, coils, 8);
+    row("another function", told.status == MODBUS_FUNCTION_MISMATCH && told.detail == 4 && response.exception);
+    told = answer_of(&call, "0102 0000 0005 11 03 03 0001", 99, &response, words, 4, coils, 8);
+    row("no response", told.status == MODBUS_REFUSED && call.inbox.len == 0);
+    told = answer_of(&call, "0102 0000 0000 11", 99, &response, words, 4, coils, 8);
+    row("no length", told.status == MODBUS_NO_LENGTH);
+    modbus_call_tcp(&call, 258, 17, &read, words, 0, coils, 0, output, 12);
+    told = answer_of(&call, "0102 0007 0002 11 03", 99, &response, words, 4, coils, 8);
+    row("another protocol", told.status == MODBUS_FOREIGN && told.detail == 7);
+    modbus_call_tcp(&call, 258, 17, &id, words, 0, coils, 0, output, 12);
+    told = answer_of(&call, "0102 0000 0005 11 11 02 01 FF", 99, &response, words, 4, coils, 8);
+    row("the id of a server", told.status == MODBUS_UNTOLD && call.inbox.len == 0);
+
+    told = modbus_call_rtu(&call, 17, &(modbus_request){.function = 6, .address = 1, .word = 3}, words, 0, coils, 0, output, 8);
+    row("a request of a line", told.status == MODBUS_DONE && told.written == 8 && memcmp(output, "\x11\6\0\1\0\3\x9A\x9B", 8) == 0);
+    told = answer_of(&call, "11 06 0001 0003 9A9B", 1, &response, words, 0, coils, 0);
+    row("its answer", told.status == MODBUS_DONE && response.function == 6 && response.address == 1 && response.word == 3);
+    modbus_call_rtu(&call, 99, &(modbus_request){.function = 6, .address = 1, .word = 3}, words, 0, coils, 0, output, 8);
+    told = answer_of(&call, "FF FF 63 06 0001 0003 9049", 1, &response, words, 0, coils, 0);
+    row("its answer behind noise", told.status == MODBUS_DONE && response.function == 6 && response.address == 1 && response.word == 3);
+    modbus_call_rtu(&call, 18, &(modbus_request){.function = 6, .address = 1, .word = 3}, words, 0, coils, 0, output, 8);
+    told = answer_of(&call, "11 06 0001 0003 9A9B", 3, &response, words, 0, coils, 0);
+    row("another slave", told.status == MODBUS_HEADER_MISMATCH && told.detail == 17 && call.inbox.len == 0);
+    told = answer_of(&call, "FFFFFFFFFFFFFFFFFFFFFFFFFFFFFF FFFFFFFFFFFFFFFFFFFFFFFFFFFFFF", 99, &response, words, 0, coils, 0);
+    row("noise", told.status == MODBUS_CROWD && call.inbox.len == 10);
+
+    /* a header that tells more bytes than there is room for */
+    uint8_t zeros[300] = {1, 2, 0, 0, 1, 44, 17, 3};
+    modbus_call_tcp(&call, 258, 17, &read, words, 0, coils, 0, output, 12);
+    row("as much as there is room for", modbus_call_feed(&call, zeros, 300) == 268 && modbus_call_feed(&call, zeros, 1) == 0);
+    row("no room for more", modbus_call_answer(&call, &response, words, 4, coils, 8).status == MODBUS_FULL);
+}
+
+static void texts(void) {
+    struct device device = {0};
+    static const char write[] = ":1106000100039A9B\r\n", request[] = "no text :1106:110600010003E5\r\n:11";
+    uint8_t output[MODBUS_LONGEST_TEXT], noise[600];
+    modbus_served done;
+    memset(output, 0xA5, sizeof output);
+    memset(noise, '0', sizeof noise);
+    noise[0] = ':';
+#define TEXT(bytes, len, room) \
+    modbus_ascii_serve((const uint8_t *)(bytes), len, device.coils, ENTRIES, device.discrete_inputs, ENTRIES, device.holding_registers, \
+                       ENTRIES, device.input_registers, ENTRIES, false, output, room)
+    done = TEXT(request, sizeof request - 1, sizeof output - 1);
+    row("a short output for a text", done.status == MODBUS_NO_ROOM && device.holding_registers[1] == 0 && output[0] == 0xA5);
+    done = TEXT(request, sizeof request - 1, sizeof output);
+    row("a text", done.status == MODBUS_DONE && done.used == 30 && done.written == 17 && memcmp(output, ":110600010003E5\r\n", 17) == 0 &&
+                      output[17] == 0xA5 && device.holding_registers[1] == 3);
+    done = TEXT(request, 20, sizeof output);
+    row("a front of a text", done.status == MODBUS_WAITING && done.used == 13);
+    done = TEXT(write, sizeof write - 1, sizeof output);
+    row("another checksum", done.status == MODBUS_WAITING && done.used == sizeof write - 1);
+    done = TEXT(noise, 513, sizeof output);
+    row("a text as long as the longest", done.status == MODBUS_WAITING && done.used == 0);
+    done = TEXT(noise, 514, sizeof output);
+    row("a text that is too long", done.status == MODBUS_WAITING && done.used == 514);
+    done = TEXT("", 0, sizeof output);
+    row("no text", done.status == MODBUS_WAITING && done.used == 0);
+}
+
+/* Null pointers: an array of no entry, or a status and nothing written. */
+static void nulls(void) {
+    static const uint8_t read[] = {0, 1, 0, 0, 0, 6, 1, 4, 0, 0, 0, 1};
+    uint16_t registers[4] = {7};
+    uint8_t output[MODBUS_LONGEST_TEXT];
+    const modbus_request request = {.function = 3, .quantity = 1};
+    modbus_call call;
+    modbus_inbox held;
+    modbus_response response;
+    modbus_served done;
+    memset(output, 0xA5, sizeof output);
+    done = modbus_tcp_serve(read, sizeof read, NULL, 0, NULL, 0, NULL, 0, registers, 4, false, output, sizeof output);
+    row("tables that are null", done.status == MODBUS_DONE && done.written == 11 && output[10] == 7);
+    memset(output, 0xA5, sizeof output);
+    done = modbus_tcp_serve(read, sizeof read, NULL, 1, NULL, 0, NULL, 0, registers, 4, false, output, sizeof output);
+    row("a null table of one entry", done.status == MODBUS_NULL && done.used == 0 && done.written == 0 && output[0] == 0xA5);
+    done = modbus_tcp_serve(NULL, 12, NULL, 0, NULL, 0, NULL, 0, registers, 4, false, output, sizeof output);
+    row("a null input", done.status == MODBUS_NULL && output[0] == 0xA5);
+    done = modbus_rtu_serve(read, sizeof read, NULL, 0, NULL, 0, NULL, 0, registers, 4, false, NULL, 260);
+    row("a null output", done.status == MODBUS_NULL);
+    done = modbus_ascii_serve(NULL, 0, NULL, 0, NULL, 0, NULL, 0, NULL, 0, false, NULL, 0);
+    row("a null output of no byte", done.status == MODBUS_NO_ROOM);
+    row("a checksum of null", modbus_crc(NULL, 0) == 0xFFFF && modbus_crc(NULL, 9) == 0xFFFF);
+    row("null bytes", modbus_tcp_find(NULL, 0).status == MODBUS_WAITING && modbus_tcp_find(NULL, 7).status == MODBUS_NULL &&
+                          modbus_rtu_find_request(NULL, 0).status == MODBUS_WAITING &&
+                          modbus_rtu_find_response(NULL, 1).status == MODBUS_NULL);
+    row("a null struct", modbus_request_decode(read, 5, NULL, NULL, 0, NULL, 0).status == MODBUS_NULL &&
+                             modbus_response_decode(read, 5, NULL, NULL, 0, NULL, 0).status == MODBUS_NULL &&
+                             modbus_request_encode(NULL, NULL, 0, NULL, 0, output, 9).status == MODBUS_NULL &&
+                             modbus_response_encode(NULL, NULL, 0, NULL, 0, output, 9).status == MODBUS_NULL && output[0] == 0xA5);
+    row("null lists", modbus_request_encode(&request, NULL, 0, NULL, 0, output, 5).status == MODBUS_DONE && output[0] == 3 &&
+                          modbus_request_encode(&request, NULL, 1, NULL, 0, output, 5).status == MODBUS_NULL);
+    row("a null PDU", modbus_tcp_wrap(1, 1, NULL, 0, output, 7).status == MODBUS_DONE &&
+                          modbus_rtu_wrap(1, NULL, 2, output, 9).status == MODBUS_NULL);
+    modbus_inbox_open(NULL);
+    modbus_inbox_open(&held);
+    row("a null piece", modbus_inbox_feed(&held, NULL, 0) && !modbus_inbox_feed(&held, NULL, 1) && !modbus_inbox_feed(NULL, read, 1) &&
+                            held.len == 0);
+    done = modbus_inbox_next(NULL, NULL, 0, NULL, 0, NULL, 0, NULL, 0, false, output, 260);
+    row("a null inbox", done.status == MODBUS_NULL);
+    row("a null call", modbus_call_tcp(NULL, 1, 1, &request, NULL, 0, NULL, 0, output, 12).status == MODBUS_NULL &&
+                           modbus_call_rtu(&call, 1, NULL, NULL, 0, NULL, 0, output, 12).status == MODBUS_NULL &&
+                           modbus_call_feed(NULL, read, 1) == 0 &&
+                           modbus_call_answer(NULL, &response, NULL, 0, NULL, 0).status == MODBUS_NULL);
+    row("a call with null lists", modbus_call_tcp(&call, 1, 1, &request, NULL, 0, NULL, 0, output, 12).status == MODBUS_DONE &&
+                                      modbus_call_feed(&call, NULL, 0) == 0 && modbus_call_feed(&call, NULL, 3) == 0 &&
+                                      modbus_call_answer(&call, &response, NULL, 0, NULL, 0).status == MODBUS_WAITING &&
+                                      modbus_call_answer(&call, NULL, NULL, 0, NULL, 0).status == MODBUS_NULL);
+}
+
 int main(void) {
     serving();
     bad_lengths();
     coding();
     wrapping();
     inbox();
+    calling();
+    texts();
+    nulls();
     printf("%d passed, %d failed\n", passed, failed);
     return failed != 0;
 }

@@ -5,8 +5,7 @@
  * used during the call alone.
  *
  * What the caller owes, since no proof reaches it:
- *  - A pointer beside a length points to so many entries. It is not null, also where the length is 0: any other address will do then.
- *  - A pointer to a struct points to one.
+ *  - A pointer beside a length points to so many entries, and a pointer to a struct to one. A null pointer is told apart (at the end).
  *  - An array or a struct that a call writes overlaps no other of the same call.
  *  - A `bool`, also each of an array, is 0 or 1.
  *  - Arrays that a call is writing are used by nothing else until it returns.
@@ -41,7 +40,11 @@ enum modbus_status {
     MODBUS_CROWD = 7,     /* no frame stands at the first twenty offsets */
     MODBUS_NO_ROOM = 8,   /* an array of the caller is too short */
     MODBUS_UNTOLD = 9,    /* the struct does not tell such a function */
-    MODBUS_TOO_LONG = 10  /* the PDU would have more than 253 bytes */
+    MODBUS_TOO_LONG = 10, /* the PDU would have more than 253 bytes */
+    MODBUS_HEADER_MISMATCH = 11,   /* the reply is of another slave than was asked */
+    MODBUS_FUNCTION_MISMATCH = 12, /* the reply is of another function than was asked */
+    MODBUS_FULL = 13, /* no whole message, and no room for more bytes: give the call up */
+    MODBUS_NULL = 14  /* a pointer is null where there has to be something: nothing was done */
 };
 
 /* Why a PDU is refused: `detail` beside MODBUS_REFUSED. Where several hold, the first that stands in the PDU is told. */
@@ -62,6 +65,9 @@ enum modbus_reason {
 
 /* The most bytes of a reply, and so what an output has room for (TCP 3.1.3: a header of 7 bytes, and a PDU of 253). */
 #define MODBUS_LONGEST_REPLY 260
+
+/* The most bytes of a reply of Modbus ASCII (SL 2.5.2): a `:`, two digits for each of 255 bytes, CR and LF. */
+#define MODBUS_LONGEST_TEXT 513
 
 /* The most bytes of a PDU (AP 4.1). */
 #define MODBUS_LONGEST_PDU 253
@@ -152,6 +158,16 @@ typedef struct {
     uint8_t bytes[268];
 } modbus_inbox;
 
+/* A call of a client that was begun: what the reply has to be of, and the bytes that were fed and not used yet. Its fields are the
+ * library's; a later call may be begun with the same struct. */
+typedef struct {
+    bool tcp;
+    uint16_t transaction_id;
+    uint8_t slave;
+    uint8_t function;
+    modbus_inbox inbox;
+} modbus_call;
+
 /* The checksum of bytes, which a frame carries with its low byte first (SL 6.2.2). */
 uint16_t modbus_crc(const uint8_t *bytes, size_t bytes_len);
 
@@ -213,6 +229,14 @@ modbus_served modbus_rtu_serve(const uint8_t *input, size_t input_len, bool *coi
                                const uint16_t *input_registers, size_t input_registers_len, bool broadcast, uint8_t *output,
                                size_t output_len);
 
+/* The same of the next text of Modbus ASCII that delivers a frame (SL 2.5.2). The output has room for MODBUS_LONGEST_TEXT bytes. All bytes
+ * that are no part of such a text are skipped: MODBUS_WAITING tells how many have no part in one, whatever follows, and at most 513 are
+ * left then. MODBUS_NO_LENGTH, MODBUS_FOREIGN and MODBUS_CROWD are not told. */
+modbus_served modbus_ascii_serve(const uint8_t *input, size_t input_len, bool *coils, size_t coils_len, const bool *discrete_inputs,
+                                 size_t discrete_inputs_len, uint16_t *holding_registers, size_t holding_registers_len,
+                                 const uint16_t *input_registers, size_t input_registers_len, bool broadcast, uint8_t *output,
+                                 size_t output_len);
+
 /* An inbox that holds no byte. There is nothing to close. */
 void modbus_inbox_open(modbus_inbox *inbox);
 
@@ -225,6 +249,293 @@ modbus_served modbus_inbox_next(modbus_inbox *inbox, bool *coils, size_t coils_l
                                 size_t discrete_inputs_len, uint16_t *holding_registers, size_t holding_registers_len,
                                 const uint16_t *input_registers, size_t input_registers_len, bool broadcast, uint8_t *output,
                                 size_t output_len);
+
+/* Begins a call of a unit over Modbus TCP, or of a slave over a serial line: the ADU or the frame of the request goes to the front of the
+ * output, to be sent, and `call` keeps what the reply has to be of (TCP 3.1.3, 4.4.1.3; SL 2.5.1). Bytes that it held are dropped. Nothing
+ * comes back from slave 0, which all slaves hear. 260 bytes are room for each request.
+ * MODBUS_DONE; MODBUS_UNTOLD; MODBUS_NO_ROOM: `count` is more than the list has, or the output is too short; MODBUS_TOO_LONG;
+ * MODBUS_NO_MEMORY. Where it is not done nothing is written, and `written` is 0. */
+modbus_done modbus_call_tcp(modbus_call *call, uint16_t transaction_id, uint8_t unit_id, const modbus_request *request,
+                            const uint16_t *words, size_t words_len, const bool *coils, size_t coils_len, uint8_t *output,
+                            size_t output_len);
+modbus_done modbus_call_rtu(modbus_call *call, uint8_t slave, const modbus_request *request, const uint16_t *words, size_t words_len,
+                            const bool *coils, size_t coils_len, uint8_t *output, size_t output_len);
+
+/* Appends the first bytes of a piece that was received, as many as there is room for, and tells how many: feed the others once the answer
+ * was asked for again. */
+size_t modbus_call_feed(modbus_call *call, const uint8_t *piece, size_t piece_len);
+
+/* The answer of a call, as far as bytes were fed: its numbers go to `response`, what it tells to the fronts of `words` and `coils`. Over
+ * Modbus TCP, ADUs of other transactions and units are dropped. On a serial line the next frame is the reply.
+ * MODBUS_DONE: a response or an exception of the function that was asked; MODBUS_WAITING: feed more; MODBUS_FULL;
+ * MODBUS_HEADER_MISMATCH: a frame of the slave `detail`; MODBUS_FUNCTION_MISMATCH: an answer of the function `detail`; MODBUS_REFUSED;
+ * MODBUS_UNTOLD: another function than those of modbus_response; MODBUS_NO_ROOM: a list is longer than the caller's; MODBUS_NO_MEMORY;
+ * MODBUS_CROWD: no frame at the first twenty offsets; MODBUS_NO_LENGTH; MODBUS_FOREIGN: `detail` is the protocol. Where it is not done
+ * nothing is written, and `written` is 0 throughout. What was looked at is taken off what is held, but for MODBUS_NO_ROOM and
+ * MODBUS_NO_MEMORY: so the call can be asked again, to go on behind a mismatch, or with longer lists. */
+modbus_done modbus_call_answer(modbus_call *call, modbus_response *response, uint16_t *words, size_t words_len, bool *coils,
+                               size_t coils_len);
+
+/*
+ * Null pointers. What stands here is compiled into the caller, and C gets it for each function above: a null pointer beside the length 0 is
+ * an array of no entry; where a pointer is null that has to point to something, MODBUS_NULL is told, and nothing is read or written. Where
+ * there is no status the answer is false, 0, or the checksum of no byte. Who defines MODBUS_UNCHECKED, or calls the library from another
+ * language, owes that no pointer is null.
+ */
+#ifndef MODBUS_UNCHECKED
+
+/* An entry of each kind, which an array of no entry may point to. */
+typedef struct {
+    uint8_t byte;
+    bool coil;
+    uint16_t word;
+} modbus_none;
+
+static inline uint16_t modbus_checked_crc(const uint8_t *bytes, size_t bytes_len) {
+    modbus_none none = {0, false, 0};
+    if (!bytes && bytes_len) {
+        return 0xFFFF;
+    }
+    return modbus_crc(bytes ? bytes : &none.byte, bytes_len);
+}
+
+static inline modbus_frame modbus_checked_rtu_find_request(const uint8_t *held, size_t held_len) {
+    modbus_none none = {0, false, 0};
+    const modbus_frame refused = {MODBUS_NULL, 0, 0, 0};
+    if (!held && held_len) {
+        return refused;
+    }
+    return modbus_rtu_find_request(held ? held : &none.byte, held_len);
+}
+
+static inline modbus_frame modbus_checked_rtu_find_response(const uint8_t *held, size_t held_len) {
+    modbus_none none = {0, false, 0};
+    const modbus_frame refused = {MODBUS_NULL, 0, 0, 0};
+    if (!held && held_len) {
+        return refused;
+    }
+    return modbus_rtu_find_response(held ? held : &none.byte, held_len);
+}
+
+static inline modbus_adu modbus_checked_tcp_find(const uint8_t *held, size_t held_len) {
+    modbus_none none = {0, false, 0};
+    const modbus_adu refused = {MODBUS_NULL, 0, 0, 0, 0, 0};
+    if (!held && held_len) {
+        return refused;
+    }
+    return modbus_tcp_find(held ? held : &none.byte, held_len);
+}
+
+static inline modbus_done modbus_checked_request_decode(const uint8_t *pdu, size_t pdu_len, modbus_request *request, uint16_t *words,
+                                                        size_t words_len, bool *coils, size_t coils_len) {
+    modbus_none none = {0, false, 0};
+    const modbus_done refused = {MODBUS_NULL, 0, 0};
+    if ((!pdu && pdu_len) || !request || (!words && words_len) || (!coils && coils_len)) {
+        return refused;
+    }
+    return modbus_request_decode(pdu ? pdu : &none.byte, pdu_len, request, words ? words : &none.word, words_len,
+                                 coils ? coils : &none.coil, coils_len);
+}
+
+static inline modbus_done modbus_checked_request_encode(const modbus_request *request, const uint16_t *words, size_t words_len,
+                                                        const bool *coils, size_t coils_len, uint8_t *pdu, size_t pdu_len) {
+    modbus_none none = {0, false, 0};
+    const modbus_done refused = {MODBUS_NULL, 0, 0};
+    if (!request || (!words && words_len) || (!coils && coils_len) || (!pdu && pdu_len)) {
+        return refused;
+    }
+    return modbus_request_encode(request, words ? words : &none.word, words_len, coils ? coils : &none.coil, coils_len,
+                                 pdu ? pdu : &none.byte, pdu_len);
+}
+
+static inline modbus_done modbus_checked_response_decode(const uint8_t *pdu, size_t pdu_len, modbus_response *response, uint16_t *words,
+                                                         size_t words_len, bool *coils, size_t coils_len) {
+    modbus_none none = {0, false, 0};
+    const modbus_done refused = {MODBUS_NULL, 0, 0};
+    if ((!pdu && pdu_len) || !response || (!words && words_len) || (!coils && coils_len)) {
+        return refused;
+    }
+    return modbus_response_decode(pdu ? pdu : &none.byte, pdu_len, response, words ? words : &none.word, words_len,
+                                  coils ? coils : &none.coil, coils_len);
+}
+
+static inline modbus_done modbus_checked_response_encode(const modbus_response *response, const uint16_t *words, size_t words_len,
+                                                         const bool *coils, size_t coils_len, uint8_t *pdu, size_t pdu_len) {
+    modbus_none none = {0, false, 0};
+    const modbus_done refused = {MODBUS_NULL, 0, 0};
+    if (!response || (!words && words_len) || (!coils && coils_len) || (!pdu && pdu_len)) {
+        return refused;
+    }
+    return modbus_response_encode(response, words ? words : &none.word, words_len, coils ? coils : &none.coil, coils_len,
+                                  pdu ? pdu : &none.byte, pdu_len);
+}
+
+static inline modbus_done modbus_checked_tcp_wrap(uint16_t transaction_id, uint8_t unit_id, const uint8_t *pdu, size_t pdu_len,
+                                                  uint8_t *output, size_t output_len) {
+    modbus_none none = {0, false, 0};
+    const modbus_done refused = {MODBUS_NULL, 0, 0};
+    if ((!pdu && pdu_len) || (!output && output_len)) {
+        return refused;
+    }
+    return modbus_tcp_wrap(transaction_id, unit_id, pdu ? pdu : &none.byte, pdu_len, output ? output : &none.byte, output_len);
+}
+
+static inline modbus_done modbus_checked_rtu_wrap(uint8_t slave, const uint8_t *pdu, size_t pdu_len, uint8_t *output, size_t output_len) {
+    modbus_none none = {0, false, 0};
+    const modbus_done refused = {MODBUS_NULL, 0, 0};
+    if ((!pdu && pdu_len) || (!output && output_len)) {
+        return refused;
+    }
+    return modbus_rtu_wrap(slave, pdu ? pdu : &none.byte, pdu_len, output ? output : &none.byte, output_len);
+}
+
+static inline modbus_served modbus_checked_tcp_serve(const uint8_t *input, size_t input_len, bool *coils, size_t coils_len,
+                                                     const bool *discrete_inputs, size_t discrete_inputs_len, uint16_t *holding_registers,
+                                                     size_t holding_registers_len, const uint16_t *input_registers,
+                                                     size_t input_registers_len, bool broadcast, uint8_t *output, size_t output_len) {
+    modbus_none none = {0, false, 0};
+    const modbus_served refused = {MODBUS_NULL, 0, 0, 0};
+    if ((!input && input_len) || (!coils && coils_len) || (!discrete_inputs && discrete_inputs_len) ||
+        (!holding_registers && holding_registers_len) || (!input_registers && input_registers_len) || (!output && output_len)) {
+        return refused;
+    }
+    return modbus_tcp_serve(input ? input : &none.byte, input_len, coils ? coils : &none.coil, coils_len,
+                            discrete_inputs ? discrete_inputs : &none.coil, discrete_inputs_len,
+                            holding_registers ? holding_registers : &none.word, holding_registers_len,
+                            input_registers ? input_registers : &none.word, input_registers_len, broadcast, output ? output : &none.byte,
+                            output_len);
+}
+
+static inline modbus_served modbus_checked_rtu_serve(const uint8_t *input, size_t input_len, bool *coils, size_t coils_len,
+                                                     const bool *discrete_inputs, size_t discrete_inputs_len, uint16_t *holding_registers,
+                                                     size_t holding_registers_len, const uint16_t *input_registers,
+                                                     size_t input_registers_len, bool broadcast, uint8_t *output, size_t output_len) {
+    modbus_none none = {0, false, 0};
+    const modbus_served refused = {MODBUS_NULL, 0, 0, 0};
+    if ((!input && input_len) || (!coils && coils_len) || (!discrete_inputs && discrete_inputs_len) ||
+        (!holding_registers && holding_registers_len) || (!input_registers && input_registers_len) || (!output && output_len)) {
+        return refused;
+    }
+    return modbus_rtu_serve(input ? input : &none.byte, input_len, coils ? coils : &none.coil, coils_len,
+                            discrete_inputs ? discrete_inputs : &none.coil, discrete_inputs_len,
+                            holding_registers ? holding_registers : &none.word, holding_registers_len,
+                            input_registers ? input_registers : &none.word, input_registers_len, broadcast, output ? output : &none.byte,
+                            output_len);
+}
+
+static inline modbus_served modbus_checked_ascii_serve(const uint8_t *input, size_t input_len, bool *coils, size_t coils_len,
+                                                       const bool *discrete_inputs, size_t discrete_inputs_len,
+                                                       uint16_t *holding_registers, size_t holding_registers_len,
+                                                       const uint16_t *input_registers, size_t input_registers_len, bool broadcast,
+                                                       uint8_t *output, size_t output_len) {
+    modbus_none none = {0, false, 0};
+    const modbus_served refused = {MODBUS_NULL, 0, 0, 0};
+    if ((!input && input_len) || (!coils && coils_len) || (!discrete_inputs && discrete_inputs_len) ||
+        (!holding_registers && holding_registers_len) || (!input_registers && input_registers_len) || (!output && output_len)) {
+        return refused;
+    }
+    return modbus_ascii_serve(input ? input : &none.byte, input_len, coils ? coils : &none.coil, coils_len,
+                              discrete_inputs ? discrete_inputs : &none.coil, discrete_inputs_len,
+                              holding_registers ? holding_registers : &none.word, holding_registers_len,
+                              input_registers ? input_registers : &none.word, input_registers_len, broadcast,
+                              output ? output : &none.byte, output_len);
+}
+
+static inline void modbus_checked_inbox_open(modbus_inbox *inbox) {
+    if (!inbox) {
+        return;
+    }
+    modbus_inbox_open(inbox);
+}
+
+static inline bool modbus_checked_inbox_feed(modbus_inbox *inbox, const uint8_t *piece, size_t piece_len) {
+    modbus_none none = {0, false, 0};
+    if (!inbox || (!piece && piece_len)) {
+        return false;
+    }
+    return modbus_inbox_feed(inbox, piece ? piece : &none.byte, piece_len);
+}
+
+static inline modbus_served modbus_checked_inbox_next(modbus_inbox *inbox, bool *coils, size_t coils_len, const bool *discrete_inputs,
+                                                      size_t discrete_inputs_len, uint16_t *holding_registers,
+                                                      size_t holding_registers_len, const uint16_t *input_registers,
+                                                      size_t input_registers_len, bool broadcast, uint8_t *output, size_t output_len) {
+    modbus_none none = {0, false, 0};
+    const modbus_served refused = {MODBUS_NULL, 0, 0, 0};
+    if (!inbox || (!coils && coils_len) || (!discrete_inputs && discrete_inputs_len) || (!holding_registers && holding_registers_len) ||
+        (!input_registers && input_registers_len) || (!output && output_len)) {
+        return refused;
+    }
+    return modbus_inbox_next(inbox, coils ? coils : &none.coil, coils_len, discrete_inputs ? discrete_inputs : &none.coil,
+                             discrete_inputs_len, holding_registers ? holding_registers : &none.word, holding_registers_len,
+                             input_registers ? input_registers : &none.word, input_registers_len, broadcast, output ? output : &none.byte,
+                             output_len);
+}
+
+static inline modbus_done modbus_checked_call_tcp(modbus_call *call, uint16_t transaction_id, uint8_t unit_id,
+                                                  const modbus_request *request, const uint16_t *words, size_t words_len,
+                                                  const bool *coils, size_t coils_len, uint8_t *output, size_t output_len) {
+    modbus_none none = {0, false, 0};
+    const modbus_done refused = {MODBUS_NULL, 0, 0};
+    if (!call || !request || (!words && words_len) || (!coils && coils_len) || (!output && output_len)) {
+        return refused;
+    }
+    return modbus_call_tcp(call, transaction_id, unit_id, request, words ? words : &none.word, words_len, coils ? coils : &none.coil,
+                           coils_len, output ? output : &none.byte, output_len);
+}
+
+static inline modbus_done modbus_checked_call_rtu(modbus_call *call, uint8_t slave, const modbus_request *request, const uint16_t *words,
+                                                  size_t words_len, const bool *coils, size_t coils_len, uint8_t *output,
+                                                  size_t output_len) {
+    modbus_none none = {0, false, 0};
+    const modbus_done refused = {MODBUS_NULL, 0, 0};
+    if (!call || !request || (!words && words_len) || (!coils && coils_len) || (!output && output_len)) {
+        return refused;
+    }
+    return modbus_call_rtu(call, slave, request, words ? words : &none.word, words_len, coils ? coils : &none.coil, coils_len,
+                           output ? output : &none.byte, output_len);
+}
+
+static inline size_t modbus_checked_call_feed(modbus_call *call, const uint8_t *piece, size_t piece_len) {
+    modbus_none none = {0, false, 0};
+    if (!call || (!piece && piece_len)) {
+        return 0;
+    }
+    return modbus_call_feed(call, piece ? piece : &none.byte, piece_len);
+}
+
+static inline modbus_done modbus_checked_call_answer(modbus_call *call, modbus_response *response, uint16_t *words, size_t words_len,
+                                                     bool *coils, size_t coils_len) {
+    modbus_none none = {0, false, 0};
+    const modbus_done refused = {MODBUS_NULL, 0, 0};
+    if (!call || !response || (!words && words_len) || (!coils && coils_len)) {
+        return refused;
+    }
+    return modbus_call_answer(call, response, words ? words : &none.word, words_len, coils ? coils : &none.coil, coils_len);
+}
+
+#define modbus_crc modbus_checked_crc
+#define modbus_rtu_find_request modbus_checked_rtu_find_request
+#define modbus_rtu_find_response modbus_checked_rtu_find_response
+#define modbus_tcp_find modbus_checked_tcp_find
+#define modbus_request_decode modbus_checked_request_decode
+#define modbus_request_encode modbus_checked_request_encode
+#define modbus_response_decode modbus_checked_response_decode
+#define modbus_response_encode modbus_checked_response_encode
+#define modbus_tcp_wrap modbus_checked_tcp_wrap
+#define modbus_rtu_wrap modbus_checked_rtu_wrap
+#define modbus_tcp_serve modbus_checked_tcp_serve
+#define modbus_rtu_serve modbus_checked_rtu_serve
+#define modbus_ascii_serve modbus_checked_ascii_serve
+#define modbus_inbox_open modbus_checked_inbox_open
+#define modbus_inbox_feed modbus_checked_inbox_feed
+#define modbus_inbox_next modbus_checked_inbox_next
+#define modbus_call_tcp modbus_checked_call_tcp
+#define modbus_call_rtu modbus_checked_call_rtu
+#define modbus_call_feed modbus_checked_call_feed
+#define modbus_call_answer modbus_checked_call_answer
+
+#endif
 
 #ifdef __cplusplus
 }

@@ -1,5 +1,5 @@
 -- The reply to one request.
-use Rattle.std.proofs.Common.{◌≡◌, ℕ, ◌+◌, ◌≤◌, ◌<◌, List, [], ◌∷◌, length, refl, sym, ap, ◌∙◌, arith, Result, Ok, Err, length-append, ◌++◌, ◌/◌, ◌%◌}
+use Rattle.std.proofs.Common.{◌≡◌, ℕ, ◌+◌, ◌*◌, ◌≤◌, ◌<◌, List, [], ◌∷◌, length, refl, sym, ap, ◌∙◌, arith, Result, Ok, Err, length-append, ◌++◌, ◌/◌, ◌%◌}
 use Rattle.modbus_frame.specs.Codes.{function_number, exception_number}
 use Rattle.modbus_frame.specs.Meaning.{Asked, function_asked}
 use Rattle.modbus_frame.specs.declared.code.ExceptionCode.{ExceptionCode}
@@ -12,6 +12,9 @@ use Rattle.modbus_pdu.specs.Coding.{Encodes, Fits}
 use Rattle.modbus_pdu.specs.RequestOf.{request_of}
 use Rattle.modbus_pdu.specs.ResponsePdu.{response_pdu}
 use Rattle.modbus_pdu.specs.Limits.{max_pdu}
+use Rattle.modbus_ascii.specs.Checksum.{lrc}
+use Rattle.modbus_ascii.specs.Encoding.{text_of, frame as text}
+use Rattle.modbus_ascii.specs.Limits.{carriage_return, line_feed}
 use Rattle.modbus_rtu.specs.Checksum.{crc}
 use Rattle.modbus_rtu.specs.Frame.{frame}
 use Rattle.modbus_service.specs.Outcome.{Outcome, silence, reply, exception, reply_pdu, code_of}
@@ -51,6 +54,17 @@ replies_fit old slave pdu made new fits r = let e : length made ≡ length (repl
 pub frame_len : (slave : ℕ) (pdu : List ℕ) → length (frame slave pdu) ≡ length pdu + 3
 unfolding frame
 frame_len slave pdu = let sum = crc (slave ∷ pdu) in omega (arith, length-append pdu (sum % 256 ∷ sum / 256 ∷ []))
+
+length-text : (bytes : List ℕ) → length (text_of bytes) ≡ 2 * length bytes
+unfolding text_of
+length-text [] = refl
+length-text (byte ∷ bytes) = omega (arith, length-text bytes)
+
+pub text_len : (slave : ℕ) (pdu : List ℕ) → length (text slave pdu) ≡ 2 * length pdu + 7
+unfolding text
+text_len slave pdu =
+    let bytes = slave ∷ pdu ++ lrc (slave ∷ pdu) ∷ [] in
+    omega (arith, length-append (text_of bytes) (carriage_return ∷ line_feed ∷ []), length-text bytes, length-append pdu (lrc (slave ∷ pdu) ∷ []))
 
 pub adu_len : (header : Header) (pdu : List ℕ) → length (adu_of header pdu) ≡ length pdu + 7
 unfolding adu_of

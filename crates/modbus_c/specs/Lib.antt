@@ -7,3 +7,5 @@ pub mod Answers
 pub mod Serving
 pub mod Served
 pub mod Inbox
+pub mod Calls
+pub mod Texts

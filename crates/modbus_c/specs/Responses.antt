@@ -1,5 +1,5 @@
 -- Responses and exceptions as a struct of C beside lists that the caller holds (Modbus Application Protocol V1.1b3, sections 6 and 7).
-use Rattle.std.specs.Prelude.{ℕ, Bool, true, false, List, [], length, Option, Some, None, Result, Ok, Err}
+use Rattle.std.specs.Prelude.{◌⊎◌, ◌<◌, ℕ, Bool, true, false, List, [], length, Option, Some, None, Result, Ok, Err}
 use Rattle.modbus_frame.specs.Codes.{function_number, exception_number}
 use Rattle.modbus_frame.specs.FunctionCodes as number
 use Rattle.modbus_frame.specs.declared.response.Response.{Response}
@@ -54,3 +54,7 @@ abbrev pub coils_told : Result Response ExceptionResponse → List Bool
 coils_told (Ok (response.ReadCoils coils)) = coils
 coils_told (Ok (response.ReadDiscreteInputs coils)) = coils
 coils_told _ = []
+
+-- one of the caller's lists, of so many registers and coils, is too short for an answer
+abbrev pub LacksLists : Result Response ExceptionResponse → ℕ → ℕ → Type 0
+LacksLists answer words coils = (words < length (words_told answer)) ⊎ (coils < length (coils_told answer))

@@ -45,7 +45,7 @@ pub(crate) fn told(status: u32, detail: u32, used: usize, written: usize) -> Mod
     }
 }
 
-fn flat(served: Served) -> ModbusServed
+pub(crate) fn flat(served: Served) -> ModbusServed
     ensures { result ≡ flat_served served }
 {
     match served {

@@ -17,7 +17,7 @@ use modbus_tcp::LONGEST_RESPONSE;
 use std::alloc::Global;
 
 /// How many bytes an inbox has room for: the longest frame, and twelve that may come with it.
-const INBOX_ROOM: usize = 268;
+pub(crate) const INBOX_ROOM: usize = 268;
 
 /// The held bytes are the first `len` of `bytes`. C makes room for one, opens it, and then leaves its fields to the exports. Where `len` is
 /// above 268, all 268 are held.
@@ -29,7 +29,7 @@ pub struct ModbusInbox {
 
 /// How many bytes are held.
 #[tactic(auto, using(crate::proofs::Shift::all_taken))]
-fn count(inbox: &ModbusInbox) -> usize
+pub(crate) fn count(inbox: &ModbusInbox) -> usize
     ensures exact { result ≡ length (held inbox.now) }
     ensures most { result ≤ room }
     ensures front { held inbox.now ≡ take result inbox.now.bytes }
@@ -42,7 +42,7 @@ fn count(inbox: &ModbusInbox) -> usize
 }
 
 /// Takes so many bytes off the front.
-fn advance(inbox: &mut ModbusInbox, used: usize)
+pub(crate) fn advance(inbox: &mut ModbusInbox, used: usize)
     requires { used ≤ length (held inbox.old) }
     ensures { held inbox.new ≡ drop used (held inbox.old) }
 {

@@ -5,6 +5,9 @@
 #![tactic(auto)]
 
 mod answer;
+mod ascii;
+mod begin;
+mod call;
 mod export;
 mod find;
 mod inbox;
@@ -12,6 +15,8 @@ mod put;
 mod reply;
 mod request;
 mod response;
+mod seek;
 mod serve;
 mod status;
+mod text;
 mod wrap;

@@ -1,7 +1,8 @@
 //! The PDU of a request as a struct and lists, and back.
 ghost use Rattle.std.specs.Prelude.{◌≡◌, ◌≢◌, ◌⊎◌, ◌<◌, length, IfOk, IfErr, Ok, Err, Some, None};
 ghost use Rattle.modbus_frame.specs.declared.fault.Reason.{Reason as Why};
-ghost use Rattle.modbus_frame.specs.Meaning.{Asked, meaning};
+ghost use Rattle.modbus_frame.specs.Codes.{function_of};
+ghost use Rattle.modbus_frame.specs.Meaning.{function_asked, Asked, meaning};
 ghost use Rattle.modbus_pdu.specs.Limits.{max_pdu};
 ghost use Rattle.modbus_pdu.specs.RequestOf.{request_of};
 ghost use Rattle.modbus_pdu.specs.RequestPdu.{request_pdu};
@@ -191,13 +192,15 @@ pub extern "C" fn modbus_request_decode(
 ///
 /// # Errors
 /// `MODBUS_UNTOLD` or `MODBUS_NO_ROOM`.
-fn unflatten<'l>(
+pub(crate) fn unflatten<'l>(
     request: &ModbusRequest,
     words: &'l [Word],
     coils: &'l [Coil],
 ) -> Result<Request<'l>, u32>
     ensures ok { IfOk result (λ asked.
         asked_in request.now words.now coils.now ≡ Some (meaning asked)) }
+    ensures function { IfOk result (λ asked.
+        function_of request.now.function ≡ function_asked (meaning asked)) }
     ensures err { IfErr result (λ status. ((status ≡ MODBUS_UNTOLD)
         × (asked_in request.now words.now coils.now ≡ None)) ⊎ ((status ≡ MODBUS_NO_ROOM)
         × LacksItems request.now words.now coils.now)) }

@@ -5,7 +5,7 @@ ghost use Rattle.modbus_frame.specs.declared.response.Response.{Response as Answ
 ghost use Rattle.modbus_frame.specs.declared.response.ExceptionResponse.{ExceptionResponse as Refusal};
 ghost use Rattle.modbus_pdu.specs.ResponseOf.{response_result_of};
 ghost use Rattle.modbus_c.specs.Laid.{laid};
-ghost use Rattle.modbus_c.specs.Responses.{flat_response, flat_answer, words_told, coils_told, blank as blank_of};
+ghost use Rattle.modbus_c.specs.Responses.{flat_response, flat_answer, words_told, coils_told, LacksLists, blank as blank_of};
 ghost use Rattle.modbus_c.specs.Status.{reason_number, IsReading};
 
 use crate::put::put_front;
@@ -152,6 +152,41 @@ fn coils_of(answer: &Result<Response, ExceptionResponse>) -> &[Coil]
     }
 }
 
+/// Writes the numbers of an answer, and the registers and coils that it tells to the fronts of the lists.
+///
+/// `MODBUS_DONE`; `MODBUS_UNTOLD` where the struct does not tell its function; or `MODBUS_NO_ROOM` where a list is longer than the
+/// caller's. Where it is not done, nothing is written.
+pub(crate) fn put_answer(
+    answer: &Result<Response, ExceptionResponse>,
+    response: &mut ModbusResponse,
+    words: &mut [Word],
+    coils: &mut [Coil],
+) -> ModbusDone
+    ensures done { result.status ≡ MODBUS_DONE → (flat_answer answer.now ≡ Some response.new)
+        × (words.new ≡ laid (words_told answer.now) words.old)
+        × (coils.new ≡ laid (coils_told answer.now) coils.old) }
+    ensures untold { result.status ≡ MODBUS_UNTOLD → flat_answer answer.now ≡ None }
+    ensures room { result.status ≡ MODBUS_NO_ROOM
+        → LacksLists answer.now (length words.old) (length coils.old) }
+    ensures kept { result.status ≢ MODBUS_DONE → (response.new ≡ response.old)
+        × (words.new ≡ words.old) × (coils.new ≡ coils.old) }
+    ensures status { (result.status ≡ MODBUS_DONE) ⊎ (result.status ≡ MODBUS_UNTOLD)
+        ⊎ (result.status ≡ MODBUS_NO_ROOM) }
+{
+    let Some(flat) = flatten_answer(answer) else {
+        return nothing(MODBUS_UNTOLD, 0);
+    };
+    let words_found = words_of(answer);
+    let coils_found = coils_of(answer);
+    if words.len() < words_found.len() || coils.len() < coils_found.len() {
+        return nothing(MODBUS_NO_ROOM, 0);
+    }
+    put_front(words_found, words);
+    put_front(coils_found, coils);
+    *response = flat;
+    nothing(MODBUS_DONE, 0)
+}
+
 /// Reads the PDU of a response or an exception: its numbers go to `response`, the registers and coils that it tells to the fronts of
 /// `words` and `coils`. Coils come eight to a byte: those past the quantity of the request have no meaning (section 6.1).
 ///
@@ -175,8 +210,7 @@ pub extern "C" fn modbus_response_decode(
         × (response_result_of pdu.now ≡ Ok answer) × (flat_answer answer ≡ None) }
     ensures room { result.status ≡ MODBUS_NO_ROOM → (answer : Result Answer Refusal)
         × (response_result_of pdu.now ≡ Ok answer)
-        × ((length words.old < length (words_told answer))
-        ⊎ (length coils.old < length (coils_told answer))) }
+        × LacksLists answer (length words.old) (length coils.old) }
     ensures kept { result.status ≢ MODBUS_DONE → (response.new ≡ response.old)
         × (words.new ≡ words.old) × (coils.new ≡ coils.old) }
     ensures status { IsReading result.status }
@@ -186,16 +220,5 @@ pub extern "C" fn modbus_response_decode(
         Err(PduError::Refused(reason)) => return nothing(MODBUS_REFUSED, number_of(reason)),
         Err(PduError::NoMemory) => return nothing(MODBUS_NO_MEMORY, 0),
     };
-    let Some(flat) = flatten_answer(&answer) else {
-        return nothing(MODBUS_UNTOLD, 0);
-    };
-    let words_found = words_of(&answer);
-    let coils_found = coils_of(&answer);
-    if words.len() < words_found.len() || coils.len() < coils_found.len() {
-        return nothing(MODBUS_NO_ROOM, 0);
-    }
-    put_front(words_found, words);
-    put_front(coils_found, coils);
-    *response = flat;
-    nothing(MODBUS_DONE, 0)
+    put_answer(&answer, response, words, coils)
 }

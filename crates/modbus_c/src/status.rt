@@ -38,6 +38,15 @@ pub const MODBUS_UNTOLD: u32 = 9;
 /// The PDU would have more than 253 bytes.
 pub const MODBUS_TOO_LONG: u32 = 10;
 
+/// The reply is of another slave than was asked.
+pub const MODBUS_HEADER_MISMATCH: u32 = 11;
+
+/// The reply is of another function than was asked.
+pub const MODBUS_FUNCTION_MISMATCH: u32 = 12;
+
+/// No whole message, and no room for more bytes.
+pub const MODBUS_FULL: u32 = 13;
+
 /// The number of a reason.
 pub(crate) fn number_of(reason: Reason) -> u32
     ensures { result ≡ reason_number reason }

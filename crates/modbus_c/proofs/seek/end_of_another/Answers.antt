@@ -1,0 +1,25 @@
+use Rattle.std.proofs.Common.{inl, inr, ℕ, List, ◌∙◌, drop, ap}
+use Rattle.modbus_frame.specs.declared.tcp.Header.{Header}
+use Rattle.modbus_tcp.specs.Stream.{empty, unfinished, no_length, foreign}
+use Rattle.modbus_client.specs.Tcp.{header_seen}
+use Rattle.modbus_c.proofs.seek.end_of_another.Goals as goal
+
+pub returns-then-is_own : goal.returns-then-is_own
+returns-then-is_own c = λ message others begins.
+    let found = rw c.in-Ok-Adu.field-0-is at c.in-Ok-Adu.ensures.finds in
+    let same = c.one_front.ensures.adu c.args.bytes.now others (drop c.in-Ok-Adu.end c.args.bytes.now) message (c.in-Ok-Adu.header, c.in-Ok-Adu.field-0-1.now) begins found.0 in
+    ap (λ (m : Header × List ℕ). header_seen m.0) same.0 ∙ c.is_own.ensures.0 c.if-is_own.true
+
+pub returns-in-Ok-Waiting : goal.returns-in-Ok-Waiting
+returns-in-Ok-Waiting c = λ message others begins. elim (rw c.in-Ok-Waiting.field-0-is at c.in-Ok-Waiting.ensures.finds).0 [
+  | inl none ↦ absurd (c.one_front.ensures.apart c.args.bytes.now others message empty begins none)
+  | inr some ↦ absurd (c.one_front.ensures.apart c.args.bytes.now others message unfinished begins some)
+]
+
+pub returns-in-Err-InvalidLength : goal.returns-in-Err-InvalidLength
+returns-in-Err-InvalidLength c = λ message others begins.
+    absurd (c.one_front.ensures.apart c.args.bytes.now others message no_length begins (rw c.in-Err-InvalidLength.field-0-is at c.in-Err-InvalidLength.ensures.finds))
+
+pub returns-in-Err-InvalidProtocol : goal.returns-in-Err-InvalidProtocol
+returns-in-Err-InvalidProtocol c = λ message others begins.
+    absurd (c.one_front.ensures.apart c.args.bytes.now others message (foreign c.in-Err-InvalidProtocol.field-0-0) begins (rw c.in-Err-InvalidProtocol.field-0-is at c.in-Err-InvalidProtocol.ensures.finds))
