@@ -1,14 +1,22 @@
 //! The units of the device.
 
 use crate::{FAILED, USAGE};
-use modbus_frame::SlaveId;
+use modbus_diagnostics::Port;
+use modbus_frame::{ExceptionCode, SlaveId};
+use modbus_identity::{Identified, Identity, IdentityError};
 use modbus_service::{OnlyUnit, Units, UnitsError};
 use modbus_standard::StandardAnswers;
 use modbus_store::{RegisterStore, Sizes, StoreError};
 use std::alloc::{AllocFailed, Global};
 
-/// Units with four tables each, which answer as the standard wants where a request can't be read.
-pub type Device = Units<StandardAnswers<RegisterStore>>;
+/// A unit: four tables, and what the device says of itself. It answers as the standard wants where a request can't be read.
+type Unit = StandardAnswers<Identified<RegisterStore>>;
+
+/// The units of the device.
+pub type Device = Units<Unit>;
+
+/// The units on a serial line, behind a port that counts what it hears and answers for its counters.
+pub type LineDevice = Port<Device>;
 
 /// Why there are no such units.
 #[derive(Clone, Copy, Debug, PartialEq, Eq, thiserror::Error)]
@@ -22,6 +30,9 @@ pub enum OpenError {
     /// A table would not have 1 to 65536 entries.
     #[error("a table has 1 to 65536 entries")]
     Entries,
+    /// A text of the identity does not fit a response.
+    #[error("a text of the device has at most 244 bytes")]
+    Text,
     /// Memory was refused.
     #[error("no memory")]
     NoMemory,
@@ -52,6 +63,60 @@ impl From<UnitsError> for OpenError {
     }
 }
 
+impl From<IdentityError> for OpenError {
+    fn from(error: IdentityError) -> OpenError {
+        match error {
+            IdentityError::NoMemory => OpenError::NoMemory,
+            _ => OpenError::Text,
+        }
+    }
+}
+
+/// What makes a device: its units, their tables, and what it says of itself.
+#[derive(Clone, Copy)]
+pub struct Plan<'w> {
+    /// The addresses of the units.
+    pub units: &'w [SlaveId],
+    /// How many entries each table of a unit has.
+    pub entries: u32,
+    /// What the device says of itself.
+    pub texts: Texts<'w>,
+    /// Whether a request for a unit that is not there is told so, and not left without an answer.
+    pub tells_absent: bool,
+}
+
+/// What a device says of itself (Modbus Application Protocol V1.1b3, sections 6.13 and 6.21).
+#[derive(Clone, Copy)]
+pub struct Texts<'w> {
+    /// The number of Report Server ID.
+    pub server_id: u8,
+    /// The name of its vendor.
+    pub vendor: &'w str,
+    /// Its product code, which Report Server ID tells too.
+    pub product: &'w str,
+    /// Its revision.
+    pub revision: &'w str,
+    /// The objects 3 to 6: the address of the vendor in the net, the name of the product, the model, the application.
+    pub others: [Option<&'w str>; 4],
+}
+
+/// The first of the other objects.
+const FIRST_OTHER: u8 = 3;
+
+/// The identity that has these texts.
+fn identity_of(alloc: Global, texts: &Texts<'_>) -> Result<Identity, IdentityError> {
+    let product = texts.product.as_bytes();
+    let vendor = texts.vendor.as_bytes();
+    let revision = texts.revision.as_bytes();
+    let mut identity = Identity::new(alloc, texts.server_id, product, vendor, product, revision)?;
+    for (id, text) in (FIRST_OTHER..).zip(texts.others) {
+        if let Some(text) = text {
+            identity.add(alloc, id, text.as_bytes())?;
+        }
+    }
+    Ok(identity)
+}
+
 /// Tables that hold zeros, as many entries each.
 fn open_store(alloc: Global, entries: u32) -> Result<RegisterStore, OpenError> {
     let sizes = Sizes {
@@ -67,19 +132,33 @@ fn open_store(alloc: Global, entries: u32) -> Result<RegisterStore, OpenError> {
     }
 }
 
-/// Units at these addresses, each with four tables of zeros. They are silent to a request for any other.
+/// A unit of the device.
+fn open_unit(alloc: Global, plan: &Plan<'_>) -> Result<Unit, OpenError> {
+    Ok(StandardAnswers {
+        service: Identified {
+            identity: identity_of(alloc, &plan.texts)?,
+            service: open_store(alloc, plan.entries)?,
+        },
+    })
+}
+
+/// The units of a device, each with four tables of zeros. They are silent to a request for any other, or tell that it is not there by the
+/// exception 0B.
 ///
 /// # Errors
-/// The first address that is no unit's or stands twice, a number of entries out of range, or refused memory.
-pub fn open(alloc: Global, addresses: &[SlaveId], entries: u32) -> Result<Device, OpenError> {
+/// The first address that is no unit's or stands twice, a number of entries out of range, a text that is too long, or refused memory.
+pub fn open(alloc: Global, plan: &Plan<'_>) -> Result<Device, OpenError> {
     let mut units = Vec::new(alloc);
-    for address in addresses {
+    for address in plan.units {
         units.push(OnlyUnit {
             unit: *address,
-            service: StandardAnswers {
-                service: open_store(alloc, entries)?,
-            },
+            service: open_unit(alloc, plan)?,
         })?;
     }
-    Ok(Units::new(units, None)?)
+    let absent = if plan.tells_absent {
+        Some(ExceptionCode::GatewayTargetDevice)
+    } else {
+        None
+    };
+    Ok(Units::new(units, absent)?)
 }

@@ -2,7 +2,7 @@
 ghost use Rattle.std.specs.Prelude.{IfErr};
 ghost use Rattle.modbus_burst.specs.Line.{IsOfNoBurst};
 
-use crate::device::Device;
+use crate::device::LineDevice;
 use modbus_burst::{BurstLink, process_link};
 use modbus_link::{
     Connector, Link, ReadSource, TcpConnector, TerminalLink, TimedLink, TimedTcpLink, WriteSink,
@@ -38,7 +38,7 @@ pub fn connect(rt: &HostRuntime, address: SocketAddr, silence: u64) -> Option<Ti
 pub fn serve<L: TimedLink + Drop>(
     alloc: Global,
     line: L,
-    device: &mut Device,
+    device: &mut LineDevice,
 ) -> Result<(), ProcessError>
     ensures { IfErr result (λ error. IsOfNoBurst error → ⊥) }
 {

@@ -10,8 +10,9 @@ mod listen;
 mod words;
 
 use clap::error::{Error, ErrorKind};
-use device::{Device, open};
+use device::{Device, LineDevice, Plan, open};
 use mio::net::TcpListener;
+use modbus_diagnostics::Port;
 use modbus_server::ProcessError;
 use std::net::SocketAddr;
 use std::process::ExitCode;
@@ -52,7 +53,12 @@ fn ended(rt: &HostRuntime, end: Result<(), ProcessError>) -> u8 {
 }
 
 /// Serves the line behind this address.
-fn serve_stream(rt: &HostRuntime, address: SocketAddr, silence: u64, device: &mut Device) -> u8 {
+fn serve_stream(
+    rt: &HostRuntime,
+    address: SocketAddr,
+    silence: u64,
+    device: &mut LineDevice,
+) -> u8 {
     match line::connect(rt, address, silence) {
         Some(link) => ended(rt, line::serve(rt.alloc(), link, device)),
         None => {
@@ -63,10 +69,16 @@ fn serve_stream(rt: &HostRuntime, address: SocketAddr, silence: u64, device: &mu
 }
 
 /// Serves the serial line that the words name; the status.
-fn serve_line(rt: &HostRuntime, task: &Task, device: &mut Device) -> u8 {
-    match task.place {
-        Place::Stream(address, silence) => serve_stream(rt, address, silence, device),
-        _ => ended(rt, line::serve(rt.alloc(), line::terminal(rt), device)),
+fn serve_line(rt: &HostRuntime, task: Task, device: Device) -> u8 {
+    let Task {
+        place,
+        units,
+        entries: _,
+    } = task;
+    let mut device = Port::new(units, device);
+    match place {
+        Place::Stream(address, silence) => serve_stream(rt, address, silence, &mut device),
+        _ => ended(rt, line::serve(rt.alloc(), line::terminal(rt), &mut device)),
     }
 }
 
@@ -90,7 +102,13 @@ fn open_task(rt: &HostRuntime, words: &[String]) -> Result<(Task, Device), u8> {
             return Err(wrong.status());
         }
     };
-    match open(rt.alloc(), task.units.as_slice(), task.entries) {
+    let plan = Plan {
+        units: task.units.as_slice(),
+        entries: task.entries,
+        texts: words::texts_of(&matches),
+        tells_absent: matches.get_flag("absent"),
+    };
+    match open(rt.alloc(), &plan) {
         Ok(device) => Ok((task, device)),
         Err(error) => {
             let _ = eprintln!(rt; "modbus_device: {error}");
@@ -115,12 +133,12 @@ fn main(rt: HostRuntime) -> ExitCode {
             return ExitCode::from(FAILED);
         }
     };
-    let (task, mut device) = match open_task(&rt, words.as_slice()) {
+    let (task, device) = match open_task(&rt, words.as_slice()) {
         Ok(opened) => opened,
         Err(status) => return ExitCode::from(status),
     };
     let Place::Port(address) = task.place else {
-        return ExitCode::from(serve_line(&rt, &task, &mut device));
+        return ExitCode::from(serve_line(&rt, task, device));
     };
     let Some(listener) = bind(&rt, address) else {
         let _ = eprintln!(rt; "modbus_device: no listener at {address}");

@@ -1,7 +1,8 @@
 //! The words of the command line.
 
+use crate::device::Texts;
 use crate::{FAILED, USAGE};
-use clap::{Arg, ArgMatches, Command, Error, value_parser};
+use clap::{Arg, ArgAction, ArgMatches, Command, Error, value_parser};
 use modbus_frame::SlaveId;
 use std::alloc::{AllocFailed, Global};
 use std::net::SocketAddr;
@@ -91,14 +92,61 @@ pub fn parse<'a>(alloc: Global, words: &'a [String]) -> Result<ArgMatches<'a>, E
         .default_value("5")
         .requires_arg("line")?
         .help("How many milliseconds without a byte end a frame of such a line");
-    Command::new(alloc, "modbus_device")
+    let command = Command::new(alloc, "modbus_device")
         .about("A Modbus device: units with four tables each, on a serial line or a port")
         .arg(units)?
         .arg(entries)?
         .arg(listen)?
         .arg(line)?
-        .arg(silence)?
-        .try_get_matches_from(words)
+        .arg(silence)?;
+    with_absent(alloc, with_identity(alloc, command)?)?.try_get_matches_from(words)
+}
+
+/// The words with which a unit that is not there is told.
+fn with_absent<'a>(alloc: Global, command: Command<'a>) -> Result<Command<'a>, Error> {
+    let absent = Arg::new(alloc, "absent")
+        .long("absent")
+        .action(ArgAction::SetTrue)
+        .requires_arg("listen")?
+        .help("Answer a request for a unit that is not there with the exception 0B");
+    Ok(command.arg(absent)?)
+}
+
+/// An argument that takes a text.
+fn text<'a>(alloc: Global, name: &'a str, help: &'a str) -> Arg<'a> {
+    Arg::new(alloc, name)
+        .long(name)
+        .value_name("TEXT")
+        .help(help)
+}
+
+/// The words of what the device says of itself.
+fn with_identity<'a>(alloc: Global, command: Command<'a>) -> Result<Command<'a>, Error> {
+    let vendor = text(alloc, "vendor", "The name of its vendor, object 0");
+    let product = text(
+        alloc,
+        "product",
+        "Its product code, object 1, which Report Server ID tells too",
+    );
+    let revision = text(alloc, "revision", "Its revision, object 2");
+    let server_id = Arg::new(alloc, "server-id")
+        .long("server-id")
+        .value_name("N")
+        .value_parser(value_parser!(u8))
+        .default_value("1")
+        .help("Its number in Report Server ID");
+    let command = command
+        .arg(vendor.default_value("Mudrezzi"))?
+        .arg(product.default_value("modbus_device"))?
+        .arg(revision.default_value("1"))?
+        .arg(server_id)?;
+    Ok(
+        command
+            .arg(text(alloc, "vendor-url", "The address of its vendor, object 3"))?
+            .arg(text(alloc, "product-name", "The name of the product, object 4"))?
+            .arg(text(alloc, "model", "Its model, object 5"))?
+            .arg(text(alloc, "application", "What it is used for, object 6"))?,
+    )
 }
 
 /// The address that a word names.
@@ -145,4 +193,30 @@ pub fn task_of(alloc: Global, matches: &ArgMatches<'_>) -> Result<Task, Wrong> {
         units: units_of(alloc, matches.get_strs("units").unwrap_or(&[]))?,
         entries: matches.get_one("entries").unwrap_or(1024),
     })
+}
+
+/// The text behind a word; none where there is no such word and it has no other text.
+fn text_of<'w>(matches: &ArgMatches<'w>, word: &str) -> &'w str {
+    match matches.get_str(word) {
+        Some(text) => text,
+        None => "",
+    }
+}
+
+/// What the words have the device say of itself.
+pub fn texts_of<'w>(matches: &ArgMatches<'w>) -> Texts<'w> {
+    let vendor = text_of(matches, "vendor");
+    let product = text_of(matches, "product");
+    let revision = text_of(matches, "revision");
+    let url = matches.get_str("vendor-url");
+    let name = matches.get_str("product-name");
+    let model = matches.get_str("model");
+    let application = matches.get_str("application");
+    Texts {
+        server_id: matches.get_one("server-id").unwrap_or(1),
+        vendor,
+        product,
+        revision,
+        others: [url, name, model, application],
+    }
 }
