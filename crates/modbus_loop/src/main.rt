@@ -1,6 +1,6 @@
-//! A program that serves Modbus to many connections on one thread: `modbus_loop tcp PORT`, or `modbus_loop rtu PORT`.
+//! A program that serves Modbus to many connections on one thread: `modbus_loop tcp PORT [SECONDS]`, or `modbus_loop rtu PORT [SECONDS]`.
 //!
-//! It listens on 127.0.0.1. All connections share one device of four tables of 1024 entries that hold 0 at first. `tcp` frames requests as
+//! It listens on 127.0.0.1, and lets a connection go that has no turn for so many seconds, or for ten minutes. All connections share one device of four tables of 1024 entries that hold 0 at first. `tcp` frames requests as
 //! ADUs with an MBAP header, `rtu` as RTU frames over TCP, and then the device takes part in broadcasts.
 #![tactic(auto)]
 
@@ -21,7 +21,7 @@ const REFUSED: u8 = 1;
 
 fn main(rt: HostRuntime) -> ExitCode {
     let Some(task) = parse_args(&rt) else {
-        let _ = eprintln!(rt; "modbus_loop: usage: modbus_loop tcp PORT, modbus_loop rtu PORT");
+        let _ = eprintln!(rt; "modbus_loop: usage: modbus_loop tcp|rtu PORT [SECONDS]");
         return ExitCode::from(USAGE);
     };
     let address = SocketAddr::from(([127, 0, 0, 1], task.port));
@@ -30,7 +30,7 @@ fn main(rt: HostRuntime) -> ExitCode {
         return ExitCode::from(REFUSED);
     };
     let _ = eprintln!(rt; "modbus_loop: listening on {address}");
-    let fault = serve(&rt, task.mode, listener);
+    let fault = serve(&rt, task, listener);
     let _ = eprintln!(rt; "modbus_loop: {fault}");
     ExitCode::from(REFUSED)
 }

@@ -1,6 +1,6 @@
 //! Serving a port on one thread.
 
-use crate::words::Mode;
+use crate::words::{Mode, Task};
 use mio::net::TcpListener;
 use modbus_hub::{EventServer, Limits};
 use modbus_link::FlagStop;
@@ -19,13 +19,10 @@ use std::time::{Clock, Duration};
 const ENTRIES: u32 = 1024;
 
 /// How many connections there are at a time, where the system has as many file descriptors.
-const CONNECTIONS: usize = 10_000;
+const CONNECTIONS: usize = 20_000;
 
 /// How many reads of a turn may give bytes.
 const READS: u64 = 16;
-
-/// How many seconds a connection may stay that has no turn.
-const IDLE: u64 = 600;
 
 /// The device that all connections share.
 fn open_store(alloc: Global, broadcast: bool) -> Result<RegisterStore, StoreError> {
@@ -43,6 +40,7 @@ fn serve_listener<I: Framing, R: Net + AllocGlobal + Wait + Clock>(
     rt: &R,
     listener: TcpListener,
     store: RegisterStore,
+    idle: Duration,
 ) -> &'static str {
     let Ok(mut signal) = FlagStop::new(rt.alloc()) else {
         return "no memory";
@@ -65,24 +63,24 @@ fn serve_listener<I: Framing, R: Net + AllocGlobal + Wait + Clock>(
         limits,
     );
     let mut service = InTurn::new(store);
-    let idle = Some(Duration::from_secs(IDLE));
-    match server.serve_until(rt, &mut service, idle, &mut signal) {
+    match server.serve_until(rt, &mut service, Some(idle), &mut signal) {
         Ok(_) => "stopped",
         Err(_) => "epoll fault",
     }
 }
 
-/// Serves a listener in this mode until the system refuses something, and says what.
+/// Serves a listener as the task wants until the system refuses something, and says what.
 pub fn serve<R: Net + AllocGlobal + Wait + Clock>(
     rt: &R,
-    mode: Mode,
+    task: Task,
     listener: TcpListener,
 ) -> &'static str {
-    let Ok(store) = open_store(rt.alloc(), mode == Mode::Rtu) else {
+    let Ok(store) = open_store(rt.alloc(), task.mode == Mode::Rtu) else {
         return "no memory";
     };
-    match mode {
-        Mode::Tcp => serve_listener::<AduBuffer, R>(rt, listener, store),
-        Mode::Rtu => serve_listener::<Inbox, R>(rt, listener, store),
+    let idle = Duration::from_secs(task.idle);
+    match task.mode {
+        Mode::Tcp => serve_listener::<AduBuffer, R>(rt, listener, store, idle),
+        Mode::Rtu => serve_listener::<Inbox, R>(rt, listener, store, idle),
     }
 }

@@ -2,6 +2,9 @@
 
 use std::env;
 
+/// How many seconds a connection may stay that has no turn, where the words do not say.
+const IDLE: u64 = 600;
+
 /// What frames the requests of the connections.
 #[derive(Clone, Copy, Debug, PartialEq, Eq)]
 pub enum Mode {
@@ -18,6 +21,8 @@ pub struct Task {
     pub mode: Mode,
     /// The port of 127.0.0.1 that it listens on.
     pub port: u16,
+    /// How many seconds a connection may stay that has no turn.
+    pub idle: u64,
 }
 
 /// The mode that a word names.
@@ -29,13 +34,25 @@ fn mode_of(word: &str) -> Option<Mode> {
     }
 }
 
+/// The number of seconds that a word names, from 1 on.
+fn seconds_of(word: &str) -> Option<u64> {
+    match word.parse() {
+        Ok(seconds) if seconds > 0 => Some(seconds),
+        _ => None,
+    }
+}
+
 /// The task that the words after the program name; none where they are no form.
 pub fn parse_args(rt: &HostRuntime) -> Option<Task> {
     let mut words = env::args(rt).ok()?.skip(1);
     let mode = mode_of(words.next()?.as_str())?;
     let port = words.next()?.as_str().parse().ok()?;
+    let idle = match words.next() {
+        Some(word) => seconds_of(word.as_str())?,
+        None => IDLE,
+    };
     match words.next() {
-        None => Some(Task { mode, port }),
+        None => Some(Task { mode, port, idle }),
         Some(_) => None,
     }
 }
