@@ -1,0 +1,62 @@
+#!/usr/bin/env python3
+"""Measures the built modbus_supervisor over 1,000 connections to one built modbus_loop on the loopback interface.
+
+usage: bench/supervisor.py [PROGRAM [LOOP]]
+
+Prints how many polls it makes in a second at most, and how much processor time each takes, then and where each device is polled once a second.
+A poll is one read of one register.
+"""
+
+import os
+import resource
+import socket
+import subprocess
+import sys
+import tempfile
+import time
+
+TOP = os.path.dirname(os.path.dirname(os.path.abspath(__file__)))
+
+
+def built(place, name):
+    return sys.argv[place] if len(sys.argv) > place else os.path.join(TOP, "crates", name, "out", name)
+
+
+PROGRAM, LOOP = built(1, "modbus_supervisor"), built(2, "modbus_loop")
+DEVICES = 1000
+
+
+def processor_seconds():
+    usage = resource.getrusage(resource.RUSAGE_CHILDREN)
+    return usage.ru_utime + usage.ru_stime
+
+
+def measure(path, every, count):
+    """Prints what so many polls of each device take."""
+    before, began = processor_seconds(), time.monotonic()
+    done = subprocess.run([PROGRAM, path, "--every", str(every), "--timeout", "5000", "--count", str(count)], capture_output=True, text=True, check=True)
+    took, used = time.monotonic() - began, processor_seconds() - before
+    if "away" in done.stdout or len(done.stdout.splitlines()) != DEVICES:
+        sys.exit(f"a device was away: {done.stdout[:200]}")
+    polls = DEVICES * count
+    print(f"every {every} ms: {polls} polls in {took:.1f} s, {polls / took:,.0f} a second, {1e6 * used / polls:.1f} us of processor time each")
+
+
+def main():
+    soft, hard = resource.getrlimit(resource.RLIMIT_NOFILE)
+    resource.setrlimit(resource.RLIMIT_NOFILE, (min(hard, max(soft, 4096)), hard))
+    with socket.create_server(("127.0.0.1", 0)) as listener:
+        port = listener.getsockname()[1]
+    loop = subprocess.Popen([LOOP, "tcp", str(port)], stderr=subprocess.PIPE, text=True)
+    loop.stderr.readline()
+    with tempfile.NamedTemporaryFile("w", suffix=".list") as file:
+        file.writelines(f"d{number} 127.0.0.1:{port} 1 a={number}:u16\n" for number in range(DEVICES))
+        file.flush()
+        measure(file.name, 1, 100)
+        measure(file.name, 1000, 10)
+    loop.kill()
+    loop.wait()
+
+
+if __name__ == "__main__":
+    main()

@@ -1,0 +1,366 @@
+//! The devices of a list, each of which is polled at its own times on one thread.
+ghost use Rattle.std.specs.Prelude.{◌<◌, ◌^◌, IfOk};
+
+use crate::fault::{Fault, Why, why_unanswered, why_unconnected};
+use crate::lines::Label;
+use crate::list::Entry;
+use crate::turn::Turn;
+use crate::watched::Watched;
+use crate::words::Task;
+use mio::net::TcpStream;
+use modbus_client::tcp::OwnAdus;
+use modbus_fleet::{Device, Fleet};
+use modbus_frame::{Response, Result as Answer};
+use modbus_ready::{MioReadiness, PolledTcpLink};
+use std::alloc::AllocError;
+use std::io::{self, Write};
+use std::net::SocketAddr;
+use std::time::{Duration, Instant};
+
+/// How many reads of a call may give bytes.
+const TURNS: u64 = 64;
+
+/// A device of the list.
+#[derive(Drop)]
+struct Supervised<'l> {
+    address: SocketAddr,
+    watched: Watched<'l>,
+    turn: Turn,
+    // whether no answer came over its connection yet
+    is_fresh: bool,
+}
+
+/// The devices as they are asked, and as they are seen, under the same keys.
+#[derive(Drop)]
+struct Supervisor<'l> {
+    fleet: Fleet<'static, OwnAdus, PolledTcpLink, MioReadiness>,
+    devices: Vec<Supervised<'l>>,
+    began: Instant,
+    every: u32,
+    timeout: u64,
+    // when something is to be done next, if no answer comes; `None` where nothing is any more
+    wake: Option<u64>,
+    // what is printed next
+    lines: Vec<u8>,
+    is_short_of_files: bool,
+}
+
+/// The earlier of two times.
+fn earlier(first: Option<u64>, second: Option<u64>) -> Option<u64> {
+    match (first, second) {
+        (Some(first), Some(second)) => Some(first.min(second)),
+        (Some(time), None) | (None, Some(time)) => Some(time),
+        (None, None) => None,
+    }
+}
+
+impl<'l> Supervisor<'l> {
+    /// How many milliseconds passed since the program began.
+    fn now(&self, rt: &HostRuntime) -> Result<u64, Fault>
+        ensures { IfOk result (λ now. now < 2 ^ 63) }
+    {
+        match self.began.elapsed(rt) {
+            Ok(time) => {
+                let seconds = time.as_secs().min(u64::from(u32::MAX));
+                Ok(seconds * 1000 + u64::from(time.subsec_millis()))
+            }
+            Err(_) => Err(Fault::Clock),
+        }
+    }
+
+    /// Keeps when something is to be done for the device under a key.
+    fn note_wake(&mut self, key: usize) {
+        if let Some(device) = self.devices.get(key) {
+            self.wake = earlier(self.wake, device.turn.wake());
+        }
+    }
+
+    /// Ends the poll of the device under a key.
+    fn end(&mut self, rt: &HostRuntime, key: usize) -> Result<(), Fault> {
+        let now = self.now(rt)?;
+        if let Some(device) = self.devices.get_mut(key) {
+            device.turn.end(self.every, now);
+        }
+        self.note_wake(key);
+        Ok(())
+    }
+
+    /// Ends the poll of the device under a key, which is away.
+    fn leave(&mut self, rt: &HostRuntime, key: usize, why: Why) -> Result<(), Fault> {
+        if let Some(device) = self.devices.get_mut(key) {
+            device
+                .watched
+                .leave(rt.alloc(), why.text(), &mut self.lines)?;
+        }
+        self.end(rt, key)
+    }
+
+    /// Tells the first time that no file descriptor is left.
+    fn note_shortage(&mut self, rt: &HostRuntime, why: Why) {
+        if why == Why::NoFiles && !self.is_short_of_files {
+            self.is_short_of_files = true;
+            let _ = eprintln!(rt;
+                "supervisor: too many open files: devices are away that have no connection yet"
+            );
+        }
+    }
+
+    /// Begins a connection to the device under a key, where it has none. A poll of its call goes on with it.
+    ///
+    /// # Errors
+    /// Why there is none.
+    fn connect(&mut self, rt: &HostRuntime, key: usize) -> Result<(), Why> {
+        match self.fleet.device(key) {
+            Some(device) if device.is_away() => {}
+            _ => return Ok(()),
+        }
+        let Some(device) = self.devices.get_mut(key) else {
+            return Err(Why::NoConnection);
+        };
+        let stream = match TcpStream::connect(rt, device.address) {
+            Ok(stream) => stream,
+            Err(error) => return Err(why_unconnected(&error)),
+        };
+        device.is_fresh = true;
+        match self.fleet.connect(key, PolledTcpLink::new(stream)) {
+            Ok(()) => Ok(()),
+            Err(_) => Err(Why::NoConnection),
+        }
+    }
+
+    /// Asks the read of the device under a key that comes next, or ends its poll where none is left; its answer, where there is one at
+    /// once.
+    fn ask(&mut self, rt: &HostRuntime, key: usize) -> Result<Option<Answer<Response>>, Fault> {
+        let request = match self.devices.get(key) {
+            Some(device) => device.watched.request(),
+            None => None,
+        };
+        let Some(request) = request else {
+            self.end(rt, key)?;
+            return Ok(None);
+        };
+        if let Err(why) = self.connect(rt, key) {
+            self.note_shortage(rt, why);
+            self.leave(rt, key, why)?;
+            return Ok(None);
+        }
+        let now = self.now(rt)?;
+        match self.fleet.ask(key, request, now) {
+            Some(Ok(())) => {}
+            Some(Err(_)) => return Err(Fault::NoMemory),
+            None => {
+                self.leave(rt, key, Why::NoConnection)?;
+                return Ok(None);
+            }
+        }
+        if let Some(device) = self.devices.get_mut(key) {
+            device.turn.ask(now.saturating_add(self.timeout));
+        }
+        self.note_wake(key);
+        // A link that is ready already is not told of again.
+        Ok(self.fleet.poll(key))
+    }
+
+    /// Goes on with the device under a key after a call without its answer: the read is asked again over a new connection, since the device
+    /// may have closed the last one between two polls; if this one was new, it is away.
+    fn try_anew(
+        &mut self,
+        rt: &HostRuntime,
+        key: usize,
+        why: Why,
+    ) -> Result<Option<Answer<Response>>, Fault> {
+        let is_fresh = match self.devices.get(key) {
+            Some(device) => device.is_fresh,
+            None => true,
+        };
+        if is_fresh {
+            self.leave(rt, key, why)?;
+            Ok(None)
+        } else {
+            self.ask(rt, key)
+        }
+    }
+
+    /// Takes an answer of the device under a key, and asks its next read; the answer to that, where there is one at once.
+    fn take_one(
+        &mut self,
+        rt: &HostRuntime,
+        key: usize,
+        answer: Answer<Response>,
+    ) -> Result<Option<Answer<Response>>, Fault> {
+        let reply = match answer {
+            Ok(reply) => reply,
+            Err(error) => return self.try_anew(rt, key, why_unanswered(&error)),
+        };
+        let Some(device) = self.devices.get_mut(key) else {
+            return Ok(None);
+        };
+        if device.watched.take(rt.alloc(), &reply, &mut self.lines)? {
+            device.is_fresh = false;
+            self.ask(rt, key)
+        } else {
+            self.try_anew(rt, key, Why::Other)
+        }
+    }
+
+    /// Takes an answer of the device under a key, and those to the reads behind it that come at once.
+    fn take(
+        &mut self,
+        rt: &HostRuntime,
+        key: usize,
+        first: Option<Answer<Response>>,
+    ) -> Result<(), Fault> {
+        let mut next = first;
+        for _ in 0..u64::MAX {
+            let Some(answer) = next else {
+                return Ok(());
+            };
+            next = self.take_one(rt, key, answer)?;
+        }
+        Ok(())
+    }
+
+    /// Begins a poll of the device under a key.
+    fn begin(&mut self, rt: &HostRuntime, key: usize) -> Result<(), Fault> {
+        if let Some(device) = self.devices.get_mut(key) {
+            device.watched.begin();
+        }
+        let first = self.ask(rt, key)?;
+        self.take(rt, key, first)
+    }
+
+    /// Gives up the call of the device under a key, unless its answer has come.
+    fn give_up(&mut self, rt: &HostRuntime, key: usize) -> Result<(), Fault> {
+        match self.fleet.poll(key) {
+            Some(answer) => self.take(rt, key, Some(answer)),
+            None => self.leave(rt, key, Why::NoAnswer),
+        }
+    }
+
+    /// Does what is to be done for the device under a key at this time.
+    fn serve(&mut self, rt: &HostRuntime, key: usize, now: u64) -> Result<(), Fault> {
+        let Some(device) = self.devices.get(key) else {
+            return Ok(());
+        };
+        let turn = device.turn;
+        if turn.is_late(now) {
+            self.give_up(rt, key)?;
+        } else if turn.is_due(now) {
+            self.begin(rt, key)?;
+        }
+        self.note_wake(key);
+        Ok(())
+    }
+
+    /// Does what is to be done at this time for all devices.
+    fn serve_all(&mut self, rt: &HostRuntime, now: u64) -> Result<(), Fault> {
+        self.wake = None;
+        for key in 0..self.devices.len() {
+            self.serve(rt, key, now)?;
+        }
+        // The links are dropped of the calls that were given up.
+        for _ in 0..u64::MAX {
+            if self.fleet.expire(now).is_none() {
+                return Ok(());
+            }
+        }
+        Ok(())
+    }
+
+    /// Prints the lines that were made.
+    fn print(&mut self, rt: &HostRuntime) -> Result<(), Fault> {
+        if self.lines.is_empty() {
+            return Ok(());
+        }
+        let printed = io::writer(rt).write_all(self.lines.as_slice());
+        self.lines.clear();
+        match printed {
+            Ok(()) => Ok(()),
+            Err(_) => Err(Fault::Output),
+        }
+    }
+
+    /// Waits until this time, or until answers may have come, and takes those.
+    fn wait_until(&mut self, rt: &HostRuntime, time: u64) -> Result<(), Fault> {
+        let now = self.now(rt)?;
+        let patience = Duration::from_millis(time.saturating_sub(now));
+        if self.fleet.wait(Some(patience)).is_err() {
+            return Err(Fault::Wait);
+        }
+        for _ in 0..u64::MAX {
+            match self.fleet.next_answer() {
+                Some(told) => self.take(rt, told.key, Some(told.answer))?,
+                None => return Ok(()),
+            }
+        }
+        Ok(())
+    }
+}
+
+/// The devices of a list, none of them connected yet.
+fn supervisor_of<'l>(
+    rt: &HostRuntime,
+    task: &Task<'_>,
+    list: &[Entry<'l>],
+) -> Result<Supervisor<'l>, Fault> {
+    let alloc = rt.alloc();
+    let Ok(readiness) = MioReadiness::new(rt) else {
+        return Err(Fault::Wait);
+    };
+    let Ok(began) = Instant::now(rt) else {
+        return Err(Fault::Clock);
+    };
+    let mut fleet = Fleet::new(alloc, readiness);
+    let mut devices = Vec::new(alloc);
+    for entry in list {
+        let key = fleet.add(Device::new(entry.unit, TURNS, u64::from(task.timeout)))?;
+        if key != devices.len() {
+            return Err(Fault::NoMemory);
+        }
+        devices.push(Supervised {
+            address: entry.address,
+            watched: watched_of(rt, entry)?,
+            turn: Turn::new(task.count),
+            is_fresh: true,
+        })?;
+    }
+    Ok(Supervisor {
+        fleet,
+        devices,
+        began,
+        every: task.every,
+        timeout: u64::from(task.timeout),
+        wake: Some(0),
+        lines: Vec::new(alloc),
+        is_short_of_files: false,
+    })
+}
+
+/// A device of the list, of which nothing was seen.
+fn watched_of<'l>(rt: &HostRuntime, entry: &Entry<'l>) -> Result<Watched<'l>, AllocError> {
+    let label = Label {
+        name: entry.name,
+        unit: entry.unit.0,
+    };
+    Watched::new(rt.alloc(), label, entry.wanted.as_slice())
+}
+
+/// Polls the devices of a list, each as often as the task says.
+///
+/// # Errors
+/// Why it ended before.
+pub fn supervise(rt: &HostRuntime, task: &Task<'_>, list: &[Entry<'_>]) -> Result<(), Fault> {
+    let mut supervisor = supervisor_of(rt, task, list)?;
+    for _ in 0..u64::MAX {
+        let Some(wake) = supervisor.wake else {
+            return Ok(());
+        };
+        supervisor.wait_until(rt, wake)?;
+        let now = supervisor.now(rt)?;
+        if wake <= now {
+            supervisor.serve_all(rt, now)?;
+        }
+        supervisor.print(rt)?;
+    }
+    Ok(())
+}

@@ -1,0 +1,74 @@
+//! When a device is polled. Times are milliseconds since the program began.
+ghost use Rattle.std.specs.Prelude.{◌≡◌, ◌<◌, ◌≤◌, ◌+◌, ◌-◌, ◌^◌, ◌%◌};
+
+/// When the polls of a device begin, and when its call is given up.
+#[derive(Clone, Copy, Debug)]
+pub struct Turn {
+    // how many polls are left
+    left: u64,
+    // when the next one begins
+    due: u64,
+    // when the call that is under way is given up
+    deadline: Option<u64>,
+}
+
+/// The first time after now that lies a whole number of intervals after a poll's beginning, which is no later than now.
+fn next_due(began: u64, every: u64, now: u64) -> u64
+    requires interval { 0 < every }
+    requires began { began ≤ now }
+    requires fits { now + every < 2 ^ 64 }
+    ensures later { now < result }
+    ensures soon { result ≤ now + every }
+    ensures whole { (result - began) % every ≡ 0 }
+{
+    now + (every - (now - began) % every)
+}
+
+impl Turn {
+    /// A turn of so many polls, of which the first begins at once.
+    pub fn new(count: u64) -> Turn {
+        Turn {
+            left: count,
+            due: 0,
+            deadline: None,
+        }
+    }
+
+    /// Whether a poll is to begin.
+    pub fn is_due(&self, now: u64) -> bool {
+        self.deadline.is_none() && self.left > 0 && self.due <= now
+    }
+
+    /// Whether the call is to be given up that is under way.
+    pub fn is_late(&self, now: u64) -> bool {
+        match self.deadline {
+            Some(deadline) => deadline <= now,
+            None => false,
+        }
+    }
+
+    /// When something is to be done next; `None` where nothing is any more.
+    pub fn wake(&self) -> Option<u64> {
+        match self.deadline {
+            Some(deadline) => Some(deadline),
+            None if self.left > 0 => Some(self.due),
+            None => None,
+        }
+    }
+
+    /// A call is under way, which is given up at this time.
+    pub fn ask(&mut self, deadline: u64) {
+        self.deadline = Some(deadline);
+    }
+
+    /// The poll is over. The next one begins a whole number of intervals later; those that were missed are left out.
+    pub fn end(&mut self, every: u32, now: u64)
+        requires { now < 2 ^ 63 }
+    {
+        self.deadline = None;
+        self.left = self.left.saturating_sub(1);
+        if self.due <= now {
+            self.due = next_due(self.due, u64::from(every.max(1)), now);
+        }
+    }
+}

@@ -1,0 +1,82 @@
+//! The words of the command line.
+
+use clap::{Arg, ArgAction, ArgMatches, Command, Error, value_parser};
+use std::alloc::Global;
+
+/// What the words ask for.
+#[derive(Drop)]
+pub struct Task<'a> {
+    /// The file with the list of devices.
+    pub file: &'a str,
+    /// How many milliseconds pass from the beginning of a device's poll to that of its next.
+    pub every: u32,
+    /// How many milliseconds a read may take, with the connection where there is none.
+    pub timeout: u32,
+    /// How many polls each device has.
+    pub count: u64,
+    /// Whether the reads are printed, and nothing is sent.
+    pub is_plan: bool,
+}
+
+/// How many milliseconds an option has at most: a day.
+const MOST_MILLIS: i64 = 86_400_000;
+
+fn millis<'a>(alloc: Global, name: &'a str, help: &'a str) -> Arg<'a> {
+    Arg::new(alloc, name)
+        .long(name)
+        .value_name("MS")
+        .value_parser(value_parser!(u32).range(1..=MOST_MILLIS))
+        .default_value("1000")
+        .help(help)
+}
+
+/// Reads the words of the command line, the program's name first.
+///
+/// # Errors
+/// What clap has to say: the help that was asked for, or the word that cannot be read.
+pub fn parse<'a>(alloc: Global, words: &'a [String]) -> Result<ArgMatches<'a>, Error> {
+    let file = Arg::new(alloc, "file")
+        .value_name("FILE")
+        .required(true)
+        .help(
+            "The list, a line for each device: a name, ADDRESS:PORT, a unit identifier and items, as pump1 192.0.2.1:502 1 level=100:u16",
+        );
+    let every = millis(
+        alloc,
+        "every",
+        "Poll each device again after so many milliseconds",
+    );
+    let timeout = millis(
+        alloc,
+        "timeout",
+        "How long a read may take, in milliseconds, with its connection",
+    );
+    let count = Arg::new(alloc, "count")
+        .long("count")
+        .value_name("N")
+        .value_parser(value_parser!(u64).range(1..=1_000_000_000_000))
+        .help("End after so many polls of each device; else it goes on for ever");
+    let plan = Arg::new(alloc, "plan")
+        .long("plan")
+        .action(ArgAction::SetTrue)
+        .help("Print the reads of each device, and send nothing");
+    Command::new(alloc, "modbus_supervisor")
+        .about("Polls many Modbus TCP devices, and prints what changes")
+        .arg(file)?
+        .arg(every)?
+        .arg(timeout)?
+        .arg(count)?
+        .arg(plan)?
+        .try_get_matches_from(words)
+}
+
+/// What the words ask for that were read.
+pub fn task_of<'a>(matches: &ArgMatches<'a>) -> Task<'a> {
+    Task {
+        file: matches.get_str("file").unwrap_or(""),
+        every: matches.get_one("every").unwrap_or(1000),
+        timeout: matches.get_one("timeout").unwrap_or(1000),
+        count: matches.get_one("count").unwrap_or(u64::MAX),
+        is_plan: matches.get_flag("plan"),
+    }
+}
