@@ -6,8 +6,8 @@ use Rattle.modbus_link.specs.Runs.{bytes_read-all}
 use Rattle.modbus_server.specs.declared.error.ProcessError.{ProcessError}
 use Rattle.modbus_server.specs.declared.error.ProcessError.TheVariants.{WriteFault, NoMemory}
 use Rattle.modbus_server.specs.Framing.{Framing}
-use Rattle.modbus_server.specs.Serving.{EndsAs}
-use Rattle.modbus_server.specs.Stepping.{Ran}
+use Rattle.modbus_server.specs.Served.{EndsAs}
+use Rattle.modbus_server.specs.Step.{Ran}
 use Rattle.modbus_store.specs.Tables.{Tables}
 use Rattle.modbus_store.specs.Step.{device}
 use Rattle.modbus_app.specs.declared.words.Form.{Form}
@@ -17,6 +17,7 @@ use Rattle.modbus_app.specs.Make.{SumsUp, summary}
 use Rattle.modbus_app.specs.Device.{EndsServing, Serves, messages_of, opening}
 use Rattle.modbus_app.specs.Ending.{Ends, Makes, TellsResult}
 use Rattle.modbus_app.specs.Status.{ending_of, Reports, line_of}
+use Rattle.modbus_server.specs.Moment.{moment}
 
 abbrev count_or : ℕ → Option Task → ℕ
 count_or other None = other
@@ -31,15 +32,15 @@ pub same_count : (a b : ℕ) (found : Option Task) → Some (Make a) ≡ found �
 same_count a b found e f = ap (count_or a) (e ∙ f)
 
 module _ (form : Form) (opened now : Tables) (start : opened ≡ opening form) (from to : Input) (sunk sinks : Output) where
-  serves : (result : Result (Unit {0}) ProcessError) → Ran (messages_of form.mode) device opened now from to sunk sinks (2 ^ 64 - 1) result → Serves form from to sunk sinks result
-  serves result ran = record { now = now; ran = subst (λ t. Ran (messages_of form.mode) device t now from to sunk sinks (2 ^ 64 - 1) result) start ran }
+  serves : (result : Result (Unit {0}) ProcessError) → Ran (messages_of form.mode) device (2 ^ 64 - 1) (moment opened from sunk) (moment now to sinks) result → Serves form from to sunk sinks result
+  serves result ran = record { now = now; ran = subst (λ t. Ran (messages_of form.mode) device (2 ^ 64 - 1) (moment t from sunk) (moment now to sinks) result) start ran }
 
-  pub ends : (said told : Output) (status : ℕ) (result : Result (Unit {0}) ProcessError) → Ran (messages_of form.mode) device opened now from to sunk sinks (2 ^ 64 - 1) result
+  pub ends : (said told : Output) (status : ℕ) (result : Result (Unit {0}) ProcessError) → Ran (messages_of form.mode) device (2 ^ 64 - 1) (moment opened from sunk) (moment now to sinks) result
       → ending_of result ≡ Some status → TellsResult said told result → Ends form from to sunk sinks said told status
   ends said told status result ran is tells = record { result = result; is = is; served = inl (serves result ran); tells = tells }
 
   -- where all was served, all that was left was read, and what was appended is the output
-  pub answers : Ran (messages_of form.mode) device opened now from to sunk sinks (2 ^ 64 - 1) (Ok tt) → IsTrue from.told → IsTrue sunk.told
+  pub answers : Ran (messages_of form.mode) device (2 ^ 64 - 1) (moment opened from sunk) (moment now to sinks) (Ok tt) → IsTrue from.told → IsTrue sunk.told
       → EndsServing form from.left (totals (cuts_made from to)) (bytes_appended sunk sinks) (Ok tt) × (to.left ≡ [])
   answers ran told told' =
       let ended : to.left ≡ [] = ran.ended told in

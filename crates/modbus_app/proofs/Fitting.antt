@@ -8,7 +8,7 @@ use Rattle.modbus_service.specs.Outcome.{Outcome, reply_pdu, code_of}
 use Rattle.modbus_server.specs.Exchanges.{Exchange, GivesOutcome, Run, ReplyFits}
 use Rattle.modbus_server.specs.Framing.{Framing, Message}
 use Rattle.modbus_server.specs.Complete.{RepliesFit}
-use Rattle.modbus_server.specs.Serving.{EndsAs, Served, Halts, too_long}
+use Rattle.modbus_server.specs.Served.{EndsAs, Served, Halts, too_long}
 use Rattle.modbus_server.specs.declared.error.ProcessError.{ProcessError}
 use Rattle.modbus_server.specs.declared.error.ProcessError.TheVariants.{ResponseTooLong}
 use Rattle.modbus_store.specs.Tables.{Tables}

@@ -29,12 +29,13 @@ use Rattle.modbus_server.specs.declared.error.ProcessError.{ProcessError}
 use Rattle.modbus_server.specs.declared.error.ProcessError.TheVariants.{ReadFault, WriteFault, TooManyRetries, BytesRemaining, InvalidRequest, ResponseTooLong, TurnLimit, InvalidLength, InvalidProtocol, NoMemory}
 use Rattle.modbus_server.specs.Exchanges.{Exchange, Run, ReplyFits, output, reply_of, framed, asked_of, asks}
 use Rattle.modbus_server.specs.Rtu.{rtu}
-use Rattle.modbus_server.specs.Serving.{Served, remaining}
-use Rattle.modbus_server.specs.Stepping.{Ran}
+use Rattle.modbus_server.specs.Served.{Served, remaining}
+use Rattle.modbus_server.specs.Step.{Ran}
 use Rattle.modbus_store.specs.Tables.{Tables}
 use Rattle.modbus_store.specs.Step.{device, store_step}
 use Rattle.modbus_app.specs.Make.{next_number, made_kind, request_by, number_at, requests_made, made_for, line_made, made_tables, answered, replies_made}
 use Rattle.modbus_app.proofs.Fitting.{never_long}
+use Rattle.modbus_server.specs.Moment.{moment}
 
 -- a request for the one slave, and its message
 abbrev for_slave : Asked → ℕ × Asked
@@ -293,7 +294,7 @@ module _ (laws : Laws) (count : ℕ) (most : count ≤ 1000000) (opening now : T
   long : length from.left ≡ 8 * length requests
   long = ap length left ∙ length-line requests plain
 
-  module _ (result : Result (Unit {0}) ProcessError) (ran : Ran rtu device opening now from to sunk sinks (2 ^ 64 - 1) result) where
+  module _ (result : Result (Unit {0}) ProcessError) (ran : Ran rtu device (2 ^ 64 - 1) (moment opening from sunk) (moment now to sinks) result) where
     joined : from.left ≡ ran.fed ++ to.left
     joined = (ran.passes.source.content refl).left ∙ ap (λ b. b ++ to.left) (ran.passes.read refl)
 
@@ -340,7 +341,7 @@ module _ (laws : Laws) (count : ℕ) (most : count ≤ 1000000) (opening now : T
         cc
 
   -- no answer comes but Ok and refused memory
-  pub only_memory : (error : ProcessError) → Ran rtu device opening now from to sunk sinks (2 ^ 64 - 1) (Err error) → error ≡ NoMemory
+  pub only_memory : (error : ProcessError) → Ran rtu device (2 ^ 64 - 1) (moment opening from sunk) (moment now to sinks) (Err error) → error ≡ NoMemory
   only_memory ReadFault ran = absurd (read_sure (Err ReadFault) ran (ran.read_fault refl))
   only_memory WriteFault ran =
       let s = ran.served.stood in
@@ -360,7 +361,7 @@ module _ (laws : Laws) (count : ℕ) (most : count ≤ 1000000) (opening now : T
   only_memory (InvalidProtocol protocol) ran = absurd ran.served.halts.0
   only_memory NoMemory ran = refl
 
-  module _ (ran : Ran rtu device opening now from to sunk sinks (2 ^ 64 - 1) (Ok tt)) where
+  module _ (ran : Ran rtu device (2 ^ 64 - 1) (moment opening from sunk) (moment now to sinks) (Ok tt)) where
     abbrev served : Served rtu device ran.fed (totals ran.made) opening now ran.sent (remaining [])
     served = ran.served
 

@@ -5,8 +5,8 @@ use Rattle.modbus_frame.specs.declared.server.Terminated.{Terminated}
 use Rattle.modbus_link.specs.declared.outside.Failed.{Failed}
 use Rattle.modbus_server.specs.declared.error.ServeError.{ServeError}
 use Rattle.modbus_server.specs.declared.error.ServeError.TheVariants.{AcceptFault, Connect, SpawnFault, NoMemory}
-use Rattle.modbus_server.specs.Listening.{Parts, WorkerState, Listener, Connected, StartedFor, AcceptsOne, AcceptsMany, Accepts, Counts, Serves, NeverRejects, unsignalled}
-use Rattle.modbus_server.specs.Stopping.{never_set}
+use Rattle.modbus_server.specs.Listener.{Parts, WorkerState, Listener, Connected, StartedFor, AcceptsOne, AcceptsMany, Accepts, Counts, Serves, NeverRejects, unsignalled}
+use Rattle.modbus_server.specs.Signal.{never_set}
 use Rattle.modbus_store.specs.declared.table.PassesOut.{PassesOut}
 use Rattle.modbus_store.specs.Passes.{Pass}
 use Rattle.modbus_app.specs.Listen.{SplitsFor, parts_with, ServesLinks}

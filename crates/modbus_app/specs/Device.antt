@@ -6,8 +6,8 @@ use Rattle.modbus_server.specs.Framing.{Framing as Messages}
 use Rattle.modbus_server.specs.Rtu.{rtu}
 use Rattle.modbus_server.specs.Tcp.{tcp}
 use Rattle.modbus_ascii.specs.Framing.{ascii}
-use Rattle.modbus_server.specs.Serving.{EndsAs}
-use Rattle.modbus_server.specs.Stepping.{Ran}
+use Rattle.modbus_server.specs.Served.{EndsAs}
+use Rattle.modbus_server.specs.Step.{Ran}
 use Rattle.modbus_store.specs.Tables.{Tables}
 use Rattle.modbus_store.specs.Opening.{zeros_of}
 use Rattle.modbus_store.specs.Step.{device}
@@ -18,6 +18,7 @@ use Rattle.modbus_app.specs.declared.words.Mode.{Mode}
 use Rattle.modbus_app.specs.declared.words.Mode.TheVariants.{Rtu, Ascii, Tcp}
 use Rattle.modbus_app.specs.declared.words.Form.{Form}
 use Rattle.modbus_app.specs.Words.{default_size}
+use Rattle.modbus_server.specs.Moment.{moment}
 
 -- a table of so many entries, each made of its address
 unfoldable pub entries_by : {A : Type 0} → (ℕ → A) → ℕ → List A
@@ -76,4 +77,4 @@ EndsServing form bytes cuts written result = (now : Tables) × EndsAs (messages_
 -- serving the device, over a source and a sink, with no limit of turns but that of a counter of 64 bits
 pub record Serves (form : Form) (from to : Input) (sunk sinks : Output) (result : Result (Unit {0}) ProcessError) : Type 0 where
   pub now : Tables
-  pub ran : Ran (messages_of form.mode) device (opening form) now from to sunk sinks (2 ^ 64 - 1) result
+  pub ran : Ran (messages_of form.mode) device (2 ^ 64 - 1) (moment (opening form) from sunk) (moment now to sinks) result

@@ -3,7 +3,7 @@ use Rattle.std.specs.Prelude.{◌≡◌, ◌-◌, ◌^◌, ℕ, None, Result, Ok
 use Rattle.std.specs.declared.net.SocketAddr.{SocketAddr}
 use Rattle.modbus_link.specs.declared.outside.Failed.{Failed}
 use Rattle.modbus_link.specs.Line.{LinkMeaning}
-use Rattle.modbus_link.specs.Outside.{Input, Output, Rose}
+use Rattle.modbus_link.specs.Outside.{Output, Outside}
 use Rattle.modbus_client.specs.Connecting.{ConnectorMeaning}
 use Rattle.modbus_client.specs.Rtu.{rtu_heading}
 use Rattle.modbus_client.specs.State.{attached}
@@ -11,20 +11,17 @@ use Rattle.modbus_gateway.specs.Forwarding.{LineState}
 use Rattle.modbus_gateway.specs.Forwarded.{Forwarded}
 use Rattle.modbus_app.specs.Ending.{EndsBy}
 use Rattle.modbus_app.specs.Status.{connect_line, Reports}
-
--- a source and a sink at one moment
-abbrev pub Streams : Type 0
-Streams = Input × Output
+use Rattle.modbus_server.specs.Moment.{moment}
 
 -- What stood on what the connector gave: the requests were forwarded to its link, by a client that was told nothing; or there was none, which
 -- was told, and nothing was read or written.
-abbrev pub ForwardsBy : {L : Type 0} → LinkMeaning L → Result L Failed → Streams → Streams → Output × Output → ℕ → Type 0
+abbrev pub ForwardsBy : {L : Type 0} → LinkMeaning L → Result L Failed → Outside → Outside → Output × Output → ℕ → Type 0
 ForwardsBy {L} M (Ok link) old new said status =
-    (end : LineState L) × EndsBy (Forwarded M (attached rtu_heading link 0) end old.0 new.0 old.1 new.1 (2 ^ 64 - 1)) said.0 said.1 status
+    (end : LineState L) × EndsBy (Forwarded M (2 ^ 64 - 1) (moment (attached rtu_heading link 0) old.input old.output) (moment end new.input new.output)) said.0 said.1 status
 ForwardsBy M (Err failed) old new said status = (status ≡ 16) × (new ≡ old) × Reports said.0 said.1 connect_line
 
 -- One connection was made to this address, with no limit of time, and what it gave was forwarded to. A connector fails only where its count of
 -- faults rose.
-abbrev pub ForwardsTo : {C L : Type 0} → ConnectorMeaning C L → LinkMeaning L → C × C → SocketAddr → Streams → Streams → Output × Output → ℕ → Type 0
+abbrev pub ForwardsTo : {C L : Type 0} → ConnectorMeaning C L → LinkMeaning L → C × C → SocketAddr → Outside → Outside → Output × Output → ℕ → Type 0
 ForwardsTo {C} {L} K M connectors line old new said status =
     (given : Result L Failed) × K.connects connectors.0 line None given connectors.1 × ForwardsBy M given old new said status

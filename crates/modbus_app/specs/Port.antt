@@ -6,14 +6,14 @@ use Rattle.std.specs.declared.net.SocketAddr.{SocketAddr}
 use Rattle.modbus_link.specs.Line.{LinkMeaning, meaning_of}
 use Rattle.modbus_link.specs.Listens.{Tally, tally_at_start}
 use Rattle.modbus_link.specs.Memory.{faults_after}
-use Rattle.modbus_link.specs.Outside.{Output, untold_input, untold_output}
+use Rattle.modbus_link.specs.Outside.{Output, Outside, untold_input, untold_output}
 use Rattle.modbus_link.specs.Tcp.{TcpState, tcp_at_start}
 use Rattle.modbus_client.specs.Connecting.{ConnectorMeaning, connector_of}
 use Rattle.modbus_server.specs.declared.error.ProcessError.TheVariants.{NoMemory}
 use Rattle.modbus_store.specs.Passes.{Shared, Pass, opened}
 use Rattle.modbus_app.specs.declared.words.Framing.{Framing}
 use Rattle.modbus_app.specs.Device.{shared_opening}
-use Rattle.modbus_app.specs.Gateway.{Streams, ForwardsTo}
+use Rattle.modbus_app.specs.Gateway.{ForwardsTo}
 use Rattle.modbus_app.specs.Listen.{Accepting, ListenedOver}
 use Rattle.modbus_app.specs.Patient.{PatientState, IsPatient}
 use Rattle.modbus_app.specs.Status.{line_of, bind_line, Reports}
@@ -82,6 +82,6 @@ abbrev pub tcp_line : LinkMeaning TcpState
 tcp_line = meaning_of (λ link. untold_input link.read_faults) (λ link. untold_output link.write_faults) (λ link. link.line)
 
 -- a program that forwards ended: it made one connection over TCP to this port of this machine
-abbrev pub ForwardsToPort : ℕ → Streams → Streams → Output × Output → ℕ → Type 0
+abbrev pub ForwardsToPort : ℕ → Outside → Outside → Output × Output → ℕ → Type 0
 ForwardsToPort port old new said status = (address : SocketAddr) × IsLoopback port address
     × (after : ℕ) × ForwardsTo tcp_connecting tcp_line (0, after) address old new said status

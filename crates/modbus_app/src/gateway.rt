@@ -1,13 +1,14 @@
 //! The form `gateway`: the devices of a line of RTU frames, for the master of one Modbus TCP connection.
 ghost use Rattle.std.specs.Prelude.{◌≡◌, ◌⊎◌, ◌-◌, ◌^◌, ◌<◌, IsTrue, length};
 ghost use Rattle.modbus_link.specs.Line.{meaning_of};
-ghost use Rattle.modbus_link.specs.Outside.{Rose};
+ghost use Rattle.modbus_link.specs.Outside.{outside, Rose};
 ghost use Rattle.modbus_server.specs.Complete.{IsCleanLine};
 ghost use Rattle.modbus_server.specs.Tcp.{tcp};
 ghost use Rattle.modbus_gateway.specs.Forwarded.{Forwarded};
 ghost use Rattle.modbus_client.specs.Connecting.{connector_of};
 ghost use Rattle.modbus_app.specs.Ending.{EndsBy};
 ghost use Rattle.modbus_app.specs.Gateway.{ForwardsTo};
+ghost use Rattle.modbus_server.specs.Moment.{moment};
 
 use crate::status::{CONNECT_FAULT, CONNECT_LINE, report, report_fault, status};
 use modbus_client::rtu;
@@ -37,9 +38,10 @@ pub fn run_gateway<S: Source, K: Sink, L: Link + Send + Drop, E: Sink>(
     line: &mut rtu::Client<L>,
     errors: &mut E,
 ) -> u8
-    ensures ends { EndsBy (Forwarded (meaning_of L.input L.output L.line) line.old line.new
-        (S.input source.old) (S.input source.new) (K.output sink.old) (K.output sink.new)
-        (2 ^ 64 - 1)) (E.output errors.old) (E.output errors.new) result }
+    ensures ends { EndsBy (Forwarded (meaning_of L.input L.output L.line) (2 ^ 64 - 1)
+        (moment line.old (S.input source.old) (K.output sink.old))
+        (moment line.new (S.input source.new) (K.output sink.new)))
+        (E.output errors.old) (E.output errors.new) result }
     ensures complete { IsTrue (S.input source.old).told
         → IsCleanLine tcp (S.input source.old).left → length (S.input source.old).left < 2 ^ 64 - 1
         → (Rose (S.input source.old).faults (S.input source.new).faults → ⊥)
@@ -71,7 +73,8 @@ where
     C::Link: Link + Send + Drop,
     ensures { ForwardsTo (connector_of C.connects C.faults)
         (meaning_of C.Link.input C.Link.output C.Link.line) (connector.old, connector.new) line
-        (S.input source.old, K.output sink.old) (S.input source.new, K.output sink.new)
+        (outside (S.input source.old) (K.output sink.old))
+        (outside (S.input source.new) (K.output sink.new))
         (E.output errors.old, E.output errors.new) result }
 {
     match connector.connect(line, None) {

@@ -5,6 +5,7 @@ ghost use Rattle.modbus_app.specs.Device.{shared_opening};
 ghost use Rattle.modbus_app.specs.Listen.{accepting, ListenedOver};
 ghost use Rattle.modbus_app.specs.Port.{IsLoopback, IsRefused, ServesPort, ListensAt, ForwardsToPort};
 ghost use Rattle.modbus_app.specs.Status.{line_of, Reports};
+ghost use Rattle.modbus_link.specs.Outside.{outside};
 
 use crate::device::open_shared;
 use crate::gateway::forward_to;
@@ -431,8 +432,9 @@ where
     S: Source,
     K: Sink,
     E: Sink,
-    ensures { ForwardsToPort port (S.input source.old, K.output sink.old)
-        (S.input source.new, K.output sink.new) (E.output errors.old, E.output errors.new) result }
+    ensures { ForwardsToPort port (outside (S.input source.old) (K.output sink.old))
+        (outside (S.input source.new) (K.output sink.new))
+        (E.output errors.old, E.output errors.new) result }
 {
     let mut connector = TcpConnector::new(rt);
     forward_to(alloc, &mut connector, loopback(port), source, sink, errors)

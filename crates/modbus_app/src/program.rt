@@ -4,7 +4,7 @@ ghost use Rattle.modbus_link.specs.Outside.{Input, Rose, bytes_appended, cuts_ma
 ghost use Rattle.modbus_link.specs.Reads.{totals};
 ghost use Rattle.modbus_server.specs.declared.error.ProcessError.TheVariants.{ResponseTooLong};
 ghost use Rattle.modbus_server.specs.Complete.{IsCleanLine};
-ghost use Rattle.modbus_server.specs.Stepping.{Ran};
+ghost use Rattle.modbus_server.specs.Step.{Ran};
 ghost use Rattle.modbus_store.specs.Step.{device};
 ghost use Rattle.modbus_app.specs.Words.{asked, most_entries, most_requests, IsUsage};
 ghost use Rattle.modbus_app.specs.declared.words.Form.{Form};
@@ -13,6 +13,7 @@ ghost use Rattle.modbus_app.specs.Device.{EndsServing, messages_of};
 ghost use Rattle.modbus_app.specs.Make.{summary};
 ghost use Rattle.modbus_app.specs.Ending.{IsUsageFault, Ends, Makes, Plans};
 ghost use Rattle.modbus_app.specs.Plan.{items_named};
+ghost use Rattle.modbus_server.specs.Moment.{moment};
 
 use crate::device::open;
 use crate::make::make;
@@ -33,8 +34,9 @@ fn serve<S: Source, K: Sink>(
     source: &mut S,
     sink: &mut K,
 ) -> Result<(), ProcessError>
-    ensures ran { Ran (messages_of mode) device store.old store.new (S.input source.old)
-        (S.input source.new) (K.output sink.old) (K.output sink.new) (2 ^ 64 - 1) result }
+    ensures ran { Ran (messages_of mode) device (2 ^ 64 - 1)
+        (moment store.old (S.input source.old) (K.output sink.old))
+        (moment store.new (S.input source.new) (K.output sink.new)) result }
     ensures fits { (size : ℕ) → result ≢ Err (ResponseTooLong size) }
     ensures complete { IsTrue (S.input source.old).told
         → IsCleanLine (messages_of mode) (S.input source.old).left

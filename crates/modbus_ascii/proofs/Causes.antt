@@ -3,7 +3,7 @@ use Rattle.std.specs.Prelude.{ℕ, List, Result, Ok, Err, IfErr}
 use Rattle.modbus_server.specs.declared.error.ProcessError.{ProcessError}
 use Rattle.modbus_server.specs.declared.error.ProcessError.TheVariants.{TooManyRetries, InvalidLength, InvalidProtocol}
 use Rattle.modbus_server.specs.Framing.{IsOfFraming}
-use Rattle.modbus_server.specs.Serving.{EndsAs}
+use Rattle.modbus_server.specs.Served.{EndsAs}
 use Rattle.modbus_service.specs.Answering.{Answering}
 use Rattle.modbus_ascii.specs.Framing.{ascii}
 

@@ -94,7 +94,7 @@ length-but_last (x ∷ []) = refl
 length-but_last (x ∷ y ∷ ys) = omega (arith, length-but_last (y ∷ ys))
 
 -- a text that is too long delivers nothing
-long-text : (a : List ℕ) → most_open ≤ length a → frame_of (drop 1 (but_last a)) ≡ []
+pub long-text : (a : List ℕ) → most_open ≤ length a → frame_of (drop 1 (but_last a)) ≡ []
 long-text a long =
     let text = drop 1 (but_last a) in
     let above : longest_text < length text = omega (arith, length-drop 1 (but_last a), length-but_last a) in

@@ -4,6 +4,7 @@ pub mod Decoding
 pub mod Framing
 pub mod Going
 pub mod Holding
+pub mod Behind
 pub mod Scanning
 pub mod Buffering
 pub mod Alone

@@ -69,7 +69,8 @@ decodes-like seen other reading room e k = by_cases (like-cases (open_end seen) 
 pub open-one : (seen : List ℕ) → length (held_open (seen ++ colon ∷ [])) ≡ 1
 open-one seen = rw (open_end-more seen colon) refl
 
-open-more : (seen : List ℕ) (b : ℕ) → b ≢ colon → open_end (seen ++ b ∷ []) ≢ [] → open_end (seen ++ b ∷ []) ≡ open_end seen ++ b ∷ []
+-- a byte other than a `:` joins what is open, or leaves nothing open
+pub open-more : (seen : List ℕ) (b : ℕ) → b ≢ colon → open_end (seen ++ b ∷ []) ≢ [] → open_end (seen ++ b ∷ []) ≡ open_end seen ++ b ∷ []
 open-more seen b other some =
     let more = open_end-more seen b in
     let not_mark : (b == colon) ≡ false = grind arith in

@@ -4,7 +4,8 @@ ghost use Rattle.std.specs.Prelude.{IfErr};
 ghost use Rattle.modbus_ascii.specs.Framing.{ascii};
 ghost use Rattle.modbus_server.specs.Complete.{Completes};
 ghost use Rattle.modbus_server.specs.Framing.{IsOfFraming};
-ghost use Rattle.modbus_server.specs.Stepping.{Ran};
+ghost use Rattle.modbus_server.specs.Step.{Ran};
+ghost use Rattle.modbus_server.specs.Moment.{moment};
 
 use crate::buffer::AsciiBuffer;
 use modbus_link::{Sink, Source};
@@ -35,10 +36,12 @@ pub fn process_link<L: Source + Sink, V: Answerer>(
     service: &mut V,
     turns: u64,
 ) -> Result<(), ProcessError>
-    ensures ran { Ran ascii V.answering service.old service.new (L.input link.old)
-        (L.input link.new) (L.output link.old) (L.output link.new) turns result }
-    ensures complete { Completes ascii V.answering service.old (L.input link.old) (L.input link.new)
-        (L.output link.old) (L.output link.new) turns result }
+    ensures ran { Ran ascii V.answering turns
+        (moment service.old (L.input link.old) (L.output link.old))
+        (moment service.new (L.input link.new) (L.output link.new)) result }
+    ensures complete { Completes ascii V.answering turns
+        (moment service.old (L.input link.old) (L.output link.old))
+        (moment service.new (L.input link.new) (L.output link.new)) result }
     ensures causes { IfErr result (λ error. IsOfFraming error → ⊥) }
 {
     serve_link::<AsciiBuffer, L, V>(alloc, link, service, turns)
@@ -68,10 +71,12 @@ pub fn process<S: Source, K: Sink, V: Answerer>(
     service: &mut V,
     turns: u64,
 ) -> Result<(), ProcessError>
-    ensures ran { Ran ascii V.answering service.old service.new (S.input source.old)
-        (S.input source.new) (K.output sink.old) (K.output sink.new) turns result }
-    ensures complete { Completes ascii V.answering service.old (S.input source.old)
-        (S.input source.new) (K.output sink.old) (K.output sink.new) turns result }
+    ensures ran { Ran ascii V.answering turns
+        (moment service.old (S.input source.old) (K.output sink.old))
+        (moment service.new (S.input source.new) (K.output sink.new)) result }
+    ensures complete { Completes ascii V.answering turns
+        (moment service.old (S.input source.old) (K.output sink.old))
+        (moment service.new (S.input source.new) (K.output sink.new)) result }
     ensures causes { IfErr result (λ error. IsOfFraming error → ⊥) }
 {
     serve::<AsciiBuffer, S, K, V>(alloc, source, sink, service, turns)

@@ -1,9 +1,10 @@
 //! Laws on the frames that bytes deliver, about definitions alone. Each is proved by its contract, and its body is empty.
-ghost use Rattle.std.specs.Prelude.{◌≡◌, ℕ, List, [], ◌∷◌, ◌++◌, map};
+ghost use Rattle.std.specs.Prelude.{◌≡◌, ◌≢◌, ℕ, ◌<◌, List, [], ◌∷◌, ◌++◌, length, map};
 ghost use Rattle.std.specs.List.{AllByRecursion};
 ghost use Rattle.modbus_frame.specs.Meaning.{Asked};
 ghost use Rattle.modbus_ascii.specs.Frames.{frames};
 ghost use Rattle.modbus_ascii.specs.Framed.{IsFramed, IsFramedAsk, message_of, stream_of};
+ghost use Rattle.modbus_ascii.specs.Limits.{colon, max_frame};
 ghost use Rattle.modbus_ascii.specs.Stands.{AreOnlyFrames};
 ghost use Rattle.modbus_ascii.specs.Text.{open_end};
 
@@ -12,6 +13,26 @@ pub fn frames_go_on()
     ensures front { (bytes more : List ℕ) → (later : List (ℕ × List ℕ))
         × (frames (bytes ++ more) ≡ frames bytes ++ later) }
     ensures closed { (bytes more : List ℕ) → open_end bytes ≡ []
+        → frames (bytes ++ more) ≡ frames bytes ++ frames more }
+{}
+
+/// A `:` is open alone, whatever came before it. Any other byte joins the `:` that is open and its text, or no `:` is open after it; none
+/// is open after the last byte of a frame.
+pub fn open_ends_grow()
+    ensures begins { (bytes : List ℕ) → open_end (bytes ++ colon ∷ []) ≡ colon ∷ [] }
+    ensures joins { (bytes : List ℕ) (byte : ℕ) → byte ≢ colon → open_end (bytes ++ byte ∷ []) ≢ []
+        → open_end (bytes ++ byte ∷ []) ≡ open_end bytes ++ byte ∷ [] }
+    ensures closes { (bytes : List ℕ) (byte : ℕ) (frame : ℕ × List ℕ)
+        → frames (bytes ++ byte ∷ []) ≡ frames bytes ++ frame ∷ []
+        → open_end (bytes ++ byte ∷ []) ≡ [] }
+{}
+
+/// What follows bytes delivers what it delivers behind the `:` that is open at their end and its text; and where these are longer than any
+/// frame, what follows delivers what it delivers alone.
+pub fn frames_behind_open_ends()
+    ensures behind { (bytes more : List ℕ)
+        → frames (bytes ++ more) ≡ frames bytes ++ frames (open_end bytes ++ more) }
+    ensures long { (bytes more : List ℕ) → max_frame < length (open_end bytes)
         → frames (bytes ++ more) ≡ frames bytes ++ frames more }
 {}
 

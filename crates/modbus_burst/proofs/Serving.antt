@@ -12,12 +12,13 @@ use Rattle.modbus_server.specs.declared.error.ProcessError.{ProcessError}
 use Rattle.modbus_server.specs.declared.error.ProcessError.TheVariants.{ReadFault, WriteFault, TooManyRetries, BytesRemaining, InvalidLength, InvalidProtocol, InvalidRequest, ResponseTooLong, TurnLimit, NoMemory}
 use Rattle.modbus_server.specs.Complete.{RepliesFit}
 use Rattle.modbus_server.specs.Exchanges.{Exchange, GivesOutcome, Run, ReplyFits, asked_of, asks}
-use Rattle.modbus_server.specs.Serving.{Served, Halts, refused, too_long, EndsAs}
-use Rattle.modbus_server.specs.Stepping.{Ran}
+use Rattle.modbus_server.specs.Served.{Served, Halts, refused, too_long, EndsAs}
+use Rattle.modbus_server.specs.Step.{Ran}
 use Rattle.modbus_standard.specs.Unread.{any_request_of}
 use Rattle.modbus_burst.specs.Bursts.{messages}
 use Rattle.modbus_burst.specs.Framing.{bursts}
 use Rattle.modbus_burst.specs.Line.{messages_read, AnswersBursts, ServesBursts, IsOfNoBurst}
+use Rattle.modbus_server.specs.Moment.{moment}
 
 module _ {S : Type 0} (A : Answering S) where
   run-more : (a : S) (xs : List (Exchange bursts)) (b : S) (x : Exchange bursts) (c : S) → Run bursts A a xs b → GivesOutcome bursts A b x c → Run bursts A a (xs ++ x ∷ []) c
@@ -56,10 +57,10 @@ module _ {S : Type 0} (A : Answering S) where
     no_burst (Err _) ends = λ f. f
 
   module _ (before after : S) (from to : Input) (sunk sinks : Output) (turns : ℕ) where
-    same_messages : (result : Result (Unit {0}) ProcessError) (ran : Ran bursts A before after from to sunk sinks turns result) → IsTrue from.told → messages_read from to ≡ messages ran.fed (totals ran.made)
+    same_messages : (result : Result (Unit {0}) ProcessError) (ran : Ran bursts A turns (moment before from sunk) (moment after to sinks) result) → IsTrue from.told → messages_read from to ≡ messages ran.fed (totals ran.made)
     same_messages result ran told = ap (λ bytes. messages bytes (totals (cuts_made from to))) (ran.passes.read told) ∙ ap (λ made. messages ran.fed (totals made)) (ran.passes.cuts told)
 
-    pub answers : (result : Result (Unit {0}) ProcessError) → Ran bursts A before after from to sunk sinks turns result → result ≡ Ok tt → IsTrue from.told → IsTrue sunk.told
+    pub answers : (result : Result (Unit {0}) ProcessError) → Ran bursts A turns (moment before from sunk) (moment after to sinks) result → result ≡ Ok tt → IsTrue from.told → IsTrue sunk.told
         → AnswersBursts A before after from to sunk sinks
     answers (Ok done) ran e told wrote = record {
       exchanges = ran.served.exchanges;
@@ -70,13 +71,13 @@ module _ {S : Type 0} (A : Answering S) where
     }
     answers (Err error) ran e told wrote = cc
 
-    few_reads : (result : Result (Unit {0}) ProcessError) (ran : Ran bursts A before after from to sunk sinks turns result) → IsTrue from.told → length ran.made ≤ length from.left
+    few_reads : (result : Result (Unit {0}) ProcessError) (ran : Ran bursts A turns (moment before from sunk) (moment after to sinks) result) → IsTrue from.told → length ran.made ≤ length from.left
     few_reads result ran told =
         let gives = ran.passes.source.content told in
         let all : from.left ≡ ran.fed ++ to.left = gives.left ∙ ap (λ front. front ++ to.left) (ran.passes.read told) in
         omega (arith, RisesTo-count 0 (length ran.fed) ran.made ran.passes.rises, ap length all, length-append ran.fed to.left)
 
-    pub serves : (result : Result (Unit {0}) ProcessError) → Ran bursts A before after from to sunk sinks turns result → ServesBursts A before from to sunk sinks turns result
+    pub serves : (result : Result (Unit {0}) ProcessError) → Ran bursts A turns (moment before from sunk) (moment after to sinks) result → ServesBursts A before from to sunk sinks turns result
     serves (Ok done) ran told fit few no_read no_write = inl refl
     serves (Err NoMemory) ran told fit few no_read no_write = inr refl
     serves (Err ReadFault) ran told fit few no_read no_write = absurd (no_read (ran.read_fault refl))

@@ -23,7 +23,8 @@ pub fn bursts_go_on()
         × (messages (bytes ++ piece) (cuts ++ length (bytes ++ piece) ∷ [])
         ≡ messages bytes cuts ++ message_of piece ∷ []) }
     ensures frames { (bytes piece cuts : List ℕ) → AreCuts bytes cuts → 0 < length piece
-        → frames (bytes ++ piece) (cuts ++ length (bytes ++ piece) ∷ []) ≡ frames bytes cuts ++ frame_of piece }
+        → frames (bytes ++ piece) (cuts ++ length (bytes ++ piece) ∷ []) ≡ frames bytes cuts ++
+        frame_of piece }
 {}
 
 /// The messages of a line without the noise are the frames among its bursts, in order.

@@ -1,9 +1,10 @@
 //! Serving a line of bursts, until its input ends (MODBUS over Serial Line V1.02, section 2.5.1.1).
 ghost use Rattle.std.specs.Prelude.{◌≡◌, IsTrue, Ok, IfErr};
 ghost use Rattle.modbus_server.specs.Complete.{Completes};
-ghost use Rattle.modbus_server.specs.Stepping.{Ran};
+ghost use Rattle.modbus_server.specs.Step.{Ran};
 ghost use Rattle.modbus_burst.specs.Framing.{bursts};
 ghost use Rattle.modbus_burst.specs.Line.{AnswersBursts, ServesBursts, IsOfNoBurst};
+ghost use Rattle.modbus_server.specs.Moment.{moment};
 
 use crate::bursts::Bursts;
 use modbus_link::{Sink, Source};
@@ -30,11 +31,14 @@ pub fn process_link<L: Source + Sink, V: Answerer>(
     service: &mut V,
     turns: u64,
 ) -> Result<(), ProcessError>
-    ensures ran { Ran bursts V.answering service.old service.new (L.input link.old) (L.input link.new)
-        (L.output link.old) (L.output link.new) turns result }
-    ensures complete { Completes bursts V.answering service.old (L.input link.old) (L.input link.new)
-        (L.output link.old) (L.output link.new) turns result }
-    ensures answers { result ≡ Ok tt → IsTrue (L.input link.old).told → IsTrue (L.output link.old).told
+    ensures ran { Ran bursts V.answering turns
+        (moment service.old (L.input link.old) (L.output link.old))
+        (moment service.new (L.input link.new) (L.output link.new)) result }
+    ensures complete { Completes bursts V.answering turns
+        (moment service.old (L.input link.old) (L.output link.old))
+        (moment service.new (L.input link.new) (L.output link.new)) result }
+    ensures answers { result ≡ Ok tt → IsTrue (L.input link.old).told → IsTrue
+        (L.output link.old).told
         → AnswersBursts V.answering service.old service.new (L.input link.old) (L.input link.new)
         (L.output link.old) (L.output link.new) }
     ensures serves { ServesBursts V.answering service.old (L.input link.old) (L.input link.new)
@@ -73,12 +77,16 @@ pub fn process<S: Source, K: Sink, V: Answerer>(
     service: &mut V,
     turns: u64,
 ) -> Result<(), ProcessError>
-    ensures ran { Ran bursts V.answering service.old service.new (S.input source.old) (S.input source.new)
-        (K.output sink.old) (K.output sink.new) turns result }
-    ensures complete { Completes bursts V.answering service.old (S.input source.old) (S.input source.new)
-        (K.output sink.old) (K.output sink.new) turns result }
-    ensures answers { result ≡ Ok tt → IsTrue (S.input source.old).told → IsTrue (K.output sink.old).told
-        → AnswersBursts V.answering service.old service.new (S.input source.old) (S.input source.new)
+    ensures ran { Ran bursts V.answering turns
+        (moment service.old (S.input source.old) (K.output sink.old))
+        (moment service.new (S.input source.new) (K.output sink.new)) result }
+    ensures complete { Completes bursts V.answering turns
+        (moment service.old (S.input source.old) (K.output sink.old))
+        (moment service.new (S.input source.new) (K.output sink.new)) result }
+    ensures answers { result ≡ Ok tt → IsTrue (S.input source.old).told → IsTrue
+        (K.output sink.old).told
+        → AnswersBursts V.answering service.old service.new (S.input source.old) (S.input
+        source.new)
         (K.output sink.old) (K.output sink.new) }
     ensures serves { ServesBursts V.answering service.old (S.input source.old) (S.input source.new)
         (K.output sink.old) (K.output sink.new) turns result }

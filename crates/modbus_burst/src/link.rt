@@ -61,7 +61,8 @@ fn begin<L: TimedLink>(link: &mut L, room: &mut [u8]) -> Result<usize, Failed>
     ensures source { Advances (L.input link.old) (L.input link.new) }
     ensures later { L.not_ready link.old ≤ L.not_ready link.new }
     ensures told { IsTrue (L.input link.old).told
-        → IfOk result (λ count. bytes_read (L.input link.old) (L.input link.new) ≡ take count room.new) }
+        → IfOk result (λ count. bytes_read (L.input link.old) (L.input link.new) ≡ take count
+        room.new) }
     ensures ended { result ≡ Ok 0 → IsTrue (L.input link.old).told → (L.input link.new).left ≡ [] }
     ensures fails { OnErr result
         (FailsBy (L.input link.old) (L.input link.new) (L.not_ready link.new)) }
@@ -86,7 +87,8 @@ fn poll_next<L: TimedLink>(
 ) -> Result<Polled<usize>, Failed>
     requires { count ≤ length room.old }
     ensures goes_on { GoesOn (L.input link.old) (L.input link.new) count room.old room.new result }
-    ensures ended { result ≡ Ok (Ready 0) → IsTrue (L.input link.old).told → (L.input link.new).left ≡ [] }
+    ensures ended { result ≡ Ok (Ready 0) → IsTrue (L.input link.old).told → (L.input link.new).left
+        ≡ [] }
     ensures waited { Waited result (L.not_ready link.old) (L.not_ready link.new) }
     ensures later { L.not_ready link.old ≤ L.not_ready link.new }
     ensures cause { OnErr result (Rose (L.input link.old).faults (L.input link.new).faults) }
@@ -149,7 +151,8 @@ fn write_through<L: TimedLink>(link: &mut L, piece: &[u8]) -> Result<usize, Fail
     ensures told { IsTrue (L.output link.old).told
         → bytes_appended (L.output link.old) (L.output link.new) ≡ front_of result piece.now }
     ensures fails { OnErr result
-        (Rose (L.output link.old).faults (L.output link.new).faults ⊎ (last_count ≤ L.not_ready link.new)) }
+        (Rose (L.output link.old).faults (L.output link.new).faults ⊎
+        (last_count ≤ L.not_ready link.new)) }
     ensures source { L.input link.new ≡ L.input link.old }
     ensures line { L.line link.new ≡ L.line link.old }
 {
@@ -180,13 +183,15 @@ impl<L: TimedLink> Source for BurstLink<L> {
     fn read(&mut self, room: &mut [u8]) -> Result<usize, Failed>
         requires { 0 < length room.old }
         ensures bound { ReadsAtMost result room.new }
-        ensures source { Advances (untold_input self.old.read_faults) (untold_input self.new.read_faults) }
+        ensures source { Advances (untold_input self.old.read_faults)
+            (untold_input self.new.read_faults) }
         ensures sink { output_over (L.output self.new.link) self.new.write_faults
             ≡ output_over (L.output self.old.link) self.old.write_faults }
         ensures line { L.line self.new.link ≡ L.line self.old.link }
 
         ensures gives { GivesBurst (L.input self.old.link) (L.input self.new.link)
-            (L.not_ready self.old.link) (L.not_ready self.new.link) (length room.old) room.new result }
+            (L.not_ready self.old.link) (L.not_ready self.new.link) (length room.old) room.new
+            result }
         ensures counts { self.new ≡ record self.old {
           link = self.new.link;
           read_faults = faults_after result self.old.read_faults;
@@ -213,11 +218,13 @@ impl<L: TimedLink> Sink for BurstLink<L> {
         ensures sink { Extends (output_over (L.output self.old.link) self.old.write_faults)
             (output_over (L.output self.new.link) self.new.write_faults) }
         ensures told { IsTrue (L.output self.old.link).told
-            → bytes_appended (L.output self.old.link) (L.output self.new.link) ≡ front_of result piece.now }
+            → bytes_appended (L.output self.old.link) (L.output self.new.link) ≡ front_of result
+            piece.now }
         ensures line { L.line self.new.link ≡ L.line self.old.link }
 
         ensures fails { OnErr result
-            (Rose (L.output self.old.link).faults (L.output self.new.link).faults ⊎ (last_count ≤ L.not_ready self.new.link)) }
+            (Rose (L.output self.old.link).faults (L.output self.new.link).faults ⊎
+            (last_count ≤ L.not_ready self.new.link)) }
         ensures counts { self.new ≡ record self.old {
           link = self.new.link;
           write_faults = faults_after result self.old.write_faults;

@@ -4,6 +4,7 @@ ghost use Rattle.modbus_ascii.specs.Decoder.{Decodes};
 ghost use Rattle.modbus_ascii.specs.Text.{open_end};
 ghost use Rattle.modbus_c.specs.Texts.{IsNextText};
 
+use modbus_ascii::laws::{frames_behind_open_ends, frames_go_on, open_ends_grow};
 use modbus_ascii::{AsciiDecoder, AsciiFrame, MAX_FRAME};
 
 /// The character that begins a text.
@@ -27,6 +28,7 @@ fn open_from(decoder: &AsciiDecoder, start: usize, place: usize, byte: u8) -> us
         → Decodes (fed ++ byte ∷ []) decoder.now
         → drop result (fed ++ byte ∷ []) ≡ open_end (fed ++ byte ∷ []) }
 {
+    open_ends_grow();
     if byte == COLON {
         place
     } else if decoder.is_open() {
@@ -40,6 +42,9 @@ fn open_from(decoder: &AsciiDecoder, start: usize, place: usize, byte: u8) -> us
 pub(crate) fn next_text(bytes: &[u8]) -> NextText
     ensures { IsNextText bytes.now result }
 {
+    frames_go_on();
+    open_ends_grow();
+    frames_behind_open_ends();
     let mut decoder = AsciiDecoder::new();
     let mut start = 0;
     'texts: for place in 0..bytes.len() {

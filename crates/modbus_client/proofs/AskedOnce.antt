@@ -16,7 +16,7 @@ use Rattle.modbus_server.specs.declared.error.ProcessError.TheVariants.{ReadFaul
 use Rattle.modbus_server.specs.Exchanges.{Exchange, Question, GivesOutcome, Run, ReplyFits, framed, output, told_reply_size, asked_of, asks}
 use Rattle.modbus_server.specs.Piece.{IsOfNoRead}
 use Rattle.modbus_server.specs.Rtu.{rtu, IsCrowdedAfter}
-use Rattle.modbus_server.specs.Serving.{Served, Halts, remaining, broken, refused, too_long, EndsAs}
+use Rattle.modbus_server.specs.Served.{Served, Halts, remaining, broken, refused, too_long, EndsAs}
 use Rattle.modbus_client.specs.Exchange.{IsWanting}
 
 abbrev pub LinesAreCalm : Type 0

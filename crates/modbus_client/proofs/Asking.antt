@@ -1,7 +1,7 @@
 -- What is written of a request, and what a call makes of one that was not sent.
 use Rattle.std.proofs.Common.{◌≡◌, ◌↔◌, inl, ℕ, ◌<◌, List, [], length, Result, Err, refl, sym, ap, ◌∙◌, arith}
 use Rattle.std.specs.Prelude.{IfErr}
-use Rattle.modbus_link.specs.Outside.{Input, Output, Rose}
+use Rattle.modbus_link.specs.Outside.{Outside, outside, Input, Output, Rose}
 use Rattle.modbus_link.specs.Passing.{Passes, passes_none}
 use Rattle.modbus_link.specs.Reads.{Spends}
 use Rattle.modbus_frame.specs.Meaning.{Asked, function_asked}
@@ -15,16 +15,25 @@ use Rattle.modbus_pdu.specs.RequestPdu.{request_pdu}
 use Rattle.modbus_client.specs.Protocol.{Protocol, waiting}
 use Rattle.modbus_client.specs.Matching.{Answer}
 use Rattle.modbus_client.specs.Sending.{WritesRequest, IsOfSending}
-use Rattle.modbus_client.specs.Calling.{CallEndsAs, CallEndsRead, CameLast, call_spending, Sent, Exchanged, ExchangedDropping}
+use Rattle.modbus_client.specs.Calling.{CallEndsAs, CallEndsRead, CameLast, call_spending, Sent, Exchanged, CountsDropped}
 use Rattle.modbus_client.specs.Polled.{IsRefused}
+
+-- an exchange with the count of the messages that it dropped, as one fact
+pub record Counted {H : Type 0} (P : Protocol H) (from to : Outside) (header : H) (asked : Asked) (turns : ℕ) (held : List ℕ) (dropped : ℕ) (answer : Answer) : Type 0 where
+  pub ran : Exchanged P from to header asked turns held answer
+  pub counts : CountsDropped ran dropped
+
+pub counted : {H : Type 0} (P : Protocol H) (from to : Outside) (header : H) (asked : Asked) (turns : ℕ) (held : List ℕ) (dropped : ℕ) (answer : Answer)
+    → (ran : Exchanged P from to header asked turns held answer) × CountsDropped ran dropped → Counted P from to header asked turns held dropped answer
+counted P from to header asked turns held dropped answer all = record { ran = all.0; counts = all.1 }
 
 module _ (X : Type 0) {H : Type 0} (P : Protocol H) (header : H) (asked : Asked) (held : List ℕ) (empty : held ≡ []) where
   -- the PDU is too long
   sent_long : (a : Input) (k : Output) (size : ℕ) → max_pdu < length (request_pdu asked) → size ≡ told_size (request_pdu asked)
-      → Sent {X = X} P a a k k header asked held (Err (Transport (transport.RequestTooLong size)))
+      → Sent {X = X} P (outside a k) (outside a k) header asked held (Err (Transport (transport.RequestTooLong size)))
   sent_long a k size long is = record {
     sent = [];
-    passes = passes_none a k;
+    passes = passes_none (outside a k);
     source = refl;
     only = tt;
     too_long = λ other. (
@@ -37,9 +46,9 @@ module _ (X : Type 0) {H : Type 0} (P : Protocol H) (header : H) (asked : Asked)
   }
 
   -- the PDU fits, and these bytes of the request were sent
-  sent_fit : (a b : Input) (k m : Output) (answer : Result X Error) (sent : List ℕ) → Fits (request_pdu asked) → b ≡ a → Passes a b k m [] [] sent → IfErr answer IsOfSending
+  sent_fit : (a b : Input) (k m : Output) (answer : Result X Error) (sent : List ℕ) → Fits (request_pdu asked) → b ≡ a → Passes (outside a k) (outside b m) [] [] sent → IfErr answer IsOfSending
       → ((size : ℕ) → answer ≡ Err (Transport (transport.RequestTooLong size)) → ⊥) → WritesRequest (P.adu header (request_pdu asked)) sent answer
-      → (answer ≡ Err (Transport transport.WriteFault) → Rose k.faults m.faults) → Sent P a b k m header asked held answer
+      → (answer ≡ Err (Transport transport.WriteFault) → Rose k.faults m.faults) → Sent P (outside a k) (outside b m) header asked held answer
   sent_fit a b k m answer sent fits same passes only short writes write_fault = record {
     sent = sent;
     passes = passes;
@@ -52,11 +61,11 @@ module _ (X : Type 0) {H : Type 0} (P : Protocol H) (header : H) (asked : Asked)
   }
 
   -- memory was wanting
-  sent_wanting : (a : Input) (k : Output) → Fits (request_pdu asked) → Sent {X = X} P a a k k header asked held (Err NoMemory)
-  sent_wanting a k fits = sent_fit a a k k (Err NoMemory) [] fits refl (passes_none a k) tt (λ size e. cc) (P.adu header (request_pdu asked), refl) (λ e. cc)
+  sent_wanting : (a : Input) (k : Output) → Fits (request_pdu asked) → Sent {X = X} P (outside a k) (outside a k) header asked held (Err NoMemory)
+  sent_wanting a k fits = sent_fit a a k k (Err NoMemory) [] fits refl (passes_none (outside a k)) tt (λ size e. cc) (P.adu header (request_pdu asked), refl) (λ e. cc)
 
   -- a call was not opened
-  pub sent_refused : (a : Input) (k : Output) (error : Error) → IsRefused (request_pdu asked) error → Sent {X = X} P a a k k header asked held (Err error)
+  pub sent_refused : (a : Input) (k : Output) (error : Error) → IsRefused (request_pdu asked) error → Sent {X = X} P (outside a k) (outside a k) header asked held (Err error)
   sent_refused a k (protocol fault) refused = absurd refused
   sent_refused a k (Transport (transport.RequestTooLong size)) refused = sent_long a k size refused.0 refused.1
   sent_refused a k (Transport _) refused = absurd refused
@@ -65,14 +74,14 @@ module _ (X : Type 0) {H : Type 0} (P : Protocol H) (header : H) (asked : Asked)
 -- a request that was not sent is the whole call
 module _ (X : Type 0) {H : Type 0} (P : Protocol H) (opening : (seen : HeaderSeen) → P.Finds seen [] [] (waiting [])) (a b : Input) (k m : Output) (header : H) (asked : Asked) (turns : ℕ) (held : List ℕ) where
   abbrev pub SentAs : Error → Type 0
-  SentAs e = Sent {X = X} P a b k m header asked held (Err e)
+  SentAs e = Sent {X = X} P (outside a k) (outside b m) header asked held (Err e)
 
   unsent : (e : Error) → SentAs e → CallEndsAs P (P.seen header) (function_asked asked) [] [] held (Err e) → CameLast P (P.seen header) [] [] (Err e) → CallEndsRead (Err e) b.left → Spends (call_spending (Err e)) 0 turns
       → (((size : ℕ) → (let answer : Answer = Err e in answer ≡ Err (Transport (transport.RequestTooLong size))) ↔ ((max_pdu < length (request_pdu asked)) × (size ≡ told_size (request_pdu asked)))))
       → ((s : SentAs e) → (let answer : Answer = Err e in WritesRequest (P.adu header (request_pdu asked)) s.sent answer))
       → (let answer : Answer = Err e in answer ≡ Err (Transport transport.WriteFault) → Rose k.faults m.faults)
       → (let answer : Answer = Err e in answer ≡ Err (Transport transport.ReadFault) → Rose a.faults b.faults)
-      → Exchanged P a b k m header asked turns held (Err e)
+      → Exchanged P (outside a k) (outside b m) header asked turns held (Err e)
   unsent e s ends last ended spends long writes write_fault read_fault = record {
     fed = [];
     made = [];
@@ -89,7 +98,7 @@ module _ (X : Type 0) {H : Type 0} (P : Protocol H) (opening : (seen : HeaderSee
     read_fault = read_fault;
   }
 
-  pub exchanged_unsent : (e : Error) → SentAs e → Exchanged P a b k m header asked turns held (Err e)
+  pub exchanged_unsent : (e : Error) → SentAs e → Exchanged P (outside a k) (outside b m) header asked turns held (Err e)
   exchanged_unsent (protocol fault) s = absurd s.only
   exchanged_unsent (Transport (transport.RequestTooLong size)) s =
       unsent (Transport (transport.RequestTooLong size)) s (refl, s.emptied) (λ e. cc) tt (omega arith)
@@ -107,10 +116,10 @@ module _ (X : Type 0) {H : Type 0} (P : Protocol H) (opening : (seen : HeaderSee
       (λ n. (λ e. cc, λ told. let bad = (s.too_long n).1 told in cc)) (λ s. s.writes) (λ e. cc) (λ e. cc)
 
   -- it dropped no message of another request
-  pub unsent_dropping : (e : Error) → ((seen : HeaderSeen) → P.Counts seen [] [] 0) → SentAs e → ExchangedDropping P a b k m header asked turns held 0 (Err e)
+  pub unsent_dropping : (e : Error) → ((seen : HeaderSeen) → P.Counts seen [] [] 0) → SentAs e → (ran : Exchanged P (outside a k) (outside b m) header asked turns held (Err e)) × CountsDropped ran 0
   unfolding exchanged_unsent unsent
   unsent_dropping (protocol fault) none s = absurd s.only
-  unsent_dropping (Transport (transport.RequestTooLong size)) none s = record { ran = exchanged_unsent (Transport (transport.RequestTooLong size)) s; counts = none (P.seen header) }
-  unsent_dropping (Transport transport.WriteFault) none s = record { ran = exchanged_unsent (Transport transport.WriteFault) s; counts = none (P.seen header) }
+  unsent_dropping (Transport (transport.RequestTooLong size)) none s = (exchanged_unsent (Transport (transport.RequestTooLong size)) s, none (P.seen header))
+  unsent_dropping (Transport transport.WriteFault) none s = (exchanged_unsent (Transport transport.WriteFault) s, none (P.seen header))
   unsent_dropping (Transport _) none s = absurd s.only
-  unsent_dropping NoMemory none s = record { ran = exchanged_unsent NoMemory s; counts = none (P.seen header) }
+  unsent_dropping NoMemory none s = (exchanged_unsent NoMemory s, none (P.seen header))

@@ -1,6 +1,6 @@
 -- A link that fails nowhere and holds one message alone which belongs to the request.
 use Rattle.std.proofs.Common.{◌≡◌, ◌⊎◌, inl, inr, ℕ, ◌<◌, List, [], ◌++◌, length, Result, Ok, Err, refl, sym, ap, ◌∙◌, subst, arith, length-append, IsTrue}
-use Rattle.modbus_link.specs.Outside.{Input, Output, Rose}
+use Rattle.modbus_link.specs.Outside.{outside, Input, Output, Rose}
 use Rattle.modbus_link.specs.Line.{LinkMeaning}
 use Rattle.modbus_link.specs.Runs.{RisesTo-count}
 use Rattle.modbus_link.specs.Reads.{totals}
@@ -46,7 +46,7 @@ module _ {H : Type 0} (P : Protocol H) (alone : IsFoundAlone P) (from to : Input
     (fits : Fits (request_pdu asked)) (told : IsTrue from.told) (no_read : Rose from.faults to.faults → ⊥) (no_write : Rose sunk.faults sinks.faults → ⊥)
     (pdu : List ℕ) (result : Result Response ExceptionResponse) (whole : P.IsWhole header pdu) (means : response_result_of pdu ≡ Ok result) (of : IsOf (function_asked asked) result)
     (left : from.left ≡ P.adu header pdu) (short : length from.left < turns) where
-  module _ (answer : Answer) (r : Exchanged P from to sunk sinks header asked turns held answer) where
+  module _ (answer : Answer) (r : Exchanged P (outside from sunk) (outside to sinks) header asked turns held answer) where
     parts : from.left ≡ r.fed ++ to.left
     parts = (r.passes.source.content told).left ∙ ap (λ b. b ++ to.left) (r.passes.read told)
 
@@ -65,7 +65,7 @@ module _ {H : Type 0} (P : Protocol H) (alone : IsFoundAlone P) (from to : Input
     count : length r.made < turns
     count = omega (arith, RisesTo-count 0 (length r.fed) r.made r.passes.rises, ap length parts, length-append r.fed to.left)
 
-  pub completes : (answer : Answer) → Exchanged P from to sunk sinks header asked turns held answer → (answer ≡ answer_of result) ⊎ (answer ≡ Err NoMemory)
+  pub completes : (answer : Answer) → Exchanged P (outside from sunk) (outside to sinks) header asked turns held answer → (answer ≡ answer_of result) ⊎ (answer ≡ Err NoMemory)
   completes (Ok x) r = inl (judged (Ok x) r r.ends)
   completes (Err (protocol fault)) r = inl (judged (Err (protocol fault)) r r.ends)
   completes (Err (Transport transport.NotConnected)) r = absurd r.ends

@@ -1,6 +1,6 @@
 -- What the search finds in the bytes that a call read is what the call tells.
 use Rattle.std.proofs.Common.{◌≡◌, ◌≢◌, inl, inr, ℕ, List, [], ◌∷◌, length, Ok, Err, refl, sym, ap, ◌∙◌, subst, arith}
-use Rattle.modbus_link.specs.Outside.{Input, Output, Rose, RisesTo}
+use Rattle.modbus_link.specs.Outside.{outside, Input, Output, Rose, RisesTo}
 use Rattle.modbus_link.specs.Runs.{RisesTo-count}
 use Rattle.modbus_link.specs.Reads.{totals}
 use Rattle.modbus_frame.specs.Meaning.{Asked, function_asked}
@@ -26,7 +26,7 @@ no_made [] fed none rises = refl
 no_made (cut ∷ made) fed none rises = absurd (omega (arith, RisesTo-count 0 (length fed) (cut ∷ made) rises, ap length none))
 
 module _ {H : Type 0} (P : Protocol H) (opening : (asked : HeaderSeen) → P.Finds asked [] [] (waiting [])) (one_way : IsOneWay P) (from to : Input) (sunk sinks : Output) (header : H) (asked : Asked) (turns : ℕ) (held : List ℕ) where
-  module _ (answer : Answer) (r : Exchanged P from to sunk sinks header asked turns held answer) where
+  module _ (answer : Answer) (r : Exchanged P (outside from sunk) (outside to sinks) header asked turns held answer) where
     -- two searches in the same bytes are one
     same : (found other : Found) → P.Finds (P.seen header) r.fed (totals r.made) found → P.Finds (P.seen header) r.fed (totals r.made) other → found ≡ other
     same found other a b = one_way (P.seen header) r.fed (totals r.made) found other a b
@@ -60,7 +60,7 @@ module _ {H : Type 0} (P : Protocol H) (opening : (asked : HeaderSeen) → P.Fin
   abbrev Tells : Answer → Found → Type 0
   Tells answer found = IsToldOf (P.seen header) (function_asked asked) found answer
 
-  told_reply : (kept : List ℕ) (seen : HeaderSeen) (pdu : List ℕ) (answer : Answer) (r : Exchanged P from to sunk sinks header asked turns held answer) → P.Finds (P.seen header) r.fed (totals r.made) (reply kept seen pdu) → Tells answer (reply kept seen pdu)
+  told_reply : (kept : List ℕ) (seen : HeaderSeen) (pdu : List ℕ) (answer : Answer) (r : Exchanged P (outside from sunk) (outside to sinks) header asked turns held answer) → P.Finds (P.seen header) r.fed (totals r.made) (reply kept seen pdu) → Tells answer (reply kept seen pdu)
   told_reply kept seen pdu (Ok x) r finds = inl (meets (Ok x) r kept seen pdu finds r.ends)
   told_reply kept seen pdu (Err (protocol fault)) r finds = inl (meets (Err (protocol fault)) r kept seen pdu finds r.ends)
   told_reply kept seen pdu (Err (Transport transport.NotConnected)) r finds = absurd r.ends
@@ -88,7 +88,7 @@ module _ {H : Type 0} (P : Protocol H) (opening : (asked : HeaderSeen) → P.Fin
         inr (refl, subst (λ p. IsOkAnd (response_result_of p) AnswerCarriesMemory) (sym second) carries)
   ]
 
-  told_broken : (kept : List ℕ) (fault : TransportError) (answer : Answer) (r : Exchanged P from to sunk sinks header asked turns held answer) → P.Finds (P.seen header) r.fed (totals r.made) (broken kept fault) → Tells answer (broken kept fault)
+  told_broken : (kept : List ℕ) (fault : TransportError) (answer : Answer) (r : Exchanged P (outside from sunk) (outside to sinks) header asked turns held answer) → P.Finds (P.seen header) r.fed (totals r.made) (broken kept fault) → Tells answer (broken kept fault)
   told_broken kept fault (Ok x) r finds = let (seen, pdu, result, finds', meant, judges) = r.ends in no_break _ r held kept seen pdu fault finds' finds
   told_broken kept fault (Err (protocol error)) r finds = let (seen, pdu, result, finds', meant, judges) = r.ends in no_break _ r held kept seen pdu fault finds' finds
   told_broken kept fault (Err (Transport transport.NotConnected)) r finds = absurd r.ends
@@ -107,7 +107,7 @@ module _ {H : Type 0} (P : Protocol H) (opening : (asked : HeaderSeen) → P.Fin
     | inr (rest, seen, pdu, finds', carries) ↦ no_break _ r rest kept seen pdu fault finds' finds
   ]
 
-  told_waiting : (kept : List ℕ) (answer : Answer) (r : Exchanged P from to sunk sinks header asked turns held answer) → P.Finds (P.seen header) r.fed (totals r.made) (waiting kept) → Tells answer (waiting kept)
+  told_waiting : (kept : List ℕ) (answer : Answer) (r : Exchanged P (outside from sunk) (outside to sinks) header asked turns held answer) → P.Finds (P.seen header) r.fed (totals r.made) (waiting kept) → Tells answer (waiting kept)
   told_waiting kept (Ok x) r finds = let (seen, pdu, result, finds', meant, judges) = r.ends in no_wait _ r held kept seen pdu finds' finds
   told_waiting kept (Err (protocol fault)) r finds = let (seen, pdu, result, finds', meant, judges) = r.ends in no_wait _ r held kept seen pdu finds' finds
   told_waiting kept (Err (Transport transport.NotConnected)) r finds = absurd r.ends
@@ -123,23 +123,23 @@ module _ {H : Type 0} (P : Protocol H) (opening : (asked : HeaderSeen) → P.Fin
   told_waiting kept (Err (Transport (transport.InvalidProtocol number))) r finds = breaks_not_waits _ r held kept (transport.InvalidProtocol number) r.ends.1 finds
   told_waiting kept (Err NoMemory) r finds = λ e. cc
 
-  pub told_of : (answer : Answer) (r : Exchanged P from to sunk sinks header asked turns held answer) (found : Found) → P.Finds (P.seen header) r.fed (totals r.made) found → Tells answer found
+  pub told_of : (answer : Answer) (r : Exchanged P (outside from sunk) (outside to sinks) header asked turns held answer) (found : Found) → P.Finds (P.seen header) r.fed (totals r.made) found → Tells answer found
   told_of answer r (waiting kept) finds = told_waiting kept answer r finds
   told_of answer r (reply kept seen pdu) finds = told_reply kept seen pdu answer r finds
   told_of answer r (broken kept fault) finds = told_broken kept fault answer r finds
 
   module _ (kept : List ℕ) (fits : Fits (request_pdu asked)) (no_read : Rose from.faults to.faults → ⊥) (no_write : Rose sunk.faults sinks.faults → ⊥) where
-    same_held : (answer : Answer) (r : Exchanged P from to sunk sinks header asked turns held answer) → P.Finds (P.seen header) r.fed (totals r.made) (waiting kept) → P.Finds (P.seen header) r.fed (totals r.made) (waiting held) → held ≡ kept
+    same_held : (answer : Answer) (r : Exchanged P (outside from sunk) (outside to sinks) header asked turns held answer) → P.Finds (P.seen header) r.fed (totals r.made) (waiting kept) → P.Finds (P.seen header) r.fed (totals r.made) (waiting held) → held ≡ kept
     same_held answer r a b = let e : waiting kept ≡ waiting held = same answer r (waiting kept) (waiting held) a b in cc
 
     end_some : (bytes : List ℕ) → bytes ≢ [] → transport.BytesRemaining ≡ end_of bytes
     end_some [] some = absurd (some refl)
     end_some (b ∷ bytes) some = refl
 
-    pub tells_waiting : (answer : Answer) (r : Exchanged P from to sunk sinks header asked turns held answer) → P.Finds (P.seen header) r.fed (totals r.made) (waiting kept) → TellsWaiting kept (length r.made) turns to.left answer
+    pub tells_waiting : (answer : Answer) (r : Exchanged P (outside from sunk) (outside to sinks) header asked turns held answer) → P.Finds (P.seen header) r.fed (totals r.made) (waiting kept) → TellsWaiting kept (length r.made) turns to.left answer
     tells_waiting answer r finds = by_answer answer r finds (told_waiting kept answer r finds)
       where
-        by_answer : (answer : Answer) (r : Exchanged P from to sunk sinks header asked turns held answer) → P.Finds (P.seen header) r.fed (totals r.made) (waiting kept) → IsOfWaiting answer → TellsWaiting kept (length r.made) turns to.left answer
+        by_answer : (answer : Answer) (r : Exchanged P (outside from sunk) (outside to sinks) header asked turns held answer) → P.Finds (P.seen header) r.fed (totals r.made) (waiting kept) → IsOfWaiting answer → TellsWaiting kept (length r.made) turns to.left answer
         by_answer (Err (Transport (transport.RequestTooLong size))) r finds is = absurd (omega (arith, ((r.too_long size).0 refl).0, fits))
         by_answer (Err (Transport transport.WriteFault)) r finds is = absurd (no_write (r.write_fault refl))
         by_answer (Err (Transport transport.ReadFault)) r finds is = absurd (no_read (r.read_fault refl))

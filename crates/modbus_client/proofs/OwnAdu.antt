@@ -2,7 +2,7 @@
 use Rattle.std.proofs.Common.{◌≡◌, ◌≢◌, inl, ℕ, ◌+◌, ◌-◌, ◌^◌, min, List, [], ◌∷◌, ◌++◌, length, drop, Option, Some, None, Result, Ok, Err, refl, sym, ap, ◌∙◌, subst, arith, append-nil, append_assoc, length-append}
 use Rattle.std.proofs.lemmas.List.Elements.{All-append, All-cons, All-nil, All-head, All-tail}
 use Rattle.std.proofs.lemmas.Grind.{flat_map-append}
-use Rattle.modbus_link.specs.Outside.{Input, Output}
+use Rattle.modbus_link.specs.Outside.{outside, Input, Output}
 use Rattle.modbus_link.specs.Reads.{totals}
 use Rattle.modbus_frame.specs.Meaning.{Asked, function_asked}
 use Rattle.modbus_frame.specs.declared.response.Response.{Response}
@@ -171,7 +171,7 @@ module _ (one_begins : OneBegins) (one_rest : OneRest) (apart : AreApart) where
 
 -- a call over this search tells no mismatch of headers
 pub no_mismatch : (from to : Input) (sunk sinks : Output) (header : Header) (asked : Asked) (turns : ℕ) (held : List ℕ) (answer : Answer)
-    → Exchanged matching_protocol from to sunk sinks header asked turns held answer → (request response : HeaderSeen) (received : Result Response ExceptionResponse)
+    → Exchanged matching_protocol (outside from sunk) (outside to sinks) header asked turns held answer → (request response : HeaderSeen) (received : Result Response ExceptionResponse)
     → answer ≢ Err (Protocol (HeaderMismatch request response received))
 no_mismatch from to sunk sinks header asked turns held answer r request response received e =
     let ends = subst (λ (a : Answer). CallEndsAs matching_protocol (header_seen header) (function_asked asked) r.fed (totals r.made) held a) e r.ends in

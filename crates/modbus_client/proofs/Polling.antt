@@ -2,7 +2,7 @@
 use Rattle.std.proofs.Common.{◌≡◌, ◌≢◌, inl, inr, ℕ, ◌+◌, ◌<◌, ◌≤◌, List, [], ◌∷◌, ◌++◌, length, Option, Some, None, Ok, Err, refl, sym, ap, ◌∙◌, subst, arith, append-nil, append_assoc, length-append}
 use Rattle.modbus_link.specs.declared.polled.Polled.{Polled}
 use Rattle.modbus_link.specs.declared.polled.Polled.TheVariants.{Ready, Pending}
-use Rattle.modbus_link.specs.Outside.{Input, Output, Rose, shifted}
+use Rattle.modbus_link.specs.Outside.{Outside, outside, Input, Output, Rose, shifted}
 use Rattle.modbus_link.specs.Passing.{Passes, Sends, passes_none, passes_out, passes_in, passes_both}
 use Rattle.modbus_link.specs.Reads.{totals, HaveRooms, Spends}
 use Rattle.modbus_link.specs.Runs.{RisesTo-both}
@@ -20,7 +20,7 @@ use Rattle.modbus_client.specs.Matching.{Answer}
 use Rattle.modbus_client.specs.Call.{CallState, CallStands, IsCallFor, IsSameCall, OpensCall}
 use Rattle.modbus_client.specs.Sending.{WritesRequest}
 use Rattle.modbus_client.specs.Limits.{read_room}
-use Rattle.modbus_client.specs.Calling.{HasRoom, CallEndsAs, CameLast, WaitedBefore, IsOneRead, TurnSpends, call_spending, TurnsAs, Turned, IsOfReply, Exchanged, ExchangedDropping}
+use Rattle.modbus_client.specs.Calling.{HasRoom, CallEndsAs, CameLast, WaitedBefore, IsOneRead, TurnSpends, call_spending, TurnsAs, Turned, IsOfReply, Exchanged, CountsDropped}
 use Rattle.modbus_client.specs.Polled.{ReadsNothing, CallGoes, CallEnds, IsOfPoll, CallPolled, Opens, AsksWhole}
 use Rattle.modbus_client.proofs.Receiving.{rose_later, late_turn, spends_by, once_most, once_rooms}
 use Rattle.modbus_client.proofs.Turning.{none_left}
@@ -128,7 +128,7 @@ module _ {H : Type 0} (P : Protocol H) where
     pub fed : List ℕ
     pub made : List (ℕ × ℕ)
     pub sent : List ℕ
-    pub passes : Passes from to sunk sinks fed made sent
+    pub passes : Passes (outside from sunk) (outside to sinks) fed made sent
     pub same : IsSameCall old call
     pub goes_on : (written bytes : List ℕ) (earlier : List (ℕ × ℕ)) → CallGoes P written bytes earlier old
         → CallGoes P (written ++ sent) (bytes ++ fed) (earlier ++ shifted (length bytes) made) call
@@ -167,8 +167,8 @@ module _ {H : Type 0} (P : Protocol H) where
           let before = s.within in omega (arith, before);
     }
 
-    wrote : Passes a b k m [] [] sends.sent
-    wrote = passes_out a b k m sends.sent unread sends.sink sends.wrote
+    wrote : Passes (outside a k) (outside b m) [] [] sends.sent
+    wrote = passes_out (outside a k) (outside b m) sends.sent unread sends.sink sends.wrote
 
     goes_flushed : (written bytes : List ℕ) (earlier : List (ℕ × ℕ)) → CallGoes P written bytes earlier old → CallGoes P (written ++ sends.sent) (bytes ++ []) (earlier ++ []) new
     goes_flushed written bytes earlier s = unread_on (λ x y. CallGoes P (written ++ sends.sent) x y new) bytes earlier (flushed written bytes earlier s)
@@ -186,7 +186,7 @@ module _ {H : Type 0} (P : Protocol H) where
       later = later;
     }
 
-    pub flushed_some : Rose idle idle' → CallPolled P a b k m idle idle' old new Pending
+    pub flushed_some : Rose idle idle' → CallPolled P (outside a k) (outside b m) idle idle' old new Pending
     flushed_some rose = record {
       fed = [];
       made = [];
@@ -203,7 +203,7 @@ module _ {H : Type 0} (P : Protocol H) where
       write_fault = λ e. absurd cc;
     }
 
-    pub flush_failed : new.unwritten ≢ [] → Rose k.faults m.faults → CallPolled P a b k m idle idle' old new (Ready (Err (Transport transport.WriteFault)))
+    pub flush_failed : new.unwritten ≢ [] → Rose k.faults m.faults → CallPolled P (outside a k) (outside b m) idle idle' old new (Ready (Err (Transport transport.WriteFault)))
     flush_failed some rose = record {
       fed = [];
       made = [];
@@ -238,13 +238,13 @@ module _ {H : Type 0} (P : Protocol H) where
     all_later = let before = g.later in omega (arith, before, later)
 
     -- the link was not ready for the next turn
-    pub polled_idle : ReadsNothing b c l m old new → Rose idle' idle'' → CallPolled P a c k m idle idle'' first new Pending
+    pub polled_idle : ReadsNothing (outside b l) (outside c m) old new → Rose idle' idle'' → CallPolled P (outside a k) (outside c m) idle idle'' first new Pending
     polled_idle r rose = record {
       fed = g.fed ++ [];
       made = g.made ++ [];
       sent = g.sent;
-      passes = subst (λ sent. Passes a c k m (g.fed ++ []) (g.made ++ []) sent) (append-nil g.sent)
-          (passes_both a b c k l m g.fed [] g.made [] g.sent [] g.passes (passes_in b c l m [] [] r.sink r.source r.read r.cuts refl));
+      passes = subst (λ sent. Passes (outside a k) (outside c m) (g.fed ++ []) (g.made ++ []) sent) (append-nil g.sent)
+          (passes_both (outside a k) (outside b l) (outside c m) g.fed [] g.made [] g.sent [] g.passes (passes_in (outside b l) (outside c m) [] [] r.sink r.source r.read r.cuts refl));
       same = same_both first old new g.same (same_freed old new new.free r.keeps);
       goes_on = λ written bytes earlier start.
           let s : CallGoes P (written ++ g.sent) (bytes ++ g.fed) (earlier ++ shifted (length bytes) g.made) old = g.goes_on written bytes earlier start in
@@ -280,10 +280,10 @@ module _ {H : Type 0} (P : Protocol H) where
     }
 
     module _ (less : old.reads < old.turns) where
-      module _ (answer : Option Answer) (t : Turned P b c l m old new answer) where
-        all_passes : Passes a c k m (g.fed ++ t.fed) (g.made ++ shifted (length g.fed) t.made) g.sent
-        all_passes = subst (λ sent. Passes a c k m (g.fed ++ t.fed) (g.made ++ shifted (length g.fed) t.made) sent) (append-nil g.sent)
-            (passes_both a b c k l m g.fed t.fed g.made t.made g.sent [] g.passes t.passes)
+      module _ (answer : Option Answer) (t : Turned P (outside b l) (outside c m) old new answer) where
+        all_passes : Passes (outside a k) (outside c m) (g.fed ++ t.fed) (g.made ++ shifted (length g.fed) t.made) g.sent
+        all_passes = subst (λ sent. Passes (outside a k) (outside c m) (g.fed ++ t.fed) (g.made ++ shifted (length g.fed) t.made) sent) (append-nil g.sent)
+            (passes_both (outside a k) (outside b l) (outside c m) g.fed t.fed g.made t.made g.sent [] g.passes t.passes)
 
         -- of all that the call stood for before the turn
         module _ (written bytes : List ℕ) (made : List (ℕ × ℕ)) (s : CallGoes P written bytes made old) where
@@ -301,13 +301,13 @@ module _ {H : Type 0} (P : Protocol H) where
           reads_are : old.reads ≡ length made
           reads_are = s.stands.counted ∙ totals_count made
 
-      some_read : (t : Turned P b c l m old new None) → t.fed ≡ [] → ⊥
+      some_read : (t : Turned P (outside b l) (outside c m) old new None) → t.fed ≡ [] → ⊥
       some_read t none = elim t.once [
         | inl nothing ↦ absurd (let one = t.spends in omega (arith, ap length nothing.1, one))
         | inr one ↦ absurd (omega (arith, one.0, ap length none))
       ]
 
-      pub goes_on : Turned P b c l m old new None → PollGoing a c k m idle idle'' first new
+      pub goes_on : Turned P (outside b l) (outside c m) old new None → PollGoing a c k m idle idle'' first new
       goes_on t = record {
         fed = g.fed ++ t.fed;
         made = g.made ++ shifted (length g.fed) t.made;
@@ -337,7 +337,7 @@ module _ {H : Type 0} (P : Protocol H) where
         later = all_later;
       }
 
-      pub polled_answer : (answer : Answer) → Turned P b c l m old new (Some answer) → CallPolled P a c k m idle idle'' first new (Ready answer)
+      pub polled_answer : (answer : Answer) → Turned P (outside b l) (outside c m) old new (Some answer) → CallPolled P (outside a k) (outside c m) idle idle'' first new (Ready answer)
       polled_answer answer t = record {
         fed = g.fed ++ t.fed;
         made = g.made ++ shifted (length g.fed) t.made;
@@ -378,7 +378,7 @@ module _ {H : Type 0} (P : Protocol H) where
           late = late_turn answer (length t.made) t.spends
 
   pub out_of_turns : (a b : Input) (k l : Output) (idle idle' : ℕ) (first call : CallState) → PollGoing a b k l idle idle' first call → (call.reads < call.turns → ⊥)
-      → CallPolled P a b k l idle idle' first call (Ready (Err (Transport transport.TurnLimit)))
+      → CallPolled P (outside a k) (outside b l) idle idle' first call (Ready (Err (Transport transport.TurnLimit)))
   out_of_turns a b k l idle idle' first call g none = record {
     fed = g.fed;
     made = g.made;
@@ -408,17 +408,17 @@ module _ {H : Type 0} (P : Protocol H) where
 
   -- the polls so far and a last one are one call
   module _ (a b : Input) (k m : Output) (idle idle' : ℕ) (old new : CallState) where
-    pub exchanged_polled : (answer : Answer) → CallPolled P a b k m idle idle' old new (Ready answer) → (header : H) (asked : Asked) (turns : ℕ) (written bytes : List ℕ) (made : List (ℕ × ℕ)) (first : Input) (firsts : Output)
-        → IsCallFor P header asked turns old → Fits (request_pdu asked) → CallGoes P written bytes made old → Passes first a firsts k bytes made written
-        → Exchanged P first b firsts m header asked turns new.held answer
-    exchanged_polled answer p header asked turns written bytes made first firsts asks fits s passed =
+    pub exchanged_polled : (answer : Answer) → CallPolled P (outside a k) (outside b m) idle idle' old new (Ready answer) → (header : H) (asked : Asked) (turns : ℕ) (written bytes : List ℕ) (made : List (ℕ × ℕ)) (first : Outside)
+        → IsCallFor P header asked turns old → Fits (request_pdu asked) → CallGoes P written bytes made old → Passes first (outside a k) bytes made written
+        → Exchanged P first (outside b m) header asked turns new.held answer
+    exchanged_polled answer p header asked turns written bytes made first asks fits s passed =
         let ends : CallEnds P (written ++ p.sent) (bytes ++ p.fed) (made ++ shifted (length bytes) p.made) new answer = p.goes_on written bytes made s in
         let all : List ℕ = bytes ++ p.fed in
         let cuts : List ℕ = totals (made ++ shifted (length bytes) p.made) in record {
           fed = all;
           made = made ++ shifted (length bytes) p.made;
           sent = written ++ p.sent;
-          passes = passes_both first a b firsts k m bytes p.fed made p.made written p.sent passed p.passes;
+          passes = passes_both first (outside a k) (outside b m) bytes p.fed made p.made written p.sent passed p.passes;
           too_long = λ size. (λ e. absurd (not_long answer p.own size e), λ told. absurd (omega (arith, fits, told.0)));
           writes = subst (λ request. WritesRequest request (written ++ p.sent) answer) (p.same.request ∙ asks.request) ends.writes;
           ends =
@@ -428,20 +428,20 @@ module _ {H : Type 0} (P : Protocol H) where
           ended = λ told. p.ended (passed.source.told ∙ told);
           spends = subst (λ n. Spends (call_spending answer) (length (made ++ shifted (length bytes) p.made)) n) (p.same.turns ∙ asks.limit) ends.spends;
           rooms = ends.rooms;
-          write_fault = λ e. rose_later firsts.faults k.faults m.faults passed.sink.later (p.write_fault (ap (λ (x : Answer). Ready x) e));
-          read_fault = λ e. rose_later first.faults a.faults b.faults passed.source.later (p.read_fault (ap (λ (x : Answer). Ready x) e));
+          write_fault = λ e. rose_later first.output.faults k.faults m.faults passed.sink.later (p.write_fault (ap (λ (x : Answer). Ready x) e));
+          read_fault = λ e. rose_later first.input.faults a.faults b.faults passed.source.later (p.read_fault (ap (λ (x : Answer). Ready x) e));
         }
 
     -- and the last one tells how many messages of other requests were dropped in all
-    pub exchanged_dropping : (answer : Answer) → CallPolled P a b k m idle idle' old new (Ready answer) → (header : H) (asked : Asked) (turns : ℕ) → IsCallFor P header asked turns old → Fits (request_pdu asked)
-        → CallGoes P [] [] [] old → ExchangedDropping P a b k m header asked turns new.held new.dropped answer
+    pub exchanged_dropping : (answer : Answer) → CallPolled P (outside a k) (outside b m) idle idle' old new (Ready answer) → (header : H) (asked : Asked) (turns : ℕ) → IsCallFor P header asked turns old → Fits (request_pdu asked)
+        → CallGoes P [] [] [] old → (ran : Exchanged P (outside a k) (outside b m) header asked turns new.held answer) × CountsDropped ran new.dropped
     unfolding exchanged_polled
     exchanged_dropping answer p header asked turns asks fits s =
-        let ends : CallEnds P p.sent p.fed (shifted 0 p.made) new answer = p.goes_on [] [] [] s in record {
-          ran = exchanged_polled answer p header asked turns [] [] [] a k asks fits s (passes_none a k);
-          counts = subst (λ (seen : HeaderSeen). P.Counts seen p.fed (totals (shifted 0 p.made)) new.dropped) (p.same.asked ∙ asks.under) ends.counts;
-        }
+        let ends : CallEnds P p.sent p.fed (shifted 0 p.made) new answer = p.goes_on [] [] [] s in (
+          exchanged_polled answer p header asked turns [] [] [] (outside a k) asks fits s (passes_none (outside a k)),
+          subst (λ (seen : HeaderSeen). P.Counts seen p.fed (totals (shifted 0 p.made)) new.dropped) (p.same.asked ∙ asks.under) ends.counts,
+        )
 
-    pub asks_whole : (answer : Polled Answer) → CallPolled P a b k m idle idle' old new answer → AsksWhole P a b k m old new answer
-    asks_whole Pending p = λ header asked turns written bytes made first firsts asks fits s passed. tt
+    pub asks_whole : (answer : Polled Answer) → CallPolled P (outside a k) (outside b m) idle idle' old new answer → AsksWhole P (outside a k) (outside b m) old new answer
+    asks_whole Pending p = λ header asked turns written bytes made first asks fits s passed. tt
     asks_whole (Ready answer) p = exchanged_polled answer p

@@ -1,7 +1,7 @@
 -- One write, and one read whose bytes are fed.
 use Rattle.std.proofs.Common.{◌≡◌, inl, inr, ℕ, ◌<◌, ◌≤◌, List, [], ◌∷◌, ◌++◌, length, take, Option, Some, None, Result, Ok, Err, refl, sym, ap, ◌∙◌, subst, arith, append-nil, length-append, IsTrue}
 use Rattle.std.proofs.lemmas.List.{length-take-le}
-use Rattle.modbus_link.specs.Outside.{Input, Output, Rose, Advances, ReadIsTold, bytes_read, cuts_made}
+use Rattle.modbus_link.specs.Outside.{outside, Input, Output, Rose, Advances, ReadIsTold, bytes_read, cuts_made}
 use Rattle.modbus_link.specs.Runs.{one_cut-one, one_cut-none}
 use Rattle.modbus_link.specs.Passing.{Passes, passes_in, passes_none, rises_one}
 use Rattle.bytes.specs.Filled.{Filled}
@@ -91,9 +91,9 @@ none_left (x ∷ xs) ys e = cc
 
 module _ {H : Type 0} (P : Protocol H) (a b : Input) (k m : Output) (old new : CallState) where
   -- nothing was fed, and the call ended so
-  turned_so : (answer : Answer) (n : ℕ) → new ≡ record old { free = n } → Passes a b k m [] [] [] → TurnSpends (Some answer) 0
+  turned_so : (answer : Answer) (n : ℕ) → new ≡ record old { free = n } → Passes (outside a k) (outside b m) [] [] [] → TurnSpends (Some answer) 0
       → ((written bytes cuts : List ℕ) → CallStands P written bytes cuts old → CallEndsAs P new.asked new.function (bytes ++ []) (cuts ++ []) new.held answer)
-      → (IsTrue a.told → TurnEnds (Some answer) b.left) → (answer ≡ Err (Transport transport.ReadFault) → Rose a.faults b.faults) → Turned P a b k m old new (Some answer)
+      → (IsTrue a.told → TurnEnds (Some answer) b.left) → (answer ≡ Err (Transport transport.ReadFault) → Rose a.faults b.faults) → Turned P (outside a k) (outside b m) old new (Some answer)
   turned_so answer n e passes spends ends ended fault = record {
     fed = [];
     made = [];
@@ -112,27 +112,27 @@ module _ {H : Type 0} (P : Protocol H) (a b : Input) (k m : Output) (old new : C
   }
 
   -- memory was refused before the read
-  pub turned_none : (n : ℕ) → b ≡ a → m ≡ k → new ≡ record old { free = n } → Turned P a b k m old new (Some (Err NoMemory))
+  pub turned_none : (n : ℕ) → b ≡ a → m ≡ k → new ≡ record old { free = n } → Turned P (outside a k) (outside b m) old new (Some (Err NoMemory))
   turned_none n same same' e =
-      turned_so (Err NoMemory) n e (subst (λ i. Passes a i k m [] [] []) (sym same) (subst (λ o. Passes a a k o [] [] []) (sym same') (passes_none a k)))
+      turned_so (Err NoMemory) n e (subst (λ i. Passes (outside a k) (outside i m) [] [] []) (sym same) (subst (λ o. Passes (outside a k) (outside a o) [] [] []) (sym same') (passes_none (outside a k))))
       tt (λ written bytes cuts s. inl (new.held, still P old.asked new.asked bytes cuts old.held new.held (ap (λ (s : CallState). s.asked) e) (ap (λ (s : CallState). s.held) e) s.finds)) (λ told. tt) (λ bad. cc)
 
   module _ (n : ℕ) (e : new ≡ record old { free = n }) (same : m ≡ k) (adv : Advances a b) where
-    nothing : {E : Type 0} (before after : List ℕ) (result : Result ℕ E) → (IsTrue a.told → ReadIsTold a b before after result) → (IsTrue a.told → bytes_read a b ≡ []) → (IsTrue a.told → cuts_made a b ≡ []) → Passes a b k m [] [] []
-    nothing before after result told none no_cut = passes_in a b k m [] [] same adv none no_cut refl
+    nothing : {E : Type 0} (before after : List ℕ) (result : Result ℕ E) → (IsTrue a.told → ReadIsTold a b before after result) → (IsTrue a.told → bytes_read a b ≡ []) → (IsTrue a.told → cuts_made a b ≡ []) → Passes (outside a k) (outside b m) [] [] []
+    nothing before after result told none no_cut = passes_in (outside a k) (outside b m) [] [] same adv none no_cut refl
 
     waits : (written bytes cuts : List ℕ) → CallStands P written bytes cuts old → P.Finds new.asked (bytes ++ []) (cuts ++ []) (waiting new.held)
     waits written bytes cuts s = still P old.asked new.asked bytes cuts old.held new.held (ap (λ (s : CallState). s.asked) e) (ap (λ (s : CallState). s.held) e) s.finds
 
     -- the read failed
     pub turned_fault : {E : Type 0} (f : E) (before after : List ℕ) → (IsTrue a.told → ReadIsTold {E = E} a b before after (Err f)) → Rose a.faults b.faults
-        → Turned P a b k m old new (Some (Err (Transport transport.ReadFault)))
+        → Turned P (outside a k) (outside b m) old new (Some (Err (Transport transport.ReadFault)))
     turned_fault {E} f before after told rose =
         turned_so (Err (Transport transport.ReadFault)) n e (nothing {E = E} before after (Err f) told (λ t. (told t).bytes) (λ t. (told t).cuts)) refl waits (λ t. tt) (λ is. rose)
 
     -- the input ended
     pub turned_end : {E : Type 0} (count : ℕ) (before after : List ℕ) (fault : TransportError) → count ≡ 0 → (IsTrue a.told → ReadIsTold {E = E} a b before after (Ok count)) → TellsEnd new.held fault
-        → Turned P a b k m old new (Some (Err (Transport fault)))
+        → Turned P (outside a k) (outside b m) old new (Some (Err (Transport fault)))
     turned_end {E} count before after fault zero' told tells = by_fault fault tells
       where
         none : IsTrue a.told → bytes_read a b ≡ []
@@ -144,10 +144,10 @@ module _ {H : Type 0} (P : Protocol H) (a b : Input) (k m : Output) (old new : C
         ended : IsTrue a.told → b.left ≡ []
         ended t = none_left (bytes_read a b) b.left (sym (adv.content t).left ∙ (told t).ended.0 zero')
 
-        passes : Passes a b k m [] [] []
+        passes : Passes (outside a k) (outside b m) [] [] []
         passes = nothing {E = E} before after (Ok count) told none no_cut
 
-        by_fault : (fault : TransportError) → TellsEnd new.held fault → Turned P a b k m old new (Some (Err (Transport fault)))
+        by_fault : (fault : TransportError) → TellsEnd new.held fault → Turned P (outside a k) (outside b m) old new (Some (Err (Transport fault)))
         by_fault transport.BrokenPipe tells =
             turned_so (Err (Transport transport.BrokenPipe)) n e passes refl (λ written bytes cuts s. (waits written bytes cuts s, tells)) ended (λ is. cc)
         by_fault transport.BytesRemaining tells =
@@ -157,7 +157,7 @@ module _ {H : Type 0} (P : Protocol H) (a b : Input) (k m : Output) (old new : C
   -- the read gave bytes, which were fed
   pub turned_some : {E : Type 0} (mid : CallState) (free count : ℕ) (before after piece : List ℕ) (answer : Option Answer) → mid ≡ record old { free = free } → CallFed P mid new piece answer
       → m ≡ k → Advances a b → (IsTrue a.told → ReadIsTold {E = E} a b before after (Ok count)) → piece ≡ take count after → (count ≡ 0 → ⊥) → count ≤ length after → length before ≡ read_room
-      → Turned P a b k m old new answer
+      → Turned P (outside a k) (outside b m) old new answer
   turned_some mid free count before after piece answer e fed same adv told is some within room =
       let long : length piece ≡ count = ap length is ∙ length-take-le count after within in
       let some' : 0 < length piece = omega arith in
@@ -168,7 +168,7 @@ module _ {H : Type 0} (P : Protocol H) (a b : Input) (k m : Output) (old new : C
       record {
         fed = piece;
         made = made;
-        passes = passes_in a b k m piece made same adv (λ t. (told t).bytes ∙ sym is) cuts_are (rises_one piece made read_room refl some');
+        passes = passes_in (outside a k) (outside b m) piece made same adv (λ t. (told t).bytes ∙ sym is) cuts_are (rises_one piece made read_room refl some');
         once = inr (some', refl);
         spends = fed_spends answer fed.late;
         same = record {

@@ -1,6 +1,6 @@
 -- What a call of a client does, whatever its protocol.
 use Rattle.std.specs.Prelude.{◌≡◌, ◌≢◌, ◌↔◌, ◌⊎◌, ℕ, ◌+◌, ◌<◌, false, List, [], ◌∷◌, ◌++◌, length, IsTrue, Option, Some, None, Result, Ok, Err, IfErr}
-use Rattle.modbus_link.specs.Outside.{Input, Output, Rose, shifted}
+use Rattle.modbus_link.specs.Outside.{Outside, outside, Rose, shifted}
 use Rattle.modbus_link.specs.Line.{LinkMeaning}
 use Rattle.modbus_link.specs.Passing.{Passes}
 use Rattle.modbus_link.specs.Reads.{totals, HaveRooms, Spending, all_turns, fewer_turns, some_turns, Spends}
@@ -62,15 +62,15 @@ call_spending (Err (Transport transport.TurnLimit)) = all_turns
 call_spending _ = some_turns
 
 -- Sending a request, over every link: so many bytes were sent, nothing was read, and nothing is held.
-pub record Sent {X : Type 0} {H : Type 0} (P : Protocol H) (from to : Input) (sunk sinks : Output) (header : H) (asked : Asked) (held : List ℕ) (answer : Result X Error) : Type 0 where
+pub record Sent {X : Type 0} {H : Type 0} (P : Protocol H) (from to : Outside) (header : H) (asked : Asked) (held : List ℕ) (answer : Result X Error) : Type 0 where
   pub sent : List ℕ
-  pub passes : Passes from to sunk sinks [] [] sent
-  pub source : to ≡ from
+  pub passes : Passes from to [] [] sent
+  pub source : to.input ≡ from.input
   pub only : IfErr answer IsOfSending
   -- a request is too long exactly where its PDU is
   pub too_long : (size : ℕ) → (answer ≡ Err (Transport (transport.RequestTooLong size))) ↔ ((max_pdu < length (request_pdu asked)) × (size ≡ told_size (request_pdu asked)))
   pub writes : WritesRequest (P.adu header (request_pdu asked)) sent answer
-  pub write_fault : answer ≡ Err (Transport transport.WriteFault) → Rose sunk.faults sinks.faults
+  pub write_fault : answer ≡ Err (Transport transport.WriteFault) → Rose from.output.faults to.output.faults
   pub emptied : held ≡ []
 
 -- one read with room for `read_room` bytes, or none
@@ -97,10 +97,10 @@ abbrev pub TurnEnds : Option Answer → List ℕ → Type 0
 TurnEnds None left = Unit {0}
 TurnEnds (Some answer) left = CallEndsRead answer left
 
-pub record Turned {H : Type 0} (P : Protocol H) (from to : Input) (sunk sinks : Output) (old new : CallState) (answer : Option Answer) : Type 0 where
+pub record Turned {H : Type 0} (P : Protocol H) (from to : Outside) (old new : CallState) (answer : Option Answer) : Type 0 where
   pub fed : List ℕ
   pub made : List (ℕ × ℕ)
-  pub passes : Passes from to sunk sinks fed made []
+  pub passes : Passes from to fed made []
   pub once : IsOneRead fed made
   pub spends : TurnSpends answer (length made)
   pub same : IsSameCall old new
@@ -108,8 +108,8 @@ pub record Turned {H : Type 0} (P : Protocol H) (from to : Input) (sunk sinks : 
   pub reads : new.reads ≡ old.reads + length made
   pub stands : (written bytes cuts : List ℕ) → CallStands P written bytes cuts old
       → TurnsAs P written (bytes ++ fed) (cuts ++ totals (shifted (length bytes) made)) new answer
-  pub ended : IsTrue from.told → TurnEnds answer to.left
-  pub read_fault : answer ≡ Some (Err (Transport transport.ReadFault)) → Rose from.faults to.faults
+  pub ended : IsTrue from.input.told → TurnEnds answer to.input.left
+  pub read_fault : answer ≡ Some (Err (Transport transport.ReadFault)) → Rose from.input.faults to.input.faults
 
 -- These bytes came in one read after those in which the search waited.
 pub record WaitedBefore {H : Type 0} (P : Protocol H) (asked : HeaderSeen) (bytes : List ℕ) (made : List (ℕ × ℕ)) : Type 0 where
@@ -134,27 +134,27 @@ IsOfReply _ = Unit {0}
 
 -- What a connected client does with a link to ask this under this header, by its answer and by what it then holds. It holds for every
 -- link: `fed` are the bytes that it read, `made` the cuts and rooms of the reads that gave them, and `sent` the bytes that it wrote.
-pub record Exchanged {H : Type 0} (P : Protocol H) (from to : Input) (sunk sinks : Output) (header : H) (asked : Asked) (turns : ℕ) (held : List ℕ) (answer : Answer) : Type 0 where
+pub record Exchanged {H : Type 0} (P : Protocol H) (from to : Outside) (header : H) (asked : Asked) (turns : ℕ) (held : List ℕ) (answer : Answer) : Type 0 where
   pub fed : List ℕ
   pub made : List (ℕ × ℕ)
   pub sent : List ℕ
   -- a source and a sink that tell their bytes tell these
-  pub passes : Passes from to sunk sinks fed made sent
+  pub passes : Passes from to fed made sent
   -- a request is too long exactly where its PDU is
   pub too_long : (size : ℕ) → (answer ≡ Err (Transport (transport.RequestTooLong size))) ↔ ((max_pdu < length (request_pdu asked)) × (size ≡ told_size (request_pdu asked)))
   pub writes : WritesRequest (P.adu header (request_pdu asked)) sent answer
   pub ends : CallEndsAs P (P.seen header) (function_asked asked) fed (totals made) held answer
   pub last : CameLast P (P.seen header) fed made answer
-  pub ended : IsTrue from.told → CallEndsRead answer to.left
+  pub ended : IsTrue from.input.told → CallEndsRead answer to.input.left
   pub spends : Spends (call_spending answer) (length made) turns
   pub rooms : HaveRooms HasRoom fed 0 made
-  pub write_fault : answer ≡ Err (Transport transport.WriteFault) → Rose sunk.faults sinks.faults
-  pub read_fault : answer ≡ Err (Transport transport.ReadFault) → Rose from.faults to.faults
+  pub write_fault : answer ≡ Err (Transport transport.WriteFault) → Rose from.output.faults to.output.faults
+  pub read_fault : answer ≡ Err (Transport transport.ReadFault) → Rose from.input.faults to.input.faults
 
--- The same with the number of messages of other requests that it dropped in the bytes that it read.
-pub record ExchangedDropping {H : Type 0} (P : Protocol H) (from to : Input) (sunk sinks : Output) (header : H) (asked : Asked) (turns : ℕ) (held : List ℕ) (dropped : ℕ) (answer : Answer) : Type 0 where
-  pub ran : Exchanged P from to sunk sinks header asked turns held answer
-  pub counts : P.Counts (P.seen header) ran.fed (totals ran.made) dropped
+-- in the bytes that it read it dropped so many messages of other requests
+abbrev pub CountsDropped : {H : Type 0} {P : Protocol H} {from to : Outside} {header : H} {asked : Asked} {turns : ℕ} {held : List ℕ} {answer : Answer}
+    → Exchanged P from to header asked turns held answer → ℕ → Type 0
+CountsDropped {P = P} {header = header} ran dropped = P.Counts (P.seen header) ran.fed (totals ran.made) dropped
 
 -- What a call does to a client over a link of this meaning, by the state before, the request, the answer and the state after. It asks
 -- under the header that comes next.
@@ -168,9 +168,9 @@ pub record Called {L H I : Type 0} (P : Protocol H) (N : Heading H I) (M : LinkM
   -- a disconnected client does nothing else
   pub disconnected : old.is_connected ≡ false → (answer ≡ Err (Transport transport.NotConnected)) × (new ≡ drawn N old)
   pub connected : IsTrue old.is_connected → new.is_connected ≡ stays_connected answer
-  pub ran : IsTrue old.is_connected → Exchanged P (M.input old.link) (M.input new.link) (M.output old.link) (M.output new.link) (next_header N old) asked old.turns new.held answer
+  pub ran : IsTrue old.is_connected → Exchanged P (outside (M.input old.link) (M.output old.link)) (outside (M.input new.link) (M.output new.link)) (next_header N old) asked old.turns new.held answer
   -- in the bytes that it read it dropped so many messages of other requests
-  pub dropped : (on : IsTrue old.is_connected) → P.Counts (P.seen (next_header N old)) (ran on).fed (totals (ran on).made) new.dropped
+  pub dropped : (on : IsTrue old.is_connected) → CountsDropped (ran on) new.dropped
 
 -- The same of sending a request, which waits for no reply.
 pub record SentAlone {L H I : Type 0} (P : Protocol H) (N : Heading H I) (M : LinkMeaning L) (old : ClientState I L) (asked : Asked) (answer : Result (Unit {0}) Error) (new : ClientState I L) : Type 0 where
@@ -179,7 +179,7 @@ pub record SentAlone {L H I : Type 0} (P : Protocol H) (N : Heading H I) (M : Li
   pub draws : new.ids ≡ N.next old.ids
   pub disconnected : old.is_connected ≡ false → (answer ≡ Err (Transport transport.NotConnected)) × (new ≡ drawn N old)
   pub connected : IsTrue old.is_connected → new.is_connected ≡ stays_connected answer
-  pub sent : IsTrue old.is_connected → Sent P (M.input old.link) (M.input new.link) (M.output old.link) (M.output new.link) (next_header N old) asked new.held answer
+  pub sent : IsTrue old.is_connected → Sent P (outside (M.input old.link) (M.output old.link)) (outside (M.input new.link) (M.output new.link)) (next_header N old) asked new.held answer
   pub dropped : new.dropped ≡ 0
 
 -- Completeness: a link that fails nowhere and holds one message alone, whose first bytes tell where it ends and which belongs to the

@@ -13,7 +13,7 @@ use Rattle.modbus_service.specs.Answering.{Answering}
 use Rattle.modbus_server.specs.declared.error.ProcessError.{ProcessError}
 use Rattle.modbus_server.specs.declared.error.ProcessError.TheVariants as process
 use Rattle.modbus_server.specs.Piece.{IsOfNoRead}
-use Rattle.modbus_server.specs.Serving as server
+use Rattle.modbus_server.specs.Served as server
 use Rattle.modbus_server.specs.Rtu.{rtu}
 use Rattle.modbus_client.specs.Limits.{read_room}
 use Rattle.modbus_client.specs.Protocol.{Protocol}

@@ -2,7 +2,7 @@
 use Rattle.std.specs.Prelude.{◌≡◌, ◌≢◌, ◌⊎◌, ℕ, ◌<◌, ◌≤◌, List, [], ◌++◌, length, Bool, IsTrue, Option, Result, Ok, Err, IfOk, IfErr, OnOk}
 use Rattle.modbus_link.specs.declared.polled.Polled.{Polled}
 use Rattle.modbus_link.specs.declared.polled.Polled.TheVariants.{Ready, Pending}
-use Rattle.modbus_link.specs.Outside.{Input, Output, Rose, Advances, bytes_read, cuts_made, shifted, RisesTo}
+use Rattle.modbus_link.specs.Outside.{Outside, Rose, Advances, bytes_read, cuts_made, shifted, RisesTo}
 use Rattle.modbus_link.specs.Passing.{Passes}
 use Rattle.modbus_link.specs.Reads.{totals, HaveRooms, Spends}
 use Rattle.modbus_frame.specs.Meaning.{Asked, function_asked}
@@ -29,17 +29,17 @@ IsFlushed unwritten (Ok Pending) = unwritten ≢ []
 IsFlushed unwritten (Err error) = unwritten ≢ []
 
 -- a read found the link not ready: it gave nothing, and the call has more memory at most
-pub record ReadsNothing (from to : Input) (sunk sinks : Output) (old new : CallState) : Type 0 where
-  pub source : Advances from to
-  pub read : IsTrue from.told → bytes_read from to ≡ []
-  pub cuts : IsTrue from.told → cuts_made from to ≡ []
-  pub sink : sinks ≡ sunk
+pub record ReadsNothing (from to : Outside) (old new : CallState) : Type 0 where
+  pub source : Advances from.input to.input
+  pub read : IsTrue from.input.told → bytes_read from.input to.input ≡ []
+  pub cuts : IsTrue from.input.told → cuts_made from.input to.input ≡ []
+  pub sink : to.output ≡ from.output
   pub keeps : new ≡ record old { free = new.free }
 
 -- one turn was made, or the link was not ready for it
-abbrev pub TurnsTo : {H : Type 0} → Protocol H → Input → Input → Output → Output → CallState → CallState → Polled (Option Answer) → Type 0
-TurnsTo P from to sunk sinks old new (Ready answer) = Turned P from to sunk sinks old new answer
-TurnsTo P from to sunk sinks old new Pending = ReadsNothing from to sunk sinks old new
+abbrev pub TurnsTo : {H : Type 0} → Protocol H → Outside → Outside → CallState → CallState → Polled (Option Answer) → Type 0
+TurnsTo P from to old new (Ready answer) = Turned P from to old new answer
+TurnsTo P from to old new Pending = ReadsNothing from to old new
 
 -- What a call that waits stands for, over all its polls: these bytes of its request were written, and then those were fed in these
 -- reads, of which there are no more than its turns.
@@ -77,21 +77,21 @@ CallEndsPolled (Ready answer) left = CallEndsRead answer left
 -- What one poll promises, over every link: it read and wrote these bytes, and for all that the call stood for before it, it stands for
 -- that and these after it, or ended so. It reads only once the request is written whole. It is not over only where the link's count of
 -- polls that found it not ready rose.
-pub record CallPolled {H : Type 0} (P : Protocol H) (from to : Input) (sunk sinks : Output) (idle idle' : ℕ) (old new : CallState) (answer : Polled Answer) : Type 0 where
+pub record CallPolled {H : Type 0} (P : Protocol H) (from to : Outside) (idle idle' : ℕ) (old new : CallState) (answer : Polled Answer) : Type 0 where
   pub fed : List ℕ
   pub made : List (ℕ × ℕ)
   pub sent : List ℕ
-  pub passes : Passes from to sunk sinks fed made sent
+  pub passes : Passes from to fed made sent
   pub same : IsSameCall old new
   pub goes_on : (written bytes : List ℕ) (earlier : List (ℕ × ℕ)) → CallGoes P written bytes earlier old
       → CallPollsAs P (written ++ sent) (bytes ++ fed) (earlier ++ shifted (length bytes) made) new answer
   pub writes_first : fed ≢ [] → sent ≡ old.unwritten
   pub own : IsOfPoll answer
-  pub ended : IsTrue from.told → CallEndsPolled answer to.left
+  pub ended : IsTrue from.input.told → CallEndsPolled answer to.input.left
   pub waited : answer ≡ Pending → Rose idle idle'
   pub later : idle ≤ idle'
-  pub read_fault : answer ≡ Ready (Err (Transport transport.ReadFault)) → Rose from.faults to.faults
-  pub write_fault : answer ≡ Ready (Err (Transport transport.WriteFault)) → Rose sunk.faults sinks.faults
+  pub read_fault : answer ≡ Ready (Err (Transport transport.ReadFault)) → Rose from.input.faults to.input.faults
+  pub write_fault : answer ≡ Ready (Err (Transport transport.WriteFault)) → Rose from.output.faults to.output.faults
 
 -- why a call is not opened: its PDU is too long, of this size, or it fits and memory is wanting
 abbrev pub IsRefused : List ℕ → Error → Type 0
@@ -123,20 +123,20 @@ pub record OpensPolled {H : Type 0} (P : Protocol H) (header : H) (asked : Asked
   pub cause : IfErr result (IsRefused (request_pdu asked))
 
 -- the promise of a call of a connected client, where a poll answered
-abbrev pub ExchangedIfReady : {H : Type 0} → Protocol H → Input → Input → Output → Output → H → Asked → ℕ → List ℕ → Polled Answer → Type 0
-ExchangedIfReady P first to firsts sinks header asked turns held Pending = Unit {0}
-ExchangedIfReady P first to firsts sinks header asked turns held (Ready answer) = Exchanged P first to firsts sinks header asked turns held answer
+abbrev pub ExchangedIfReady : {H : Type 0} → Protocol H → Outside → Outside → H → Asked → ℕ → List ℕ → Polled Answer → Type 0
+ExchangedIfReady P first to header asked turns held Pending = Unit {0}
+ExchangedIfReady P first to header asked turns held (Ready answer) = Exchanged P first to header asked turns held answer
 
 -- A poll that answers does, with all polls before it, what a call of a connected client does over the link of all polls.
-abbrev pub AsksWhole : {H : Type 0} → Protocol H → Input → Input → Output → Output → CallState → CallState → Polled Answer → Type 0
-AsksWhole {H} P from to sunk sinks old new answer = (header : H) (asked : Asked) (turns : ℕ) (written bytes : List ℕ) (made : List (ℕ × ℕ)) (first : Input) (firsts : Output)
-    → IsCallFor P header asked turns old → Fits (request_pdu asked) → CallGoes P written bytes made old → Passes first from firsts sunk bytes made written
-    → ExchangedIfReady P first to firsts sinks header asked turns new.held answer
+abbrev pub AsksWhole : {H : Type 0} → Protocol H → Outside → Outside → CallState → CallState → Polled Answer → Type 0
+AsksWhole {H} P from to old new answer = (header : H) (asked : Asked) (turns : ℕ) (written bytes : List ℕ) (made : List (ℕ × ℕ)) (first : Outside)
+    → IsCallFor P header asked turns old → Fits (request_pdu asked) → CallGoes P written bytes made old → Passes first from bytes made written
+    → ExchangedIfReady P first to header asked turns new.held answer
 
 -- Completeness: a link that fails nowhere and holds one message alone, whose first bytes tell where it ends and which belongs to the
 -- request, gives its result in whatever pieces it comes, or memory is wanting.
-abbrev pub AnswersAlone : {H : Type 0} → Protocol H → Input → Input → Output → Output → H → Asked → ℕ → Answer → Type 0
-AnswersAlone P from to sunk sinks header asked turns answer =
-    Fits (request_pdu asked) → IsTrue from.told → (Rose from.faults to.faults → ⊥) → (Rose sunk.faults sinks.faults → ⊥)
+abbrev pub AnswersAlone : {H : Type 0} → Protocol H → Outside → Outside → H → Asked → ℕ → Answer → Type 0
+AnswersAlone P from to header asked turns answer =
+    Fits (request_pdu asked) → IsTrue from.input.told → (Rose from.input.faults to.input.faults → ⊥) → (Rose from.output.faults to.output.faults → ⊥)
     → (pdu : List ℕ) (result : Result Response ExceptionResponse) → P.IsWhole header pdu → response_result_of pdu ≡ Ok result → IsOf (function_asked asked) result
-    → from.left ≡ P.adu header pdu → length from.left < turns → (answer ≡ answer_of result) ⊎ (answer ≡ Err NoMemory)
+    → from.input.left ≡ P.adu header pdu → length from.input.left < turns → (answer ≡ answer_of result) ⊎ (answer ≡ Err NoMemory)

@@ -1,12 +1,12 @@
 //! The driver of a call over a link that may not be ready. A link that blocks is always ready, so the blocking calls stand on it.
 ghost use Rattle.std.specs.Prelude.{◌≡◌, ◌<◌, ◌≤◌, [], OnErr};
 ghost use Rattle.modbus_link.specs.declared.polled.Polled.TheVariants.{Pending};
-ghost use Rattle.modbus_link.specs.Outside.{Rose};
+ghost use Rattle.modbus_link.specs.Outside.{outside, Rose};
 ghost use Rattle.modbus_link.specs.Passing.{Sends};
 ghost use Rattle.modbus_link.specs.Polled.{Waited};
 ghost use Rattle.modbus_frame.specs.Meaning.{meaning};
 ghost use Rattle.modbus_client.specs.Call.{holding, opened_with};
-ghost use Rattle.modbus_client.specs.Calling.{Sent, ExchangedDropping};
+ghost use Rattle.modbus_client.specs.Calling.{Sent, Exchanged, CountsDropped};
 ghost use Rattle.modbus_client.specs.Polled.{IsFlushed, TurnsTo, CallPolled, Opens};
 
 use crate::call::{Call, ROOM};
@@ -49,9 +49,9 @@ fn turn<P: Protocol, L: PolledLink>(
 ) -> Polled<Option<Result<Response>>>
     requires written { call.old.unwritten ≡ [] }
     requires may_read { call.old.reads < call.old.turns }
-    ensures turned { TurnsTo P.protocol (L.input link.old) (L.input link.new)
-        (L.output link.old) (L.output link.new)
-        (holding call.old held.old) (holding call.new held.new) result }
+    ensures turned { TurnsTo P.protocol (outside (L.input link.old) (L.output link.old))
+        (outside (L.input link.new) (L.output link.new)) (holding call.old held.old)
+        (holding call.new held.new) result }
     ensures waited { result ≡ Pending → Rose (L.not_ready link.old) (L.not_ready link.new) }
     ensures later { L.not_ready link.old ≤ L.not_ready link.new }
     ensures line { L.line link.new ≡ L.line link.old }
@@ -81,9 +81,9 @@ pub(crate) fn poll<P: Protocol, L: PolledLink>(
     alloc: Global,
     link: &mut L,
 ) -> Polled<Result<Response>>
-    ensures polled { CallPolled P.protocol (L.input link.old) (L.input link.new)
-        (L.output link.old) (L.output link.new) (L.not_ready link.old) (L.not_ready link.new)
-        (holding call.old held.old) (holding call.new held.new) result }
+    ensures polled { CallPolled P.protocol (outside (L.input link.old) (L.output link.old))
+        (outside (L.input link.new) (L.output link.new)) (L.not_ready link.old)
+        (L.not_ready link.new) (holding call.old held.old) (holding call.new held.new) result }
     ensures line { L.line link.new ≡ L.line link.old }
 {
     match flush(call, link) {
@@ -135,8 +135,9 @@ pub(crate) fn send<P: Protocol, L: Source + Sink>(
     request: &Request<'_>,
     held: &mut BytesMut,
 ) -> std::result::Result<(), Error>
-    ensures sent { Sent P.protocol (L.input link.old) (L.input link.new) (L.output link.old)
-        (L.output link.new) header (meaning request.now) held.new.items result }
+    ensures sent { Sent P.protocol (outside (L.input link.old) (L.output link.old))
+        (outside (L.input link.new) (L.output link.new)) header (meaning request.now) held.new.items
+        result }
     ensures line { L.line link.new ≡ L.line link.old }
 {
     let mut call = open::<P>(alloc, header, request, 0, held)?;
@@ -157,9 +158,9 @@ pub(crate) fn exchange<P: Protocol, L: Source + Sink>(
     held: &mut BytesMut,
     dropped: &mut u64,
 ) -> Result<Response>
-    ensures exchanged { ExchangedDropping P.protocol (L.input link.old) (L.input link.new)
-        (L.output link.old) (L.output link.new) header (meaning request.now) turns held.new.items
-        dropped.new result }
+    ensures exchanged { (ran : Exchanged P.protocol (outside (L.input link.old) (L.output link.old))
+        (outside (L.input link.new) (L.output link.new)) header (meaning request.now) turns
+        held.new.items result) × CountsDropped ran dropped.new }
     ensures line { L.line link.new ≡ L.line link.old }
 {
     P::laws();

@@ -1,6 +1,6 @@
 //! Laws on the calls of clients, about definitions alone. Each is proved by its contract.
 ghost use Rattle.std.specs.Prelude.{◌≡◌, ◌≢◌, ℕ, ◌+◌, ◌≤◌, List, [], ◌++◌, length, take, drop, Result, Err};
-ghost use Rattle.modbus_link.specs.Outside.{Input, Output, Rose};
+ghost use Rattle.modbus_link.specs.Outside.{outside, Input, Output, Rose};
 ghost use Rattle.modbus_link.specs.Reads.{totals};
 ghost use Rattle.modbus_frame.specs.Meaning.{Asked, function_asked};
 ghost use Rattle.modbus_frame.specs.declared.tcp.Header.{Header};
@@ -38,12 +38,14 @@ pub fn one_search()
 pub fn searches_are_told<P: Protocol>()
     ensures found { (from to : Input) (sunk sinks : Output) (header : P.Header) (asked : Asked)
         (turns : ℕ) (held : List ℕ) (answer : Answer)
-        (r : Exchanged P.protocol from to sunk sinks header asked turns held answer) (found : Found)
+        (r : Exchanged P.protocol (outside from sunk) (outside to sinks) header asked turns held
+        answer) (found : Found)
         → P.protocol.Finds (P.protocol.seen header) r.fed (totals r.made) found
         → IsToldOf (P.protocol.seen header) (function_asked asked) found answer }
     ensures waiting { (from to : Input) (sunk sinks : Output) (header : P.Header) (asked : Asked)
         (turns : ℕ) (held kept : List ℕ) (answer : Answer)
-        (r : Exchanged P.protocol from to sunk sinks header asked turns held answer)
+        (r : Exchanged P.protocol (outside from sunk) (outside to sinks) header asked turns held
+        answer)
         → P.protocol.Finds (P.protocol.seen header) r.fed (totals r.made) (waiting kept)
         → Fits (request_pdu asked) → (Rose from.faults to.faults → ⊥)
         → (Rose sunk.faults sinks.faults → ⊥)
@@ -56,8 +58,8 @@ pub fn searches_are_told<P: Protocol>()
 pub fn messages_alone_are_answered<P: Protocol>()
     ensures { (from to : Input) (sunk sinks : Output) (header : P.Header) (asked : Asked)
         (turns : ℕ) (held : List ℕ) (answer : Answer)
-        → Exchanged P.protocol from to sunk sinks header asked turns held answer
-        → AnswersAlone P.protocol from to sunk sinks header asked turns answer }
+        → Exchanged P.protocol (outside from sunk) (outside to sinks) header asked turns held answer
+        → AnswersAlone P.protocol (outside from sunk) (outside to sinks) header asked turns answer }
 {
     P::laws();
 }
@@ -67,7 +69,8 @@ pub fn messages_alone_are_answered<P: Protocol>()
 pub fn matching_answers_are_own()
     ensures { (from to : Input) (sunk sinks : Output) (header : Header) (asked : Asked)
         (turns : ℕ) (held : List ℕ) (answer : Answer)
-        → Exchanged matching_protocol from to sunk sinks header asked turns held answer
+        → Exchanged matching_protocol (outside from sunk) (outside to sinks) header asked turns held
+        answer
         → (request response : HeaderSeen) (received : Result Response ExceptionResponse)
         → answer ≢ Err (error.Protocol (HeaderMismatch request response received)) }
 {}

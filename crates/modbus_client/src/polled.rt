@@ -3,6 +3,7 @@ ghost use Rattle.std.specs.Prelude.{◌≡◌, length, IsTrue};
 ghost use Rattle.modbus_link.specs.Polled.{is_pending};
 ghost use Rattle.modbus_frame.specs.Meaning.{meaning};
 ghost use Rattle.modbus_client.specs.Polled.{CallPolled, AsksWhole, OpensPolled};
+ghost use Rattle.modbus_link.specs.Outside.{outside};
 
 use crate::call::Call;
 use crate::drive::{open, poll};
@@ -89,11 +90,11 @@ impl<P: Protocol> PolledCall<P> {
     /// Those of `call` but `NotConnected` and `RequestTooLong`; `ReadFault` and `WriteFault` only where the link's count rose in this poll.
     pub fn poll<L: PolledLink>(&mut self, link: &mut L) -> Polled<Result<Response>>
         requires { IsTrue self.old.is_open }
-        ensures polled { CallPolled P.protocol (L.input link.old) (L.input link.new)
-            (L.output link.old) (L.output link.new) (L.not_ready link.old) (L.not_ready link.new)
-            self.old.call self.new.call result }
-        ensures asked { AsksWhole P.protocol (L.input link.old) (L.input link.new)
-            (L.output link.old) (L.output link.new) self.old.call self.new.call result }
+        ensures polled { CallPolled P.protocol (outside (L.input link.old) (L.output link.old))
+            (outside (L.input link.new) (L.output link.new)) (L.not_ready link.old)
+            (L.not_ready link.new) self.old.call self.new.call result }
+        ensures asked { AsksWhole P.protocol (outside (L.input link.old) (L.output link.old))
+            (outside (L.input link.new) (L.output link.new)) self.old.call self.new.call result }
         ensures line { L.line link.new ≡ L.line link.old }
         ensures open { self.new.is_open ≡ is_pending result }
     {

@@ -2,11 +2,12 @@
 ghost use Rattle.std.specs.Prelude.{◌≡◌, [], ◌-◌, ◌^◌, IsTrue, Ok};
 ghost use Rattle.modbus_link.specs.Outside.{bytes_appended, cuts_made};
 ghost use Rattle.modbus_link.specs.Reads.{totals};
-ghost use Rattle.modbus_server.specs.Serving.{Served, remaining};
+ghost use Rattle.modbus_server.specs.Served.{Served, remaining};
 ghost use Rattle.modbus_server.specs.Complete.{Completes};
-ghost use Rattle.modbus_server.specs.Stepping.{Ran};
+ghost use Rattle.modbus_server.specs.Step.{Ran};
 ghost use Rattle.modbus_example.specs.Counter.{counting};
 ghost use Rattle.modbus_example.specs.Single.{singles};
+ghost use Rattle.modbus_server.specs.Moment.{moment};
 
 use crate::counter::Counter;
 use crate::single::Singles;
@@ -25,12 +26,14 @@ pub fn serve_singles<S: Source, K: Sink>(
     counter: &mut Counter,
 ) -> Result<(), ProcessError>
     // Each promise of a server, as one record.
-    ensures ran { Ran singles counting counter.old counter.new (S.input source.old)
-        (S.input source.new) (K.output sink.old) (K.output sink.new) (2 ^ 64 - 1) result }
+    ensures ran { Ran singles counting (2 ^ 64 - 1)
+        (moment counter.old (S.input source.old) (K.output sink.old))
+        (moment counter.new (S.input source.new) (K.output sink.new)) result }
 
     // Bytes that are not 0 are served to their end.
-    ensures complete { Completes singles counting counter.old (S.input source.old)
-        (S.input source.new) (K.output sink.old) (K.output sink.new) (2 ^ 64 - 1) result }
+    ensures complete { Completes singles counting (2 ^ 64 - 1)
+        (moment counter.old (S.input source.old) (K.output sink.old))
+        (moment counter.new (S.input source.new) (K.output sink.new)) result }
 
     // What a caller reads off it: after Ok the input ended, and what was appended is exactly the replies to all its bytes.
     ensures ended { result ≡ Ok tt → IsTrue (S.input source.old).told

@@ -12,6 +12,7 @@ use Rattle.modbus_client.specs.Polled.{PolledState, OpensPolled, CallPolled, Ask
 use Rattle.modbus_reconnect.specs.Owing.{leaves_nothing}
 use Rattle.modbus_fleet.specs.declared.conversation.Stand.{Stand}
 use Rattle.modbus_fleet.specs.declared.conversation.Stand.TheVariants.{Away, Idle, Calling}
+use Rattle.modbus_link.specs.Outside.{outside}
 
 -- a call that is under way
 pub record ConversationState : Type 0 where
@@ -109,8 +110,8 @@ pub record GoesOn {H L : Type 0} (P : Protocol H) (M : LinkMeaning L) (idle : L 
   pub answer : Polled Answer
   pub after : L
   pub call : CallState
-  pub polled : CallPolled P (M.input link) (M.input after) (M.output link) (M.output after) (idle link) (idle after) old.call call answer
-  pub asked : AsksWhole P (M.input link) (M.input after) (M.output link) (M.output after) old.call call answer
+  pub polled : CallPolled P (outside (M.input link) (M.output link)) (outside (M.input after) (M.output after)) (idle link) (idle after) old.call call answer
+  pub asked : AsksWhole P (outside (M.input link) (M.output link)) (outside (M.input after) (M.output after)) old.call call answer
   pub line : M.line after ≡ M.line link
   pub tells : told ≡ told_by_poll answer
   pub stands : new ≡ left_by old after call answer

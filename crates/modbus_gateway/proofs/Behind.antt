@@ -10,10 +10,11 @@ use Rattle.modbus_service.specs.Answering.{Answering}
 use Rattle.modbus_server.specs.Framing.{Framing, Message}
 use Rattle.modbus_server.specs.Exchanges.{Exchange, Run}
 use Rattle.modbus_server.specs.Answer.{WantsFor}
-use Rattle.modbus_server.specs.Serving.{Stands, Halt, remaining, broken, refused, too_long, Halts, Served, Unwritten, Wanting, WantsMemory, EndsAs}
-use Rattle.modbus_server.specs.Stepping.{Ran}
+use Rattle.modbus_server.specs.Served.{past, Stands, Halt, remaining, broken, refused, too_long, Halts, Served, Unwritten, Wanting, WantsMemory, EndsAs}
+use Rattle.modbus_server.specs.Step.{Ran}
 use Rattle.modbus_server.specs.Complete.{Completes}
 use Rattle.modbus_gateway.specs.Forwarding.{behind}
+use Rattle.modbus_server.specs.Moment.{moment}
 
 -- what each step of an answerer does to what is viewed: it is a step of the other, and keeps the name
 pub record StepsBehind {S T : Type 0} (view : S → T) (name : S → ℕ) (B : Answering S) (A : Answering T) : Type 0 where
@@ -63,8 +64,8 @@ module _ (F : Framing) {S T : Type 0} (view : S → T) (name : S → ℕ) (B : A
       )
 
   abbrev stands_behind : (bytes cuts held : List ℕ) (opening now : S) (written waiting : List ℕ) (exchanges : List (Exchange F))
-      → Stands F B bytes cuts held opening now written waiting exchanges
-      → Stands F A bytes cuts held (view opening) (view now) written waiting exchanges × (name now ≡ name opening)
+      → Stands F B (past bytes cuts opening written exchanges) held now waiting
+      → Stands F A (past bytes cuts (view opening) written exchanges) held (view now) waiting × (name now ≡ name opening)
   stands_behind bytes cuts held opening now written waiting exchanges s =
       let run = run_behind exchanges opening now s.run in (
         record {
@@ -130,8 +131,8 @@ module _ (F : Framing) {S T : Type 0} (view : S → T) (name : S → ℕ) (B : A
   ends_behind bytes cuts opening now written (Err (InvalidProtocol protocol)) s = served_behind bytes cuts opening now written (broken (InvalidProtocol protocol)) s
 
   pub ran_behind : (before after : S) (from to : Input) (sunk sinks : Output) (turns : ℕ) (result : Result (Unit {0}) ProcessError)
-      → Ran F B before after from to sunk sinks turns result
-      → Ran F A (view before) (view after) from to sunk sinks turns result × (name after ≡ name before)
+      → Ran F B turns (moment before from sunk) (moment after to sinks) result
+      → Ran F A turns (moment (view before) from sunk) (moment (view after) to sinks) result × (name after ≡ name before)
   ran_behind before after from to sunk sinks turns result r =
       let ends = ends_behind r.fed (totals r.made) before after r.sent result r.served in (
         record {
@@ -149,7 +150,7 @@ module _ (F : Framing) {S T : Type 0} (view : S → T) (name : S → ℕ) (B : A
         ends.1,
       )
 
-  pub completes_behind : (opening : S) (from to : Input) (sunk sinks : Output) (turns : ℕ) (result : Result (Unit {0}) ProcessError)
-      → Completes F B opening from to sunk sinks turns result → Completes F A (view opening) from to sunk sinks turns result
-  completes_behind opening from to sunk sinks turns result c told clean fit fewer read wrote =
+  pub completes_behind : (opening now : S) (from to : Input) (sunk sinks : Output) (turns : ℕ) (result : Result (Unit {0}) ProcessError)
+      → Completes F B turns (moment opening from sunk) (moment now to sinks) result → Completes F A turns (moment (view opening) from sunk) (moment (view now) to sinks) result
+  completes_behind opening now from to sunk sinks turns result c told clean fit fewer read wrote =
       c told clean (λ xs end front rest run split asked. fit xs (view end) front rest (run_behind xs opening end run).0 split asked) fewer read wrote

@@ -13,7 +13,7 @@ use Rattle.modbus_service.specs.Outcome.{Outcome, reply, exception, code_of, rep
 use Rattle.modbus_server.specs.Framing.{Message}
 use Rattle.modbus_server.specs.declared.error.ProcessError.TheVariants.{TooManyRetries}
 use Rattle.modbus_server.specs.Exchanges.{Exchange, Run, GivesOutcome, ReplyFits}
-use Rattle.modbus_server.specs.Serving.{Served, Halts, broken, too_long}
+use Rattle.modbus_server.specs.Served.{Served, Halts, broken, too_long}
 use Rattle.modbus_server.specs.Complete.{RepliesFit}
 use Rattle.modbus_server.specs.Tcp.{tcp}
 use Rattle.modbus_gateway.specs.Answer.{LineAnswer, of_call, of_sending, outcome_of}

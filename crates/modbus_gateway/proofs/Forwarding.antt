@@ -18,8 +18,8 @@ use Rattle.modbus_server.specs.declared.error.ProcessError.TheVariants.{ReadFaul
 use Rattle.modbus_server.specs.Framing.{Message}
 use Rattle.modbus_server.specs.Exchanges.{Exchange, Run, output, asked_of, asks}
 use Rattle.modbus_server.specs.Exchanges as server
-use Rattle.modbus_server.specs.Serving.{IsEndOf, Halt, remaining, broken, refused, Served, Unwritten, Wanting, WantsMemory, EndsAs}
-use Rattle.modbus_server.specs.Stepping.{Ran}
+use Rattle.modbus_server.specs.Served.{IsEndOf, Halt, remaining, broken, refused, Served, Unwritten, Wanting, WantsMemory, EndsAs}
+use Rattle.modbus_server.specs.Step.{Ran}
 use Rattle.modbus_server.specs.Tcp.{tcp, AreAllAdus}
 use Rattle.modbus_service.specs.Outcome.{Outcome, code_of}
 use Rattle.modbus_gateway.specs.Answer.{outcome_of}
@@ -28,6 +28,7 @@ use Rattle.modbus_gateway.specs.Records.{LineView, line_of, LineRecord, AreJoine
 use Rattle.modbus_gateway.specs.Forwarded.{asked_by, StopsAfter, HasOutcome, last_reply, SendsAs, InRecords, Forwarded}
 use Rattle.modbus_gateway.proofs.Fitting.{none_too_long, none_crowded}
 use Rattle.modbus_gateway.proofs.Recording.{same_reply, joined_recorded, run_in_records, want_in_record}
+use Rattle.modbus_server.specs.Moment.{moment}
 
 -- what was asked, by what is told
 abbrev asks_told : Header × Asked × Option Outcome → server.Question tcp
@@ -175,7 +176,7 @@ module _ {L : Type 0} (M : LinkMeaning L) (fed cuts : List ℕ) (old new : LineS
   by_end (Err (ResponseTooLong size)) s = absurd (none_too_long M fed cuts old new sent size s)
 
 pub forwarded_of : {L : Type 0} (M : LinkMeaning L) (old new : LineState L) (from to : Input) (sunk sinks : Output) (turns : ℕ) (result : Result (Unit {0}) ProcessError)
-    → Ran tcp (forwards M) old new from to sunk sinks turns result → Forwarded M old new from to sunk sinks turns result
+    → Ran tcp (forwards M) turns (moment old from sunk) (moment new to sinks) result → Forwarded M turns (moment old from sunk) (moment new to sinks) result
 forwarded_of M old new from to sunk sinks turns result ran = record {
   ran = ran;
   in_records = by_end M ran.fed (totals ran.made) old new ran.sent result ran.served;

@@ -18,6 +18,7 @@ use Rattle.modbus_client.specs.Sending.{WritesRequest}
 use Rattle.modbus_gateway.specs.Answer.{LineAnswer, of_call, of_sending, outcome_of}
 use Rattle.modbus_gateway.specs.Forwarding.{LineState, addressed, AsksLine, Exchanges, forwards}
 use Rattle.modbus_gateway.specs.Records.{LineView, line_of, LineRecord, line_frame, AsksAs, IsUnconnected, IsIdle, ExchangesAs, IsRecord, AreJoined, written_in, read_in, cuts_in, WritesAs, WritesFrame, Stays, Recorded, told_of, told_in, reply_to, record_reply, replies, RunInRecords, WantInRecord}
+use Rattle.modbus_link.specs.Outside.{outside}
 
 -- what a record of an exchange tells of it
 pub record RecordOf (turns : ℕ) (start end : LineView) (header : Header) (request : Asked) (answer : LineAnswer) : Type 0 where
@@ -120,22 +121,22 @@ module _ {L : Type 0} (M : LinkMeaning L) where
 
 -- what one record did over the line
 module _ (turns : ℕ) (r : LineRecord) where
-  over_line : (answer : LineAnswer) → AsksAs turns r answer → Passes r.before.input r.after.input r.before.output r.after.output r.fed r.made r.sent
+  over_line : (answer : LineAnswer) → AsksAs turns r answer → Passes (outside r.before.input r.before.output) (outside r.after.input r.after.output) r.fed r.made r.sent
   over_line (of_call answer) (single, held, ran, fed, made, sent) =
-      subst (λ bytes. Passes r.before.input r.after.input r.before.output r.after.output bytes r.made r.sent) fed
-      (subst (λ cuts. Passes r.before.input r.after.input r.before.output r.after.output ran.fed cuts r.sent) made
-      (subst (λ bytes. Passes r.before.input r.after.input r.before.output r.after.output ran.fed ran.made bytes) sent ran.passes))
+      subst (λ bytes. Passes (outside r.before.input r.before.output) (outside r.after.input r.after.output) bytes r.made r.sent) fed
+      (subst (λ cuts. Passes (outside r.before.input r.before.output) (outside r.after.input r.after.output) ran.fed cuts r.sent) made
+      (subst (λ bytes. Passes (outside r.before.input r.before.output) (outside r.after.input r.after.output) ran.fed ran.made bytes) sent ran.passes))
   over_line (of_sending answer) (all, held, ran, fed, made, sent) =
-      subst (λ bytes. Passes r.before.input r.after.input r.before.output r.after.output bytes r.made r.sent) (sym fed)
-      (subst (λ cuts. Passes r.before.input r.after.input r.before.output r.after.output [] cuts r.sent) (sym made)
-      (subst (λ bytes. Passes r.before.input r.after.input r.before.output r.after.output [] [] bytes) sent ran.passes))
+      subst (λ bytes. Passes (outside r.before.input r.before.output) (outside r.after.input r.after.output) bytes r.made r.sent) (sym fed)
+      (subst (λ cuts. Passes (outside r.before.input r.before.output) (outside r.after.input r.after.output) [] cuts r.sent) (sym made)
+      (subst (λ bytes. Passes (outside r.before.input r.before.output) (outside r.after.input r.after.output) [] [] bytes) sent ran.passes))
 
-  nothing_passes : IsIdle r → Passes r.before.input r.after.input r.before.output r.after.output r.fed r.made r.sent
+  nothing_passes : IsIdle r → Passes (outside r.before.input r.before.output) (outside r.after.input r.after.output) r.fed r.made r.sent
   nothing_passes i =
-      subst (λ bytes. Passes r.before.input r.after.input r.before.output r.after.output bytes r.made r.sent) (sym i.fed)
-      (subst (λ cuts. Passes r.before.input r.after.input r.before.output r.after.output [] cuts r.sent) (sym i.made)
-      (subst (λ bytes. Passes r.before.input r.after.input r.before.output r.after.output [] [] bytes) (sym i.sent)
-      (subst (λ (view : LineView). Passes r.before.input view.input r.before.output view.output [] [] []) (sym i.line) (passes_none r.before.input r.before.output))))
+      subst (λ bytes. Passes (outside r.before.input r.before.output) (outside r.after.input r.after.output) bytes r.made r.sent) (sym i.fed)
+      (subst (λ cuts. Passes (outside r.before.input r.before.output) (outside r.after.input r.after.output) [] cuts r.sent) (sym i.made)
+      (subst (λ bytes. Passes (outside r.before.input r.before.output) (outside r.after.input r.after.output) [] [] bytes) (sym i.sent)
+      (subst (λ (view : LineView). Passes (outside r.before.input r.before.output) (outside view.input view.output) [] [] []) (sym i.line) (passes_none (outside r.before.input r.before.output)))))
 
   frame_of : (answer : LineAnswer) → AsksAs turns r answer → WritesAs r answer
   frame_of (of_call answer) (single, held, ran, fed, made, sent) = subst (λ bytes. WritesRequest (line_frame r) bytes answer) sent ran.writes
@@ -150,7 +151,7 @@ module _ (turns : ℕ) (r : LineRecord) where
   IsStillConnected = IsTrue r.after.is_connected ↔ (IsTrue r.before.is_connected × Stays r)
 
   pub record Shows : Type 0 where
-    pub passes : Passes r.before.input r.after.input r.before.output r.after.output r.fed r.made r.sent
+    pub passes : Passes (outside r.before.input r.before.output) (outside r.after.input r.after.output) r.fed r.made r.sent
     pub frame : WritesFrame r
     pub connected : IsTrue r.after.is_connected ↔ (IsTrue r.before.is_connected × Stays r)
 
@@ -178,7 +179,7 @@ module _ (turns : ℕ) (r : LineRecord) where
 pub joined_recorded : (turns : ℕ) (start : LineView) (rs : List LineRecord) (end : LineView) → AreJoined turns start rs end → Recorded turns start rs end
 joined_recorded turns start [] end e = record {
   joined = e;
-  passes = subst (λ (view : LineView). Passes start.input view.input start.output view.output [] [] []) (sym e) (passes_none start.input start.output);
+  passes = subst (λ (view : LineView). Passes (outside start.input start.output) (outside view.input view.output) [] [] []) (sym e) (passes_none (outside start.input start.output));
   frames = All-nil WritesFrame;
   connected = (
     λ t. (sym (ap (λ (view : LineView). view.is_connected) e) ∙ t, All-nil Stays),
@@ -188,12 +189,12 @@ joined_recorded turns start [] end e = record {
 joined_recorded turns start (r ∷ rs) end (begins, is, later) =
     let one = shows turns r is in
     let more = joined_recorded turns r.after rs end later in
-    let first : Passes start.input r.after.input start.output r.after.output r.fed r.made r.sent =
-    subst (λ (view : LineView). Passes view.input r.after.input view.output r.after.output r.fed r.made r.sent) begins one.passes in
+    let first : Passes (outside start.input start.output) (outside r.after.input r.after.output) r.fed r.made r.sent =
+    subst (λ (view : LineView). Passes (outside view.input view.output) (outside r.after.input r.after.output) r.fed r.made r.sent) begins one.passes in
     let on : start.is_connected ≡ r.before.is_connected = ap (λ (view : LineView). view.is_connected) (sym begins) in
     record {
       joined = (begins, is, later);
-      passes = passes_both start.input r.after.input end.input start.output r.after.output end.output r.fed (read_in rs) r.made (cuts_in rs) r.sent (written_in rs) first more.passes;
+      passes = passes_both (outside start.input start.output) (outside r.after.input r.after.output) (outside end.input end.output) r.fed (read_in rs) r.made (cuts_in rs) r.sent (written_in rs) first more.passes;
       frames = All-cons WritesFrame r rs one.frame more.frames;
       connected = (
         λ t. let p = more.connected.0 t in let q = one.connected.0 p.0 in (on ∙ q.0, All-cons Stays r rs q.1 p.1),

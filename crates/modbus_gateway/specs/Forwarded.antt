@@ -1,6 +1,6 @@
 -- What the gateway of one TCP connection does, in records.
 use Rattle.std.specs.Prelude.{◌≡◌, ◌≢◌, ◌⊎◌, ℕ, ◌<◌, List, [], ◌∷◌, ◌++◌, length, map, All, IsTrue, None, Result, Ok, Err}
-use Rattle.modbus_link.specs.Outside.{Input, Output, Rose}
+use Rattle.modbus_link.specs.Outside.{Outside, Rose}
 use Rattle.modbus_link.specs.Line.{LinkMeaning}
 use Rattle.modbus_link.specs.Reads.{totals}
 use Rattle.modbus_frame.specs.Meaning.{Asked}
@@ -13,12 +13,13 @@ use Rattle.modbus_server.specs.declared.error.ProcessError.{ProcessError}
 use Rattle.modbus_server.specs.declared.error.ProcessError.TheVariants.{ReadFault, WriteFault, TooManyRetries, BytesRemaining, InvalidRequest, ResponseTooLong, TurnLimit, InvalidLength, InvalidProtocol, NoMemory}
 use Rattle.modbus_server.specs.Complete.{IsCleanLine}
 use Rattle.modbus_server.specs.Exchanges.{asked_of}
-use Rattle.modbus_server.specs.Serving.{IsEndOf}
-use Rattle.modbus_server.specs.Stepping.{Ran}
+use Rattle.modbus_server.specs.Served.{IsEndOf}
+use Rattle.modbus_server.specs.Step.{Ran}
 use Rattle.modbus_server.specs.Tcp.{tcp, AreAllAdus, IsNextAdu, IsFaultAfter}
 use Rattle.modbus_gateway.specs.Answer.{outcome_of}
 use Rattle.modbus_gateway.specs.Forwarding.{LineState, forwards}
 use Rattle.modbus_gateway.specs.Records.{line_of, LineRecord, Recorded, record_reply, replies}
+use Rattle.modbus_server.specs.Moment.{Moment}
 
 abbrev Adus : Type 0
 Adus = List (Header × List ℕ)
@@ -81,12 +82,12 @@ pub record InRecords {L : Type 0} (M : LinkMeaning L) (old new : LineState L) (f
   pub sends : SendsAs records sent result
 
 -- What the gateway of one TCP connection promises: all that a server of its answers promises, in records of the line.
-pub record Forwarded {L : Type 0} (M : LinkMeaning L) (old new : LineState L) (from to : Input) (sunk sinks : Output) (turns : ℕ) (result : Result (Unit {0}) ProcessError) : Type 0 where
-  pub ran : Ran tcp (forwards M) old new from to sunk sinks turns result
-  pub in_records : InRecords M old new ran.fed (totals ran.made) ran.sent result
+pub record Forwarded {L : Type 0} (M : LinkMeaning L) (turns : ℕ) (before after : Moment (LineState L)) (result : Result (Unit {0}) ProcessError) : Type 0 where
+  pub ran : Ran tcp (forwards M) turns before after result
+  pub in_records : InRecords M before.service after.service ran.fed (totals ran.made) ran.sent result
 
 -- Completeness: a source that gives ADUs that are requests, with nothing behind them and in fewer bytes than there are turns, is forwarded to
 -- its end, whatever the line does, where neither the source nor the sink has a fault; or memory is wanting.
-abbrev pub IsForwarded : Input → Input → Output → Output → ℕ → Result (Unit {0}) ProcessError → Type 0
-IsForwarded from to sunk sinks turns result = IsTrue from.told → IsCleanLine tcp from.left → length from.left < turns
-    → (Rose from.faults to.faults → ⊥) → (Rose sunk.faults sinks.faults → ⊥) → (result ≡ Ok tt) ⊎ (result ≡ Err NoMemory)
+abbrev pub IsForwarded : Outside → Outside → ℕ → Result (Unit {0}) ProcessError → Type 0
+IsForwarded from to turns result = IsTrue from.input.told → IsCleanLine tcp from.input.left → length from.input.left < turns
+    → (Rose from.input.faults to.input.faults → ⊥) → (Rose from.output.faults to.output.faults → ⊥) → (result ≡ Ok tt) ⊎ (result ≡ Err NoMemory)

@@ -1,7 +1,7 @@
 -- The records of a gateway: what each request of the TCP side led to on the line, joined end to end.
 use Rattle.std.specs.Prelude.{◌≡◌, ◌≢◌, ◌↔◌, ℕ, Bool, true, false, List, [], ◌∷◌, ◌++◌, length, map, All, IsTrue, Option, Some, None, Err}
 use Rattle.std.specs.List.{flat_map}
-use Rattle.modbus_link.specs.Outside.{Input, Output, shifted}
+use Rattle.modbus_link.specs.Outside.{outside, Input, Output, shifted}
 use Rattle.modbus_link.specs.Line.{LinkMeaning}
 use Rattle.modbus_link.specs.Passing.{Passes}
 use Rattle.modbus_frame.specs.Meaning.{Asked}
@@ -56,10 +56,10 @@ stays (of_sending answer) = stays_connected answer
 -- Over a connected line a slave is called, and its reply is waited for; unit 0 is sent to all slaves, and nothing is read.
 abbrev pub AsksAs : ℕ → LineRecord → LineAnswer → Type 0
 AsksAs turns r (of_call answer) = (r.header.unit_id ≢ 0) × (held : List ℕ)
-    × (ran : Exchanged rtu_protocol r.before.input r.after.input r.before.output r.after.output (record { slave_id = r.header.unit_id }) r.request turns held answer)
+    × (ran : Exchanged rtu_protocol (outside r.before.input r.before.output) (outside r.after.input r.after.output) (record { slave_id = r.header.unit_id }) r.request turns held answer)
     × (ran.fed ≡ r.fed) × (ran.made ≡ r.made) × (ran.sent ≡ r.sent)
 AsksAs turns r (of_sending answer) = (r.header.unit_id ≡ 0) × (held : List ℕ)
-    × (ran : Sent rtu_protocol r.before.input r.after.input r.before.output r.after.output (record { slave_id = r.header.unit_id }) r.request held answer)
+    × (ran : Sent rtu_protocol (outside r.before.input r.before.output) (outside r.after.input r.after.output) (record { slave_id = r.header.unit_id }) r.request held answer)
     × (r.fed ≡ []) × (r.made ≡ []) × (ran.sent ≡ r.sent)
 
 -- the answer where the client is not connected
@@ -117,7 +117,7 @@ Stays r = IsTrue (stays r.answer)
 -- These records go from one view of the line to another. What went over the line is what went over it in each of them, in order.
 pub record Recorded (turns : ℕ) (start : LineView) (records : List LineRecord) (end : LineView) : Type 0 where
   pub joined : AreJoined turns start records end
-  pub passes : Passes start.input end.input start.output end.output (read_in records) (cuts_in records) (written_in records)
+  pub passes : Passes (outside start.input start.output) (outside end.input end.output) (read_in records) (cuts_in records) (written_in records)
   pub frames : All WritesFrame records
   pub connected : IsTrue end.is_connected ↔ (IsTrue start.is_connected × All Stays records)
 

@@ -1,6 +1,8 @@
 //! Serving the TCP side of a gateway.
 ghost use Rattle.modbus_link.specs.Line.{meaning_of};
 ghost use Rattle.modbus_gateway.specs.Forwarded.{Forwarded, IsForwarded};
+ghost use Rattle.modbus_link.specs.Outside.{outside};
+ghost use Rattle.modbus_server.specs.Moment.{moment};
 
 use crate::gateway::Gateway;
 use modbus_client::rtu;
@@ -31,11 +33,11 @@ pub fn process<S: Source, K: Sink, L: Link + Send + Drop>(
     line: &mut rtu::Client<L>,
     turns: u64,
 ) -> Result<(), ProcessError>
-    ensures forwarded { Forwarded (meaning_of L.input L.output L.line) line.old line.new
-        (S.input source.old) (S.input source.new) (K.output sink.old) (K.output sink.new)
-        turns result }
-    ensures complete { IsForwarded (S.input source.old) (S.input source.new)
-        (K.output sink.old) (K.output sink.new) turns result }
+    ensures forwarded { Forwarded (meaning_of L.input L.output L.line) turns
+        (moment line.old (S.input source.old) (K.output sink.old))
+        (moment line.new (S.input source.new) (K.output sink.new)) result }
+    ensures complete { IsForwarded (outside (S.input source.old) (K.output sink.old))
+        (outside (S.input source.new) (K.output sink.new)) turns result }
 {
     tcp::process(alloc, source, sink, &mut Gateway(line), turns)
 }

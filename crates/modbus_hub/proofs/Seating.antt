@@ -15,6 +15,7 @@ use Rattle.slab.specs.Slab.{Slab, get, Updates}
 use Rattle.modbus_hub.specs.Events.{Event, Refusal, came, refused, turned, dropped, Place, Account, after_turn, account_of, by_key, HasTurn, links_of}
 use Rattle.modbus_hub.specs.Seats.{turns, EndsTurn, RunsOn, IsSeatedAs, AreSeated, SeatsGoOn, IsTurnOf, Admits, IsDrop, is_spent_at}
 use Rattle.modbus_hub.proofs.Histories.{at_key, off_key, account_more, account_told, account_other, runs_both, runs_told, links_more, links_told}
+use Rattle.modbus_link.specs.Outside.{outside}
 
 -- the seat that a turn leaves
 abbrev pub left_by : {L : Type 0} → Turn → Place L → Option (Place L)
@@ -97,7 +98,7 @@ module _ (F : Framing) {S : Type 0} (A : Answering S) {L : Type 0} (M : LinkMean
     bytes = [];
     made = [];
     written = [];
-    passes = subst (λ (l : L). Passes (M.input link) (M.input l) (M.output link) (M.output l) [] [] []) (sym is) (passes_none (M.input link) (M.output link));
+    passes = subst (λ (l : L). Passes (outside (M.input link) (M.output link)) (outside (M.input l) (M.output l)) [] [] []) (sym is) (passes_none (outside (M.input link) (M.output link)));
     stands = λ service. record {
       exchanges = [];
       stands = record {

@@ -1,7 +1,6 @@
 -- One silence more is told by a link in memory.
-use Rattle.std.proofs.Common.{◌≡◌, ◌↔◌, ℕ, ◌+◌, List, drop, refl, sym, Result, Ok, Err}
+use Rattle.std.proofs.Common.{◌≡◌, ℕ, ◌+◌, List, drop, refl, sym, Ok}
 use Rattle.std.proofs.lemmas.List.{drop-drop}
-use Rattle.modbus_link.specs.declared.polled.Polled.{Polled}
 use Rattle.modbus_link.specs.declared.polled.Polled.TheVariants.{Pending}
 use Rattle.modbus_link.specs.Line.{LinkState}
 use Rattle.modbus_link.specs.Silence.{TimedState, IsSilentNow, SilenceReads}

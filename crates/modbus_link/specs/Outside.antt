@@ -26,6 +26,14 @@ pub record Output : Type 0 where
   pub sure_below : ℕ
   pub names : List ℕ
 
+-- What a source and a sink mean at one moment.
+pub record Outside : Type 0 where
+  pub input : Input
+  pub output : Output
+
+abbrev pub outside : Input → Output → Outside
+outside input output = record { input = input; output = output }
+
 -- the count is larger than it was, or stands at the last number of a counter
 abbrev pub Rose : ℕ → ℕ → Type 0
 Rose before now = min (before + 1) (2 ^ 64 - 1) ≤ now

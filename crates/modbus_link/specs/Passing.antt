@@ -2,16 +2,16 @@
 -- gives. Both are there for every source and sink; one that tells its bytes tells these.
 use Rattle.std.proofs.Common.{◌≡◌, ℕ, ◌<◌, List, [], ◌∷◌, ◌++◌, length, take, drop, refl, sym, ap, ◌∙◌, subst, arith, IsTrue, append_assoc, length-append}
 use Rattle.std.proofs.lemmas.List.{take-append-drop, drop_all}
-use Rattle.modbus_link.specs.Outside.{Input, Output, Advances, Extends, bytes_read, bytes_appended, cuts_made, shifted, RisesTo}
+use Rattle.modbus_link.specs.Outside.{Input, Output, Outside, Advances, Extends, bytes_read, bytes_appended, cuts_made, shifted, RisesTo}
 use Rattle.modbus_link.specs.Runs.{Advances-same, Advances-both, Extends-same, Extends-both, bytes_read-none, cuts_made-none, read_more, cuts_more, appended_more, RisesTo-both}
 
 -- the bytes that were fed, the cuts and rooms of the reads that gave them, and the bytes that were sent
-pub record Passes (from to : Input) (sunk sinks : Output) (fed : List ℕ) (made : List (ℕ × ℕ)) (sent : List ℕ) : Type 0 where
-  pub source : Advances from to
-  pub sink : Extends sunk sinks
-  pub read : IsTrue from.told → bytes_read from to ≡ fed
-  pub cuts : IsTrue from.told → cuts_made from to ≡ made
-  pub wrote : IsTrue sunk.told → bytes_appended sunk sinks ≡ sent
+pub record Passes (from to : Outside) (fed : List ℕ) (made : List (ℕ × ℕ)) (sent : List ℕ) : Type 0 where
+  pub source : Advances from.input to.input
+  pub sink : Extends from.output to.output
+  pub read : IsTrue from.input.told → bytes_read from.input to.input ≡ fed
+  pub cuts : IsTrue from.input.told → cuts_made from.input to.input ≡ made
+  pub wrote : IsTrue from.output.told → bytes_appended from.output to.output ≡ sent
   pub rises : RisesTo 0 made (length fed)
 
 -- a front of what waited was sent, and the rest waits
@@ -48,39 +48,41 @@ pub rises_one : (fed : List ℕ) (made : List (ℕ × ℕ)) (room : ℕ) → mad
 rises_one fed made room e some = rw e (some, refl)
 
 -- nothing was read, and some was written
-pub passes_out : (a b : Input) (k m : Output) (sent : List ℕ) → b ≡ a → Extends k m → (IsTrue k.told → bytes_appended k m ≡ sent) → Passes a b k m [] [] sent
-passes_out a b k m sent e sink wrote = record {
-  source = subst (Advances a) (sym e) (Advances-same a);
+pub passes_out : (a b : Outside) (sent : List ℕ) → b.input ≡ a.input → Extends a.output b.output → (IsTrue a.output.told → bytes_appended a.output b.output ≡ sent)
+    → Passes a b [] [] sent
+passes_out a b sent e sink wrote = record {
+  source = subst (Advances a.input) (sym e) (Advances-same a.input);
   sink = sink;
-  read = λ told. bytes_read-none a b (ap (λ (i : Input). i.given) e);
-  cuts = λ told. cuts_made-none a b (ap (λ (i : Input). i.cuts) e);
+  read = λ told. bytes_read-none a.input b.input (ap (λ (i : Input). i.given) e);
+  cuts = λ told. cuts_made-none a.input b.input (ap (λ (i : Input). i.cuts) e);
   wrote = wrote;
   rises = refl;
 }
 
 -- nothing was written, and some was read
-pub passes_in : (a b : Input) (k m : Output) (fed : List ℕ) (made : List (ℕ × ℕ)) → m ≡ k → Advances a b → (IsTrue a.told → bytes_read a b ≡ fed) → (IsTrue a.told → cuts_made a b ≡ made) → RisesTo 0 made (length fed) → Passes a b k m fed made []
-passes_in a b k m fed made e source read cuts rises = record {
+pub passes_in : (a b : Outside) (fed : List ℕ) (made : List (ℕ × ℕ)) → b.output ≡ a.output → Advances a.input b.input → (IsTrue a.input.told → bytes_read a.input b.input ≡ fed)
+    → (IsTrue a.input.told → cuts_made a.input b.input ≡ made) → RisesTo 0 made (length fed) → Passes a b fed made []
+passes_in a b fed made e source read cuts rises = record {
   rises = rises;
   source = source;
-  sink = subst (Extends k) (sym e) (Extends-same k);
+  sink = subst (Extends a.output) (sym e) (Extends-same a.output);
   read = read;
   cuts = cuts;
-  wrote = λ told. subst (λ n. bytes_appended k n ≡ []) (sym e) (none_appended k);
+  wrote = λ told. subst (λ n. bytes_appended a.output n ≡ []) (sym e) (none_appended a.output);
 }
 
-pub passes_none : (a : Input) (k : Output) → Passes a a k k [] [] []
-passes_none a k = passes_out a a k k [] refl (Extends-same k) (λ told. none_appended k)
+pub passes_none : (a : Outside) → Passes a a [] [] []
+passes_none a = passes_out a a [] refl (Extends-same a.output) (λ told. none_appended a.output)
 
 -- one call after another over the same source and sink
-pub passes_both : (a b c : Input) (k l m : Output) (fed fed' : List ℕ) (made made' : List (ℕ × ℕ)) (sent sent' : List ℕ)
-    → Passes a b k l fed made sent → Passes b c l m fed' made' sent' → Passes a c k m (fed ++ fed') (made ++ shifted (length fed) made') (sent ++ sent')
-passes_both a b c k l m fed fed' made made' sent sent' first second = record {
-  source = Advances-both a b c first.source second.source;
-  sink = Extends-both k l m first.sink second.sink;
-  read = λ told. read_more a b c fed fed' first.source second.source first.read second.read told;
-  cuts = λ told. cuts_more a b c made made' first.source second.source first.cuts second.cuts told
+pub passes_both : (a b c : Outside) (fed fed' : List ℕ) (made made' : List (ℕ × ℕ)) (sent sent' : List ℕ)
+    → Passes a b fed made sent → Passes b c fed' made' sent' → Passes a c (fed ++ fed') (made ++ shifted (length fed) made') (sent ++ sent')
+passes_both a b c fed fed' made made' sent sent' first second = record {
+  source = Advances-both a.input b.input c.input first.source second.source;
+  sink = Extends-both a.output b.output c.output first.sink second.sink;
+  read = λ told. read_more a.input b.input c.input fed fed' first.source second.source first.read second.read told;
+  cuts = λ told. cuts_more a.input b.input c.input made made' first.source second.source first.cuts second.cuts told
       ∙ ap (λ (bytes : List ℕ). made ++ shifted (length bytes) made') (first.read told);
-  wrote = λ told. appended_more k l m sent sent' first.sink second.sink first.wrote second.wrote told;
+  wrote = λ told. appended_more a.output b.output c.output sent sent' first.sink second.sink first.wrote second.wrote told;
   rises = RisesTo-both (made ++ shifted (length fed) made') made made' (length fed) (length fed') (length (fed ++ fed')) refl (length-append fed fed') first.rises second.rises;
 }

@@ -1,6 +1,6 @@
 -- What is said of an object that is reached through a reference is said of the object.
 use Rattle.std.proofs.Common.{◌≡◌, ℕ, List, [], ◌∷◌, ap, subst}
-use Rattle.modbus_link.specs.Outside.{Input, Output, Advances, Extends, input_through, output_through}
+use Rattle.modbus_link.specs.Outside.{Input, Output, Outside, outside, Advances, Extends, input_through, output_through}
 use Rattle.modbus_link.specs.Passing.{Passes}
 
 abbrev pub tail_of : List ℕ → List ℕ
@@ -24,11 +24,12 @@ advances_through n m a b s = record {
 pub extends_through : (n m : ℕ) (k l : Output) → Extends (output_through n k) (output_through m l) → Extends k l
 extends_through n m k l s = record { told = s.told; later = s.later; names = ap tail_of s.names; sure = s.sure; no_fault = s.no_fault; content = s.content }
 
-pub passes_through : (n m n' m' : ℕ) (a b : Input) (k l : Output) (fed : List ℕ) (made : List (ℕ × ℕ)) (sent : List ℕ)
-    → Passes (input_through n a) (input_through m b) (output_through n' k) (output_through m' l) fed made sent → Passes a b k l fed made sent
-passes_through n m n' m' a b k l fed made sent p = record {
-  source = advances_through n m a b p.source;
-  sink = extends_through n' m' k l p.sink;
+pub passes_through : (n m n' m' : ℕ) (a b : Outside) (fed : List ℕ) (made : List (ℕ × ℕ)) (sent : List ℕ)
+    → Passes (outside (input_through n a.input) (output_through n' a.output)) (outside (input_through m b.input) (output_through m' b.output)) fed made sent
+    → Passes a b fed made sent
+passes_through n m n' m' a b fed made sent p = record {
+  source = advances_through n m a.input b.input p.source;
+  sink = extends_through n' m' a.output b.output p.sink;
   read = p.read;
   cuts = p.cuts;
   wrote = p.wrote;

@@ -2,7 +2,7 @@
 use Rattle.std.proofs.Common.{◌≡◌, inl, inr, ℕ, ◌<◌, ◌≤◌, Bool, true, false, not, IsTrue, List, [], ◌∷◌, length, Result, Ok, Err, refl, sym, ap, subst, ◌∙◌, arith, length-append}
 use Rattle.std.proofs.lemmas.List.{length-map}
 use Rattle.std.specs.Prelude.{IfErr}
-use Rattle.modbus_link.specs.Outside.{Input, Output, RisesTo}
+use Rattle.modbus_link.specs.Outside.{outside, Input, Output, RisesTo}
 use Rattle.modbus_link.specs.Passing.{Passes}
 use Rattle.modbus_frame.specs.Meaning.{Asked}
 use Rattle.modbus_frame.specs.declared.code.ExceptionCode.{ExceptionCode}
@@ -57,7 +57,7 @@ same_error (Err (Transport TurnLimit)) error e = absurd (cc)
 
 module _ {H : Type 0} (P : client.Protocol H) (a b : Input) (k l : Output) (header : H) (asked : Asked) (held : List ℕ) where
   -- the errors of a call that made no read, and what it wrote
-  only_told : (answer : Answer) → Exchanged P a b k l header asked 0 held answer → IfErr (told_of answer) IsOfTelling
+  only_told : (answer : Answer) → Exchanged P (outside a k) (outside b l) header asked 0 held answer → IfErr (told_of answer) IsOfTelling
   only_told (Ok result) e = tt
   only_told (Err (Protocol fault)) e = none_came P (P.seen header) e.fed e.made e.last e.spends
   only_told (Err NoMemory) e = tt
@@ -73,7 +73,7 @@ module _ {H : Type 0} (P : client.Protocol H) (a b : Input) (k l : Output) (head
   only_told (Err (Transport (InvalidProtocol protocol))) e = none_came P (P.seen header) e.fed e.made (e.last refl) e.spends
   only_told (Err (Transport TurnLimit)) e = tt
 
-  writes_told : (answer : Answer) (e : Exchanged P a b k l header asked 0 held answer) → WritesAs (P.adu header (request_pdu asked)) e.sent (told_of answer)
+  writes_told : (answer : Answer) (e : Exchanged P (outside a k) (outside b l) header asked 0 held answer) → WritesAs (P.adu header (request_pdu asked)) e.sent (told_of answer)
   writes_told (Ok result) e = e.writes
   writes_told (Err (Protocol fault)) e = absurd (none_came P (P.seen header) e.fed e.made e.last e.spends)
   writes_told (Err NoMemory) e = e.writes
@@ -89,18 +89,18 @@ module _ {H : Type 0} (P : client.Protocol H) (a b : Input) (k l : Output) (head
   writes_told (Err (Transport (InvalidProtocol protocol))) e = absurd (none_came P (P.seen header) e.fed e.made (e.last refl) e.spends)
   writes_told (Err (Transport TurnLimit)) e = e.writes
 
-  no_read_fault : (answer : Answer) → Exchanged P a b k l header asked 0 held answer → answer ≡ Err (Transport ReadFault) → ⊥
+  no_read_fault : (answer : Answer) → Exchanged P (outside a k) (outside b l) header asked 0 held answer → answer ≡ Err (Transport ReadFault) → ⊥
   no_read_fault answer e is =
-      let f = subst (λ (found : Answer). Exchanged P a b k l header asked 0 held found) is e in
+      let f = subst (λ (found : Answer). Exchanged P (outside a k) (outside b l) header asked 0 held found) is e in
       let less = f.spends in
       omega (arith, less)
 
   -- one that is too long was not sent, and nothing is held
-  none_held : (answer : Answer) → Exchanged P a b k l header asked 0 held answer → (size : ℕ) → answer ≡ Err (Transport (RequestTooLong size)) → held ≡ []
-  none_held answer e size is = (subst (λ (found : Answer). Exchanged P a b k l header asked 0 held found) is e).ends.1
+  none_held : (answer : Answer) → Exchanged P (outside a k) (outside b l) header asked 0 held answer → (size : ℕ) → answer ≡ Err (Transport (RequestTooLong size)) → held ≡ []
+  none_held answer e size is = (subst (λ (found : Answer). Exchanged P (outside a k) (outside b l) header asked 0 held found) is e).ends.1
 
   -- no read is made in any case
-  no_reads : (answer : Answer) (e : Exchanged P a b k l header asked 0 held answer) → length e.made ≤ 0
+  no_reads : (answer : Answer) (e : Exchanged P (outside a k) (outside b l) header asked 0 held answer) → length e.made ≤ 0
   no_reads (Ok result) e = e.spends
   no_reads (Err (Protocol fault)) e = e.spends
   no_reads (Err NoMemory) e = e.spends
@@ -116,14 +116,14 @@ module _ {H : Type 0} (P : client.Protocol H) (a b : Input) (k l : Output) (head
   no_reads (Err (Transport (InvalidProtocol protocol))) e = e.spends
   no_reads (Err (Transport TurnLimit)) e = let all = e.spends in omega (arith, all)
 
-  passes_told : (answer : Answer) (e : Exchanged P a b k l header asked 0 held answer) → Passes a b k l [] [] e.sent
+  passes_told : (answer : Answer) (e : Exchanged P (outside a k) (outside b l) header asked 0 held answer) → Passes (outside a k) (outside b l) [] [] e.sent
   passes_told answer e =
       let none = none_made e.made e.fed (no_reads answer e) e.passes.rises in
-      subst (λ (cuts : List (ℕ × ℕ)). Passes a b k l [] cuts e.sent) none.0 (subst (λ (bytes : List ℕ). Passes a b k l bytes e.made e.sent) none.1 e.passes)
+      subst (λ (cuts : List (ℕ × ℕ)). Passes (outside a k) (outside b l) [] cuts e.sent) none.0 (subst (λ (bytes : List ℕ). Passes (outside a k) (outside b l) bytes e.made e.sent) none.1 e.passes)
 
 -- a call that was answered
 tells_exchanged : {H I L : Type 0} (m : LineMeaning H I L) (silences : ℕ) (header : H) (asked : Asked) (before after : L) (held : List ℕ) (answer : Answer)
-    → Exchanged m.protocol (m.link.input before) (m.link.input after) (m.link.output before) (m.link.output after) header asked 0 held answer
+    → Exchanged m.protocol (outside (m.link.input before) (m.link.output before)) (outside (m.link.input after) (m.link.output after)) header asked 0 held answer
     → Tells m silences header asked before after (told_of answer)
 tells_exchanged m silences header asked before after held answer e = record {
   sent = e.sent;
@@ -154,8 +154,8 @@ module _ {H I L : Type 0} (m : LineMeaning H I L) (silences : ℕ) (header : H) 
       let long : max_pdu < length (request_pdu asked) → ⊥ = λ more. (let fits = g.fits in omega (arith, more, fits)) in
       record {
         sent = g.sent;
-        passes = subst (λ (cuts : List (ℕ × ℕ)). Passes (m.link.input before) (m.link.input after) (m.link.output before) (m.link.output after) [] cuts g.sent) none.0
-            (subst (λ (bytes : List ℕ). Passes (m.link.input before) (m.link.input after) (m.link.output before) (m.link.output after) bytes g.made g.sent) none.1 g.passes);
+        passes = subst (λ (cuts : List (ℕ × ℕ)). Passes (outside (m.link.input before) (m.link.output before)) (outside (m.link.input after) (m.link.output after)) [] cuts g.sent) none.0
+            (subst (λ (bytes : List ℕ). Passes (outside (m.link.input before) (m.link.output before)) (outside (m.link.input after) (m.link.output after)) bytes g.made g.sent) none.1 g.passes);
         only = tt;
         writes = (g.call.unwritten, sym g.asks.request ∙ g.goes.stands.wrote);
         too_long = λ size. (λ is. absurd (cc), λ more. absurd (long more.0));
@@ -189,13 +189,13 @@ module _ {H I L : Type 0} (m : LineMeaning H I L) (silences : ℕ) (header : H) 
   -- no reply comes with no read, and the client was connected
   no_reply : (answer : Answer) → Ends m (question_of header asked 0 silences) before after held answer → (result : Result Response ExceptionCode) → answer ≡ Ok result → ⊥
   no_reply answer (inl e) result is =
-      let f = subst (λ (found : Answer). Exchanged m.protocol (m.link.input before) (m.link.input after) (m.link.output before) (m.link.output after) header asked 0 held found) is e in
+      let f = subst (λ (found : Answer). Exchanged m.protocol (outside (m.link.input before) (m.link.output before)) (outside (m.link.input after) (m.link.output after)) header asked 0 held found) is e in
       none_came m.protocol (m.protocol.seen header) f.fed f.made f.last f.spends
   no_reply answer (inr g) result is = (subst (λ (found : Answer). GivesUp m (question_of header asked 0 silences) before after held found) is g).because
 
   connected : (answer : Answer) → Ends m (question_of header asked 0 silences) before after held answer → answer ≡ Err (Transport NotConnected) → ⊥
   connected answer (inl e) is =
-      (subst (λ (found : Answer). Exchanged m.protocol (m.link.input before) (m.link.input after) (m.link.output before) (m.link.output after) header asked 0 held found) is e).ends
+      (subst (λ (found : Answer). Exchanged m.protocol (outside (m.link.input before) (m.link.output before)) (outside (m.link.input after) (m.link.output after)) header asked 0 held found) is e).ends
   connected answer (inr g) is = (subst (λ (found : Answer). GivesUp m (question_of header asked 0 silences) before after held found) is g).because
 
   -- whether the line is in doubt after it

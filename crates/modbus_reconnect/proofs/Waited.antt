@@ -1,7 +1,7 @@
 -- A call that is polled at one silence after another.
 use Rattle.std.proofs.Common.{◌≡◌, ◌≢◌, inl, inr, ℕ, ◌+◌, ◌<◌, ◌≤◌, List, [], ◌∷◌, ◌++◌, length, Err, refl, ap, ◌∙◌, arith}
 use Rattle.modbus_link.specs.declared.polled.Polled.TheVariants.{Ready, Pending}
-use Rattle.modbus_link.specs.Outside.{Rose, shifted}
+use Rattle.modbus_link.specs.Outside.{outside, Rose, shifted}
 use Rattle.modbus_link.specs.Passing.{Passes, passes_none, passes_both}
 use Rattle.modbus_frame.specs.Meaning.{Asked}
 use Rattle.modbus_frame.specs.declared.fault.Error.{Error}
@@ -44,7 +44,7 @@ pub record Going {H I L : Type 0} (m : LineMeaning H I L) (told : ℕ) (before n
   pub fed : List ℕ
   pub made : List (ℕ × ℕ)
   pub sent : List ℕ
-  pub passes : Passes (m.link.input before) (m.link.input now) (m.link.output before) (m.link.output now) fed made sent
+  pub passes : Passes (outside (m.link.input before) (m.link.output before)) (outside (m.link.input now) (m.link.output now)) fed made sent
   pub same : IsSameCall old call
   pub goes : CallGoes m.protocol [] [] [] old → CallGoes m.protocol sent fed made call
   pub rose : RoseBy told (m.silences before) (m.silences now)
@@ -55,7 +55,7 @@ going_none m before call = record {
   fed = [];
   made = [];
   sent = [];
-  passes = passes_none (m.link.input before) (m.link.output before);
+  passes = passes_none (outside (m.link.input before) (m.link.output before));
   same = record { asked = refl; function = refl; request = refl; turns = refl };
   goes = λ opened. opened;
   rose = omega arith;
@@ -64,13 +64,13 @@ going_none m before call = record {
 
 -- one more poll told a silence
 pub going_more : {H I L : Type 0} (m : LineMeaning H I L) (told : ℕ) (before now next : L) (old call new : CallState) → Going m told before now old call
-    → CallPolled m.protocol (m.link.input now) (m.link.input next) (m.link.output now) (m.link.output next) (m.silences now) (m.silences next) call new Pending
+    → CallPolled m.protocol (outside (m.link.input now) (m.link.output now)) (outside (m.link.input next) (m.link.output next)) (m.silences now) (m.silences next) call new Pending
     → Going m (told + 1) before next old new
 going_more m told before now next old call new g p = record {
   fed = g.fed ++ p.fed;
   made = g.made ++ shifted (length g.fed) p.made;
   sent = g.sent ++ p.sent;
-  passes = passes_both (m.link.input before) (m.link.input now) (m.link.input next) (m.link.output before) (m.link.output now) (m.link.output next)
+  passes = passes_both (outside (m.link.input before) (m.link.output before)) (outside (m.link.input now) (m.link.output now)) (outside (m.link.input next) (m.link.output next))
       g.fed p.fed g.made p.made g.sent p.sent g.passes p.passes;
   same = same_both old call new g.same p.same;
   goes = λ opened. p.goes_on g.sent g.fed g.made (g.goes opened);
@@ -96,9 +96,9 @@ gives_up m silences told before now old call answer g because = λ header asked 
 
 -- a poll answered
 pub answered : {H I L : Type 0} (m : LineMeaning H I L) (silences told : ℕ) (before now next : L) (old call new : CallState) (answer : Answer) → Going m told before now old call
-    → AsksWhole m.protocol (m.link.input now) (m.link.input next) (m.link.output now) (m.link.output next) call new (Ready answer) → WaitsFor m silences before next old new answer
+    → AsksWhole m.protocol (outside (m.link.input now) (m.link.output now)) (outside (m.link.input next) (m.link.output next)) call new (Ready answer) → WaitsFor m silences before next old new answer
 answered m silences told before now next old call new answer g whole = λ header asked turns asks fits opened.
-    inl (whole header asked turns g.sent g.fed g.made (m.link.input before) (m.link.output before) (for_same m.protocol header asked turns old call asks g.same) fits (g.goes opened) g.passes)
+    inl (whole header asked turns g.sent g.fed g.made (outside (m.link.input before) (m.link.output before)) (for_same m.protocol header asked turns old call asks g.same) fits (g.goes opened) g.passes)
 
 -- the last silence that it waits for was told
 pub rose_all : (silences told before now : ℕ) → told ≤ silences → silences ≤ told → RoseBy told before now → RoseBy silences before now

@@ -1,6 +1,6 @@
 -- What a client of a line does with a request that no slave replies to (MODBUS over Serial Line V1.02, section 2.1).
 use Rattle.std.specs.Prelude.{◌≡◌, ◌↔◌, ℕ, ◌<◌, Bool, true, false, not, List, [], length, Result, Ok, Err, IfErr, IsTrue}
-use Rattle.modbus_link.specs.Outside.{Rose, IsFront}
+use Rattle.modbus_link.specs.Outside.{outside, Rose, IsFront}
 use Rattle.modbus_link.specs.Passing.{Passes}
 use Rattle.modbus_frame.specs.Meaning.{Asked}
 use Rattle.modbus_frame.specs.Stage.{error_stage}
@@ -39,7 +39,7 @@ IsOfTelling _ = ⊥
 -- A request was sent, these bytes of it, and no read gave a byte.
 pub record Tells {H I L : Type 0} (m : LineMeaning H I L) (silences : ℕ) (header : H) (asked : Asked) (before after : L) (told : Result (Unit {0}) Error) : Type 0 where
   pub sent : List ℕ
-  pub passes : Passes (m.link.input before) (m.link.input after) (m.link.output before) (m.link.output after) [] [] sent
+  pub passes : Passes (outside (m.link.input before) (m.link.output before)) (outside (m.link.input after) (m.link.output after)) [] [] sent
   pub only : IfErr told IsOfTelling
   pub writes : WritesAs (m.protocol.adu header (request_pdu asked)) sent told
   -- a request is too long exactly where its PDU is

@@ -1,6 +1,6 @@
 -- How a call ends on a line that tells silence: by an answer, or it is given up at a silence.
 use Rattle.std.specs.Prelude.{◌≡◌, ◌≢◌, ◌⊎◌, ℕ, List, [], Err}
-use Rattle.modbus_link.specs.Outside.{Rose}
+use Rattle.modbus_link.specs.Outside.{outside, Rose}
 use Rattle.modbus_link.specs.Passing.{Passes}
 use Rattle.modbus_frame.specs.Meaning.{Asked}
 use Rattle.modbus_frame.specs.declared.fault.Error.TheVariants.{Transport}
@@ -36,7 +36,7 @@ pub record GivesUp {H I L : Type 0} (m : LineMeaning H I L) (q : Question H) (be
   pub fed : List ℕ
   pub made : List (ℕ × ℕ)
   pub sent : List ℕ
-  pub passes : Passes (m.link.input before) (m.link.input after) (m.link.output before) (m.link.output after) fed made sent
+  pub passes : Passes (outside (m.link.input before) (m.link.output before)) (outside (m.link.input after) (m.link.output after)) fed made sent
   pub call : CallState
   pub asks : IsCallFor m.protocol q.header q.asked q.turns call
   pub fits : Fits (request_pdu q.asked)
@@ -47,7 +47,7 @@ pub record GivesUp {H I L : Type 0} (m : LineMeaning H I L) (q : Question H) (be
 -- The answer is that of a call of a connected client over what was read in this call, or the call was given up.
 abbrev pub Ends : {H I L : Type 0} → LineMeaning H I L → Question H → L → L → List ℕ → Answer → Type 0
 Ends m q before after held answer =
-    Exchanged m.protocol (m.link.input before) (m.link.input after) (m.link.output before) (m.link.output after) q.header q.asked q.turns held answer
+    Exchanged m.protocol (outside (m.link.input before) (m.link.output before)) (outside (m.link.input after) (m.link.output after)) q.header q.asked q.turns held answer
     ⊎ GivesUp m q before after held answer
 
 -- the same of a call that was opened, whatever it asks

@@ -2,7 +2,7 @@
 ghost use Rattle.std.specs.Prelude.{◌≡◌, ◌≢◌, ◌^◌, ◌-◌, None, Ok, Err};
 ghost use Rattle.modbus_link.specs.Outside.{Rose};
 ghost use Rattle.modbus_server.specs.declared.error.ServeError.TheVariants.{AcceptFault};
-ghost use Rattle.modbus_server.specs.Listening.{Exact, Balances};
+ghost use Rattle.modbus_server.specs.Listener.{Exact, Balances};
 ghost use Rattle.modbus_serial_gateway.specs.Ending.{HasEnded, IsRefusedOrEnded};
 
 use crate::ending::{line, status};

@@ -9,10 +9,10 @@ use Rattle.modbus_frame.specs.declared.response.Response.{Response}
 use Rattle.modbus_frame.specs.declared.response.ExceptionResponse.{ExceptionResponse}
 use Rattle.modbus_pdu.specs.Coding.{Encodes}
 use Rattle.modbus_pdu.specs.ResponsePdu.{response_pdu, response_result_pdu}
-use Rattle.modbus_server.specs.declared.error.AnswerError.{AnswerError}
-use Rattle.modbus_server.specs.declared.error.AnswerError.TheVariants.{Refused, TooLong, NoMemory}
-use Rattle.modbus_server.specs.declared.error.Answer.{Answer}
-use Rattle.modbus_server.specs.declared.error.Answer.TheVariants.{Framed, Quiet}
+use Rattle.modbus_server.specs.declared.error.NextError.{NextError}
+use Rattle.modbus_server.specs.declared.error.NextError.TheVariants.{Broken, Refused, TooLong, NoMemory}
+use Rattle.modbus_server.specs.declared.error.Next.{Next}
+use Rattle.modbus_server.specs.declared.error.Next.TheVariants.{Reply, Silent, Waiting}
 use Rattle.modbus_service.specs.Outcome.{Outcome, silence, reply, exception, reply_pdu, code_of}
 use Rattle.modbus_server.specs.Framing.{Framing, Message}
 use Rattle.modbus_service.specs.Answering.{Answering}
@@ -36,9 +36,9 @@ module _ (F : Framing) where
   exchange header request outcome = record { header = header; request = request; outcome = outcome }
 
   -- what an encoder does into an empty buffer that has room
-  pub frames_as : (header : F.Header) (given : Result Response ExceptionResponse) (before after : List ℕ)
-      → Encodes (F.adu header (response_result_pdu given)) (response_result_pdu given) before (Ok tt) after → before ≡ [] → FramesAs F header given (Ok Framed) after
-  frames_as header given before after encodes empty = (encodes.fits, encodes.ok ∙ ap (λ front. front ++ F.adu header (response_result_pdu given)) empty)
+  pub frames_as : (E : Type 0) (header : F.Header) (given : Result Response ExceptionResponse) (before after : List ℕ)
+      → Encodes (F.adu header (response_result_pdu given)) (response_result_pdu given) before (Ok tt) after → before ≡ [] → FramesAs F {E = E} header given (Ok Reply) after
+  frames_as E header given before after encodes empty = (encodes.fits, encodes.ok ∙ ap (λ front. front ++ F.adu header (response_result_pdu given)) empty)
 
   -- silence fits
   quiet_fits : (x : Exchange F) → x.outcome ≡ silence → ReplyFits F x
@@ -62,19 +62,21 @@ module _ (F : Framing) where
         (x : Exchange F) × Answered F A message old new x × (x.outcome ≢ silence) × (reply_pdu (code_of x.request) x.outcome ≡ response_result_pdu given)
 
     -- the reply of an exchange that is not silent was framed, or is too long
-    pub framed_as : (message : Message F) (old new : S) (given : Result Response ExceptionResponse) (result : Result Answer AnswerError) (made : List ℕ)
+    pub framed_as : {E : Type 0} (message : Message F) (old new : S) (given : Result Response ExceptionResponse) (result : Result Next (NextError E)) (made : List ℕ)
         → Gave message old given new → FramesAs F message.0 given result made → AnswersAs F A message old result new made
-    framed_as message old new given (Ok Framed) made (x, answer, some, is) (fits, e) =
+    framed_as message old new given (Ok Reply) made (x, answer, some, is) (fits, e) =
         let same = ap length is in
         let to : message.0 ≡ x.header = ap (λ (q : Question F). q.0) answer.asked in
         (x, answer, omega (arith, same, fits), some, e ∙ ap (λ h. F.adu h (response_result_pdu given)) to ∙ ap (F.adu x.header) (sym is) ∙ sym (framed_some x.header (code_of x.request) x.outcome some))
-    framed_as message old new given (Ok Quiet) made gave frames = absurd frames
     framed_as message old new given (Err (TooLong size)) made (x, answer, some, is) (long, e) =
         let same = ap length is in
         (x, answer, e ∙ ap (λ (n : ℕ). min n (2 ^ 64 - 1)) (sym same), omega (arith, long, e))
+    framed_as message old new given (Ok Silent) made gave frames = absurd frames
+    framed_as message old new given (Ok Waiting) made gave frames = absurd frames
+    framed_as message old new given (Err (Broken fault)) made gave frames = absurd frames
     framed_as message old new given (Err (Refused reason)) made gave frames = absurd frames
     framed_as message old new given (Err NoMemory) made gave frames = absurd frames
 
-    pub silent : (message : Message F) (old new : S) (made : List ℕ) (x : Exchange F) → Answered F A message old new x → x.outcome ≡ silence → made ≡ []
-        → AnswersAs F A message old (Ok Quiet) new made
-    silent message old new made x done quiet none = (x, done, quiet_fits x quiet, quiet, none)
+    pub silent : (E : Type 0) (message : Message F) (old new : S) (made : List ℕ) (x : Exchange F) → Answered F A message old new x → x.outcome ≡ silence → made ≡ []
+        → AnswersAs F {E = E} A message old (Ok Silent) new made
+    silent E message old new made x done quiet none = (x, done, quiet_fits x quiet, quiet, none)

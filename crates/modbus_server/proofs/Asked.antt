@@ -5,7 +5,7 @@ use Rattle.std.proofs.lemmas.List.Elements.{All-contains, Contains-append_right}
 use Rattle.modbus_frame.specs.declared.fault.Reason.{Reason}
 use Rattle.modbus_pdu.specs.Limits.{max_pdu}
 use Rattle.modbus_server.specs.Framing.{Framing, Message}
-use Rattle.modbus_server.specs.Serving.{Halt, remaining, broken, refused, too_long}
+use Rattle.modbus_server.specs.Served.{Halt, remaining, broken, refused, too_long}
 use Rattle.modbus_server.specs.First.{IsFirst}
 use Rattle.modbus_server.specs.Exchanges.{Exchange, Question, ReplyFits, told_reply_size, asked_of, asks}
 

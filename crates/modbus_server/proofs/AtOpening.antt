@@ -2,16 +2,16 @@
 use Rattle.std.proofs.Common.{◌≡◌, ℕ, List, [], ◌∷◌, map, refl, sym, ap, ◌∙◌, subst, Err, append-nil, inl, inr}
 use Rattle.std.specs.Prelude.{All}
 use Rattle.std.proofs.lemmas.List.Elements.{All-contains}
-use Rattle.modbus_link.specs.Outside.{Input, Output}
 use Rattle.modbus_rtu.specs.Leftmost.{IsLeftmost}
 use Rattle.modbus_rtu.specs.Stands.{frame_at}
 use Rattle.modbus_server.specs.declared.error.ProcessError.TheVariants.{NoMemory}
 use Rattle.modbus_service.specs.Answering.{Answering}
 use Rattle.modbus_server.specs.Exchanges.{Exchange, Run, output, asked_of, asks}
-use Rattle.modbus_server.specs.Serving.{NextTakesMemory}
+use Rattle.modbus_server.specs.Served.{NextTakesMemory}
 use Rattle.modbus_server.specs.Memory.{TakesNone}
-use Rattle.modbus_server.specs.Stepping.{Ran}
+use Rattle.modbus_server.specs.Step.{Ran}
 use Rattle.modbus_server.specs.Rtu.{rtu}
+use Rattle.modbus_server.specs.Moment.{Moment}
 
 module _ {S : Type 0} (A : Answering S) where
   -- nothing was asked
@@ -28,17 +28,17 @@ module _ {S : Type 0} (A : Answering S) where
         | inr wanted ↦ (free request asked).1 old new wanted
       ]
 
-  pub nothing_done : (before after : S) (from to : Input) (sunk sinks : Output) (turns : ℕ) (ran : Ran rtu A before after from to sunk sinks turns (Err NoMemory))
+  pub nothing_done : (turns : ℕ) (before after : Moment S) (ran : Ran rtu A turns before after (Err NoMemory))
       → (frames : List ℕ) (stop : ℕ) → IsLeftmost ran.fed frames stop → All (λ f. TakesNone rtu A (frame_at ran.fed f)) frames
-      → (ran.fed ≡ []) × (ran.sent ≡ []) × (after ≡ before)
-  nothing_done before after from to sunk sinks turns ran frames stop reading none =
+      → (ran.fed ≡ []) × (ran.sent ≡ []) × (after.service ≡ before.service)
+  nothing_done turns before after ran frames stop reading none =
       let wanting = ran.served in
       elim wanting.cause [
-        | inl next ↦ absurd (no_next ran.fed _ wanting.stood.taken wanting.ends after frames stop reading none next)
+        | inl next ↦ absurd (no_next ran.fed _ wanting.stood.taken wanting.ends after.service frames stop reading none next)
         | inr (inl read) ↦ absurd read.0
         | inr (inr nothing) ↦ (let empty : wanting.exchanges ≡ [] = none_asked wanting.exchanges (ap (map (asked_of rtu)) (sym nothing.1) ∙ wanting.stood.asked) in (
           nothing.0,
           sym (append-nil ran.sent) ∙ wanting.stood.wrote ∙ ap (output rtu) empty,
-          nothing.2 ∙ subst (λ xs. Run rtu A before xs wanting.ends) empty wanting.stood.run,
+          nothing.2 ∙ subst (λ xs. Run rtu A before.service xs wanting.ends) empty wanting.stood.run,
         ))
       ]

@@ -1,9 +1,8 @@
 -- A clean line is served to its end, whatever frames its messages.
-use Rattle.std.proofs.Common.{◌≡◌, ◌⊎◌, inl, inr, ℕ, Bool, ◌<◌, ◌≤◌, ◌+◌, List, [], ◌∷◌, ◌++◌, map, length, length-append, refl, sym, ap, ◌∙◌, subst, arith, Result, Ok, Err, append-nil}
+use Rattle.std.proofs.Common.{◌≡◌, ◌⊎◌, inl, inr, ℕ, ◌<◌, ◌≤◌, ◌+◌, List, [], ◌∷◌, ◌++◌, map, length, length-append, refl, sym, ap, ◌∙◌, subst, arith, Result, Ok, Err, append-nil}
 use Rattle.std.specs.Prelude.{All, Contains}
 use Rattle.std.proofs.lemmas.List.{map-append}
 use Rattle.std.proofs.lemmas.List.Elements.{All-contains, Contains-append_left, Contains-push}
-use Rattle.modbus_link.specs.Outside.{Input, Output}
 use Rattle.modbus_link.specs.Reads.{totals, Spends}
 use Rattle.modbus_link.specs.Runs.{RisesTo-count}
 use Rattle.modbus_frame.specs.declared.fault.Reason.{Reason}
@@ -14,12 +13,13 @@ use Rattle.modbus_server.specs.declared.error.ProcessError.TheVariants.{ReadFaul
 use Rattle.modbus_service.specs.Answering.{Answering}
 use Rattle.modbus_server.specs.Framing.{Framing, Message}
 use Rattle.modbus_server.specs.Exchanges.{ReplyFits, asked_of, asks}
-use Rattle.modbus_server.specs.Serving.{Served, Halts, remaining, broken, refused, too_long, EndsAs}
-use Rattle.modbus_server.specs.Stepping.{EndsRead, spending_of, Ran}
-use Rattle.modbus_server.specs.Stopping.{RanUntil, to_the_end}
+use Rattle.modbus_server.specs.Served.{Served, Halts, remaining, broken, refused, too_long, EndsAs}
+use Rattle.modbus_server.specs.Step.{EndsRead, spending_of, Ran}
+use Rattle.modbus_server.specs.Signal.{RanUntil, to_the_end}
 use Rattle.modbus_server.specs.Complete.{IsRequest, IsCleanLine, RepliesFit, Completes}
 use Rattle.modbus_server.specs.Piece.{IsOfNoRead, ServedPiece, CompletesPiece}
 use Rattle.modbus_server.proofs.Standing.{run_more}
+use Rattle.modbus_server.specs.Moment.{Moment, Watched, SignalMeaning}
 
 -- what a framing owes where bytes that were read begin a clean line
 pub record GoesOn (F : Framing) (read rest cuts : List ℕ) (messages : List (Message F)) : Type 0 where
@@ -114,23 +114,25 @@ module _ (F : Framing)
   ]
 
 -- the same of a call to the end, where its framing goes on from bytes that begin a clean line
-pub completes : (F : Framing) {S : Type 0} (A : Answering S) (opening now : S) (from to : Input) (sunk sinks : Output) (turns : ℕ) (result : Result (Unit {0}) ProcessError)
+pub completes : (F : Framing) {S : Type 0} (A : Answering S) (turns : ℕ) (before after : Moment S) (result : Result (Unit {0}) ProcessError)
     → ((read rest : List ℕ) (clean : IsCleanLine F (read ++ rest)) (cuts : List ℕ) → GoesOn F read rest cuts clean.messages)
-    → Ran F A opening now from to sunk sinks turns result → Completes F A opening from to sunk sinks turns result
-completes F A opening now from to sunk sinks turns result on ran told clean fit few no_read no_write =
+    → Ran F A turns before after result → Completes F A turns before after result
+completes F A turns before after result on ran told clean fit few no_read no_write =
+    let from = before.outside.input in
+    let to = after.outside.input in
     let gives = ran.passes.source.content told in
     let all : from.left ≡ ran.fed ++ to.left = gives.left ∙ ap (λ front. front ++ to.left) (ran.passes.read told) in
     let short : length ran.made ≤ length ran.fed = omega (arith, RisesTo-count 0 (length ran.fed) ran.made ran.passes.rises) in
     let count : length from.left ≡ length ran.fed + length to.left = ap length all ∙ length-append ran.fed to.left in
-    subst (λ bytes. (clean : IsCleanLine F bytes) → RepliesFit F A opening clean.messages → (result ≡ Ok tt) ⊎ (result ≡ Err NoMemory)) (sym all)
-    (λ line fits. complete F A ran.fed to.left (totals ran.made) opening now ran.sent line.messages line.requests fits (on ran.fed to.left line (totals ran.made))
+    subst (λ bytes. (clean : IsCleanLine F bytes) → RepliesFit F A before.service clean.messages → (result ≡ Ok tt) ⊎ (result ≡ Err NoMemory)) (sym all)
+    (λ line fits. complete F A ran.fed to.left (totals ran.made) before.service after.service ran.sent line.messages line.requests fits (on ran.fed to.left line (totals ran.made))
     turns (length ran.made) result (omega (arith, short, count)) ran.served (ran.ended told) ran.spends
     (λ bad. no_read (ran.read_fault bad)) (λ bad. no_write (ran.write_fault bad))) clean fit
 
 -- the same of a call that may be stopped
-pub completes_until : (F : Framing) {S X : Type 0} (A : Answering S) (stops : X → ℕ) (looks : X → Bool → X → Type 0) (opening now : S) (from to : Input) (sunk sinks : Output) (turns : ℕ) (start end : X) (result : Result Terminated ProcessError)
-    → ((before after : S) (from to : Input) (sunk sinks : Output) (turns : ℕ) (result : Result (Unit {0}) ProcessError) → Ran F A before after from to sunk sinks turns result → Completes F A before from to sunk sinks turns result)
-    → RanUntil F A stops looks opening now from to sunk sinks turns start end result → Completes F A opening from to sunk sinks turns (to_the_end result)
-completes_until F A stops looks opening now from to sunk sinks turns start end (Ok Aborted) served stopped = λ told clean fit few no_read no_write. inl refl
-completes_until F A stops looks opening now from to sunk sinks turns start end (Ok Finished) served until = served opening now from to sunk sinks turns (Ok tt) until.ran
-completes_until F A stops looks opening now from to sunk sinks turns start end (Err error) served until = served opening now from to sunk sinks turns (Err error) until.ran
+pub completes_until : (F : Framing) {S X : Type 0} (A : Answering S) (signal : SignalMeaning X) (turns : ℕ) (before after : Watched S X) (result : Result Terminated ProcessError)
+    → ((turns : ℕ) (before after : Moment S) (result : Result (Unit {0}) ProcessError) → Ran F A turns before after result → Completes F A turns before after result)
+    → RanUntil F A signal turns before after result → Completes F A turns before.moment after.moment (to_the_end result)
+completes_until F A signal turns before after (Ok Aborted) served stopped = λ told clean fit few no_read no_write. inl refl
+completes_until F A signal turns before after (Ok Finished) served until = served turns before.moment after.moment (Ok tt) until.ran
+completes_until F A signal turns before after (Err error) served until = served turns before.moment after.moment (Err error) until.ran

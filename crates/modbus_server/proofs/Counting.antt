@@ -3,7 +3,7 @@ use Rattle.std.proofs.Common.{◌≡◌, ◌≤◌, ◌-◌, ℕ, Result, Ok, Er
 use Rattle.modbus_server.specs.declared.error.ServeError.{ServeError}
 use Rattle.modbus_server.specs.declared.error.ServeError.TheVariants.{AcceptFault, Connect, SpawnFault, NoMemory}
 use Rattle.modbus_frame.specs.declared.server.Terminated.{Terminated}
-use Rattle.modbus_server.specs.Listening.{Parts, Listener, Counts, Counted, Balances}
+use Rattle.modbus_server.specs.Listener.{Parts, Listener, Counts, Counted, Balances}
 
 balance_both : {E T : Type 0} (result : Result T (ServeError E)) (a b c d e f : ℕ) → a ≤ b → b ≤ c → d ≤ e → e ≤ f → b - a ≡ e - d
     → Balances result (c - b) (f - e) → Balances result (c - a) (f - d)

@@ -8,7 +8,7 @@ use Rattle.modbus_server.specs.declared.error.ProcessError.TheVariants.{ReadFaul
 use Rattle.modbus_server.specs.declared.error.Step.TheVariants.{MoreRead, Ended}
 use Rattle.modbus_server.specs.Framing.{Framing}
 use Rattle.modbus_server.specs.State.{State}
-use Rattle.modbus_server.specs.Moving.{Reads, Fills}
+use Rattle.modbus_server.specs.Transfer.{Reads, Fills}
 use Rattle.modbus_server.specs.Polled.{ReadsNothing}
 
 pub keeps_more : (old now new : State) (w : List ℕ) → now ≡ record old { waiting = now.waiting } → new ≡ record now { waiting = w } → new ≡ record old { waiting = new.waiting }

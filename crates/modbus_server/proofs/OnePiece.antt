@@ -8,9 +8,9 @@ use Rattle.modbus_server.specs.Framing.{Framing}
 use Rattle.modbus_service.specs.Answering.{Answering}
 use Rattle.std.proofs.lemmas.List.Elements.{All-nil}
 use Rattle.modbus_server.specs.Exchanges.{Exchange, ReplyFits}
-use Rattle.modbus_server.specs.Serving.{Stands, Served, remaining}
+use Rattle.modbus_server.specs.Served.{Past, past, Stands, Served, remaining}
 use Rattle.modbus_server.specs.State.{State}
-use Rattle.modbus_server.specs.Taking.{Took, Fed, told_next, IsToldWell}
+use Rattle.modbus_server.specs.Next.{Took, Fed, told_next, IsToldWell}
 use Rattle.modbus_server.specs.Piece.{IsOfNoRead, ServedHeld, ServedPiece}
 use Rattle.modbus_server.proofs.Standing.{sent_on, halted}
 use Rattle.modbus_server.proofs.Stepping.{ends_told, other_than}
@@ -20,8 +20,8 @@ module _ (F : Framing) {S : Type 0} (A : Answering S) (start : S) (held : List �
   pub record Going (now : S) (items : List ℕ) (state : State) : Type 0 where
     pub sent : List ℕ
     pub appended : items ≡ old ++ sent
-    pub stands : (bytes cuts written : List ℕ) (opening : S) (exchanges : List (Exchange F)) → Stands F A bytes cuts held opening start written [] exchanges
-        → (more : List (Exchange F)) × Stands F A bytes cuts state.held opening now (written ++ sent) [] more
+    pub stands : (behind : Past F S) → Stands F A behind held start []
+        → (more : List (Exchange F)) × Stands F A (past behind.bytes behind.cuts behind.opening (behind.written ++ sent) more) state.held now []
     pub waiting : state.waiting ≡ []
     pub ready : IsTrue state.is_open
 
@@ -29,8 +29,8 @@ module _ (F : Framing) {S : Type 0} (A : Answering S) (start : S) (held : List �
   going state same waiting ready = record {
     sent = [];
     appended = sym (append-nil old);
-    stands = λ bytes cuts written opening exchanges s.
-        (exchanges, subst (λ w. Stands F A bytes cuts state.held opening start w [] exchanges) (sym (append-nil written)) (subst (λ h. Stands F A bytes cuts h opening start written [] exchanges) same s));
+    stands = λ behind s.
+        (behind.exchanges, subst (λ w. Stands F A (past behind.bytes behind.cuts behind.opening w behind.exchanges) state.held start []) (sym (append-nil behind.written)) (subst (λ h. Stands F A behind h start []) same s));
     waiting = waiting;
     ready = ready;
   }
@@ -40,9 +40,9 @@ module _ (F : Framing) {S : Type 0} (A : Answering S) (start : S) (held : List �
     silent_on took = record {
       sent = g.sent;
       appended = g.appended;
-      stands = λ bytes cuts written opening exchanges s.
-          let (more, stood) = g.stands bytes cuts written opening exchanges s in
-          let h = took.stands bytes cuts (written ++ g.sent) opening more stood in (more ++ h.0 ∷ [], h.1);
+      stands = λ behind s.
+          let (more, stood) = g.stands behind s in
+          let h = took.stands (past behind.bytes behind.cuts behind.opening (behind.written ++ g.sent) more) stood in (more ++ h.0 ∷ [], h.1);
       waiting = took.keeps.1;
       ready = took.goes_on;
     }
@@ -51,13 +51,13 @@ module _ (F : Framing) {S : Type 0} (A : Answering S) (start : S) (held : List �
     replied_on items' new kept taken took = record {
       sent = g.sent ++ mid.waiting;
       appended = kept ∙ ap (λ i. i ++ mid.waiting) g.appended ∙ append_assoc old g.sent mid.waiting;
-      stands = λ bytes cuts written opening exchanges s.
-          let (more, stood) = g.stands bytes cuts written opening exchanges s in
-          let h = took.stands bytes cuts (written ++ g.sent) opening more stood in
-          let wrote = sent_on F A bytes cuts mid.held opening next (written ++ g.sent) mid.waiting mid.waiting [] (more ++ h.0 ∷ []) (sym (append-nil mid.waiting)) h.1 in (
+      stands = λ behind s.
+          let (more, stood) = g.stands behind s in
+          let h = took.stands (past behind.bytes behind.cuts behind.opening (behind.written ++ g.sent) more) stood in
+          let wrote = sent_on F A (past behind.bytes behind.cuts behind.opening (behind.written ++ g.sent) (more ++ h.0 ∷ [])) mid.held next mid.waiting mid.waiting [] (sym (append-nil mid.waiting)) h.1 in (
             more ++ h.0 ∷ [],
-            subst (λ b. Stands F A bytes cuts b opening next (written ++ (g.sent ++ mid.waiting)) [] (more ++ h.0 ∷ [])) (sym (ap (λ (x : State). x.held) taken))
-                (subst (λ w. Stands F A bytes cuts mid.held opening next w [] (more ++ h.0 ∷ [])) (append_assoc written g.sent mid.waiting) wrote),
+            subst (λ b. Stands F A (past behind.bytes behind.cuts behind.opening (behind.written ++ (g.sent ++ mid.waiting)) (more ++ h.0 ∷ [])) b next []) (sym (ap (λ (x : State). x.held) taken))
+                (subst (λ w. Stands F A (past behind.bytes behind.cuts behind.opening w (more ++ h.0 ∷ [])) mid.held next []) (append_assoc behind.written g.sent mid.waiting) wrote),
           );
       waiting = ap (λ (x : State). x.waiting) taken;
       ready = subst (λ b. IsTrue b) (sym (ap (λ (x : State). x.is_open) taken)) took.goes_on;
@@ -68,9 +68,9 @@ module _ (F : Framing) {S : Type 0} (A : Answering S) (start : S) (held : List �
       sent = g.sent;
       appended = same ∙ g.appended;
       only = tt;
-      ends = λ bytes cuts written opening exchanges s.
-          let (more, stood) = g.stands bytes cuts written opening exchanges s in
-          let h = took.stands bytes cuts (written ++ g.sent) opening more stood in
+      ends = λ behind s.
+          let (more, stood) = g.stands behind s in
+          let h = took.stands (past behind.bytes behind.cuts behind.opening (behind.written ++ g.sent) more) stood in
           record { held = mid.held; waiting = mid.waiting; exchanges = more ++ h.0 ∷ []; stood = h.1 };
     }
 
@@ -79,9 +79,9 @@ module _ (F : Framing) {S : Type 0} (A : Answering S) (start : S) (held : List �
       sent = g.sent;
       appended = g.appended;
       only = other_than F A told (λ e. IsOfNoRead (Err e)) tt tt (λ p. tt) (λ r. tt) (λ n. tt) tt error own;
-      ends = λ bytes cuts written opening exchanges s.
-          let (more, stood) = g.stands bytes cuts written opening exchanges s in
-          ends_told F A told bytes cuts mid.held opening next (written ++ g.sent) mid.waiting more error own (took.stands bytes cuts (written ++ g.sent) opening more stood);
+      ends = λ behind s.
+          let (more, stood) = g.stands behind s in
+          ends_told F A told (past behind.bytes behind.cuts behind.opening (behind.written ++ g.sent) more) mid.held next mid.waiting error own (took.stands (past behind.bytes behind.cuts behind.opening (behind.written ++ g.sent) more) stood);
     }
 
     pub over : Took F A told state mid now next (Ok Waiting) → mid.held ≡ [] → ServedHeld F A held start next old items (Ok tt)
@@ -89,11 +89,11 @@ module _ (F : Framing) {S : Type 0} (A : Answering S) (start : S) (held : List �
       sent = g.sent;
       appended = g.appended;
       only = tt;
-      ends = λ bytes cuts written opening exchanges s.
-          let (more, stood) = g.stands bytes cuts written opening exchanges s in
-          let h = took.stands bytes cuts (written ++ g.sent) opening more stood in
-          subst (λ b. Served F A bytes cuts opening next (written ++ g.sent) (remaining b)) none
-          (halted F A bytes cuts mid.held opening next (written ++ g.sent) more h.0 (remaining mid.held) next (h.1, refl));
+      ends = λ behind s.
+          let (more, stood) = g.stands behind s in
+          let h = took.stands (past behind.bytes behind.cuts behind.opening (behind.written ++ g.sent) more) stood in
+          subst (λ b. Served F A behind.bytes behind.cuts behind.opening next (behind.written ++ g.sent) (remaining b)) none
+          (halted F A (past behind.bytes behind.cuts behind.opening (behind.written ++ g.sent) more) mid.held next h.0 (remaining mid.held) next (h.1, refl));
     }
 
     pub cut_off : Took F A told state mid now next (Ok Waiting) → mid.held ≢ [] → ServedHeld F A held start next old items (Err BytesRemaining)
@@ -101,10 +101,10 @@ module _ (F : Framing) {S : Type 0} (A : Answering S) (start : S) (held : List �
       sent = g.sent;
       appended = g.appended;
       only = tt;
-      ends = λ bytes cuts written opening exchanges s.
-          let (more, stood) = g.stands bytes cuts written opening exchanges s in
-          let h = took.stands bytes cuts (written ++ g.sent) opening more stood in
-          (mid.held, some, halted F A bytes cuts mid.held opening next (written ++ g.sent) more h.0 (remaining mid.held) next (h.1, refl));
+      ends = λ behind s.
+          let (more, stood) = g.stands behind s in
+          let h = took.stands (past behind.bytes behind.cuts behind.opening (behind.written ++ g.sent) more) stood in
+          (mid.held, some, halted F A (past behind.bytes behind.cuts behind.opening (behind.written ++ g.sent) more) mid.held next h.0 (remaining mid.held) next (h.1, refl));
     }
 
 -- the whole of a piece
@@ -113,7 +113,7 @@ module _ (F : Framing) {S : Type 0} (A : Answering S) (before : S) (piece : List
   unopened = record { sent = []; appended = sym (append-nil old); only = tt; ends = inr (refl, refl, refl) }
 
   -- all of it was fed, and nothing was taken yet
-  began_with : (held : List ℕ) → F.StandsFor piece (length piece ∷ []) held [] → Stands F A piece (length piece ∷ []) held before before [] [] []
+  began_with : (held : List ℕ) → F.StandsFor piece (length piece ∷ []) held [] → Stands F A (past piece (length piece ∷ []) before [] []) held before []
   began_with held fed = record { taken = []; stands = fed; asked = refl; run = refl; fit = All-nil (ReplyFits F); wrote = refl; late = ([], refl) }
 
   pub piece_served : (after : S) (new : List ℕ) (opening fed : State) (result : _) → F.StandsFor [] [] [] [] → opening.held ≡ [] → Fed F opening fed piece → 0 < length piece
@@ -124,5 +124,5 @@ module _ (F : Framing) {S : Type 0} (A : Answering S) (before : S) (piece : List
         sent = served.sent;
         appended = served.appended;
         only = served.only;
-        ends = inl (served.ends piece (length piece ∷ []) [] before [] (began_with fed.held (grown.grows [] [] [] began some)));
+        ends = inl (served.ends (past piece (length piece ∷ []) before [] []) (began_with fed.held (grown.grows [] [] [] began some)));
       }

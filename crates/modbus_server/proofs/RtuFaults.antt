@@ -1,5 +1,5 @@
 -- The failing place of a call is the first by offset.
-use Rattle.std.proofs.Common.{◌≡◌, inl, inr, ℕ, ◌+◌, ◌<◌, ◌≤◌, List, [], ◌∷◌, ◌++◌, map, length, refl, sym, ap, ◌∙◌, subst, arith, append-nil, Ok, Err}
+use Rattle.std.proofs.Common.{◌≡◌, inl, inr, ℕ, ◌+◌, ◌<◌, ◌≤◌, List, [], ◌∷◌, ◌++◌, map, length, refl, sym, ap, ◌∙◌, subst, arith, Ok, Err}
 use Rattle.std.specs.Prelude.{All, Contains}
 use Rattle.std.proofs.lemmas.Bool.{cases_lt, lt-ltb, le-ltb}
 use Rattle.modbus_rtu.specs.Place.{frames_below}
@@ -12,7 +12,7 @@ use Rattle.modbus_pdu.specs.RequestOf.{request_of}
 use Rattle.modbus_server.specs.Exchanges.{Exchange, Run, ReplyFits, asked_of, asks}
 use Rattle.modbus_server.specs.declared.error.ProcessError.TheVariants.{TooManyRetries}
 use Rattle.modbus_server.specs.Rtu.{rtu}
-use Rattle.modbus_server.specs.Serving.{Served, Halt, Halts, remaining, broken, refused, too_long, asked_last, all_asked}
+use Rattle.modbus_server.specs.Served.{Served, Halt, Halts, remaining, broken, refused, too_long, all_asked}
 use Rattle.modbus_server.specs.FirstFault.{HasFault, IsFirstFault}
 use Rattle.modbus_server.proofs.Asked.{all_fit, last_or_within}
 use Rattle.modbus_server.proofs.Standing.{run_more}
@@ -93,11 +93,14 @@ module _ (one : (bytes frames others : List ℕ) (stop last : ℕ) → IsLeftmos
     ran : now ≡ ends → Run rtu A opening exchanges now
     ran same = subst (λ x. Run rtu A opening exchanges x) (sym same) run
 
-    alone : (halt : Halt) → FirstFault halt exchanges → FirstFault halt (exchanges ++ [])
-    alone halt h = subst (λ all. FirstFault halt all) (sym (append-nil exchanges)) h
+    abbrev all_of : (halt : Halt) → Halts rtu A bytes cuts before ends now halt → List (Exchange rtu)
+    all_of (remaining left) h = exchanges
+    all_of (broken fault) h = exchanges
+    all_of (refused reason) h = exchanges
+    all_of (too_long size) h = exchanges ++ h.2 ∷ []
 
-    by_halts : (halt : Halt) (h : Halts rtu A bytes cuts before ends now halt) → FirstFault halt (exchanges ++ asked_last rtu A bytes cuts before ends now halt h)
-    by_halts (remaining left) (u, same) = alone (remaining left) (ran same, none_fails)
+    by_halts : (halt : Halt) (h : Halts rtu A bytes cuts before ends now halt) → FirstFault halt (all_of halt h)
+    by_halts (remaining left) (u, same) = (ran same, none_fails)
       where
         none_fails : (frames : List ℕ) (stop : ℕ) → IsLeftmost bytes frames stop → IsFirstFault bytes cuts frames exchanges (remaining left)
         none_fails frames stop l = no_fault
@@ -111,7 +114,7 @@ module _ (one : (bytes frames others : List ℕ) (stop last : ℕ) → IsLeftmos
             no_fault place (broken _) h = h
             no_fault place (refused reason) (c, bad) = all_requests (frame_at bytes) frames exchanges (ap (map (asked_of rtu)) (sym took) ∙ asked) place reason c bad
             no_fault place (too_long size) (c, earlier, x, later, splits, count, asks', is, long) = all_fit rtu exchanges earlier later x size fit splits is long
-    by_halts (broken TooManyRetries) ((k, first), same) = alone (broken TooManyRetries) (ran same, λ frames stop l. (k + 19, (k, first.crowd, refl), later frames stop l))
+    by_halts (broken TooManyRetries) ((k, first), same) = (ran same, λ frames stop l. (k + 19, (k, first.crowd, refl), later frames stop l))
       where
         later : (frames : List ℕ) (stop : ℕ) → IsLeftmost bytes frames stop → (other : ℕ) (fault : Halt) → HasFault bytes cuts frames exchanges other fault → k + 19 ≤ other
         later frames stop l other (remaining left) h = absurd h
@@ -120,7 +123,7 @@ module _ (one : (bytes frames others : List ℕ) (stop last : ℕ) → IsLeftmos
         later frames stop l other (refused reason) (c', bad) = refused_later bytes frames (k + 19) before exchanges (first.took frames stop l) asked other reason c' bad
         later frames stop l other (too_long size) (c', earlier, x, after, splits, count, asks', is', long) = absurd (all_fit rtu exchanges earlier after x size fit splits is' long)
     by_halts (broken _) (b, same) = absurd b
-    by_halts (refused r) (message, t, bad, same) = alone (refused r)
+    by_halts (refused r) (message, t, bad, same) =
         (ran same, λ frames stop l. (t.offset, (t.within frames stop l, ap (λ (m : ℕ × List ℕ). request_of m.1) t.is ∙ bad), later frames stop l))
       where
         later : (frames : List ℕ) (stop : ℕ) → IsLeftmost bytes frames stop → (other : ℕ) (fault : Halt) → HasFault bytes cuts frames exchanges other fault → t.offset ≤ other
@@ -150,5 +153,8 @@ module _ (one : (bytes frames others : List ℕ) (stop last : ℕ) → IsLeftmos
           ]
         ]
 
-  pub first_fault : (halt : Halt) (s : Served rtu A bytes cuts opening now written halt) → FirstFault halt (all_asked rtu A bytes cuts opening now written halt s)
-  first_fault halt s = by_halts s.before s.exchanges s.asked s.fit s.ends s.run halt s.halts
+  pub first_fault : (halt : Halt) (s : Served rtu A bytes cuts opening now written halt) → FirstFault halt (all_asked halt s)
+  first_fault (remaining left) s = by_halts s.before s.exchanges s.asked s.fit s.ends s.run (remaining left) s.halts
+  first_fault (broken fault) s = by_halts s.before s.exchanges s.asked s.fit s.ends s.run (broken fault) s.halts
+  first_fault (refused reason) s = by_halts s.before s.exchanges s.asked s.fit s.ends s.run (refused reason) s.halts
+  first_fault (too_long size) s = by_halts s.before s.exchanges s.asked s.fit s.ends s.run (too_long size) s.halts

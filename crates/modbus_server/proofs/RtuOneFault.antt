@@ -9,7 +9,7 @@ use Rattle.modbus_rtu.specs.Stands.{HasCrowd, frame_at}
 use Rattle.modbus_server.specs.Exchanges.{Exchange, told_reply_size}
 use Rattle.modbus_server.specs.declared.error.ProcessError.TheVariants.{TooManyRetries}
 use Rattle.modbus_server.specs.Rtu.{rtu}
-use Rattle.modbus_server.specs.Serving.{Halt, remaining, broken, refused, too_long}
+use Rattle.modbus_server.specs.Served.{Halt, remaining, broken, refused, too_long}
 use Rattle.modbus_server.proofs.Asked.{same_after, asked_well, one_first}
 use Rattle.modbus_server.specs.FirstFault.{HasFault, IsFirstFault}
 

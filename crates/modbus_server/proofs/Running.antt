@@ -1,7 +1,7 @@
 -- One step after others is one run of steps, with a look at a signal before each.
 use Rattle.std.proofs.Common.{◌≡◌, ℕ, ◌+◌, ◌<◌, ◌≤◌, List, [], ◌∷◌, ◌++◌, length, refl, sym, ap, ◌∙◌, subst, arith, add-one, Result, Ok, Err, Bool, true, false, length-append, IsTrue, inr}
 use Rattle.modbus_frame.specs.declared.server.Terminated.TheVariants.{Finished, Aborted}
-use Rattle.modbus_link.specs.Outside.{Input, Output, Rose, shifted}
+use Rattle.modbus_link.specs.Outside.{outside, Input, Output, Rose, shifted}
 use Rattle.modbus_link.specs.Passing.{Passes, passes_both, passes_none}
 use Rattle.modbus_link.specs.Reads.{HaveRooms, totals, Spends}
 use Rattle.modbus_link.specs.Together.{count_both, totals_both, rooms_more, rooms_then}
@@ -12,13 +12,14 @@ use Rattle.modbus_server.specs.declared.error.Step.TheVariants.{Answered, Silent
 use Rattle.modbus_server.specs.Framing.{Framing}
 use Rattle.modbus_service.specs.Answering.{Answering}
 use Rattle.modbus_server.specs.Exchanges.{Exchange}
-use Rattle.modbus_server.specs.Serving.{Stands, Served, remaining}
+use Rattle.modbus_server.specs.Served.{past, Stands, Served, remaining}
 use Rattle.modbus_server.specs.State.{State}
-use Rattle.modbus_server.specs.Moving.{EndsInput}
-use Rattle.modbus_server.specs.Stepping.{StepsAs, EndsIfMay, Stepped, Ran, EndsRead, spending_of}
-use Rattle.modbus_server.specs.Stopping.{StaysUnset, LooksEach, RanUntil}
+use Rattle.modbus_server.specs.Transfer.{EndsInput}
+use Rattle.modbus_server.specs.Step.{StepsAs, EndsIfMay, Stepped, Ran, EndsRead, spending_of}
+use Rattle.modbus_server.specs.Signal.{StaysUnset, LooksEach, RanUntil}
 use Rattle.modbus_server.proofs.Standing.{opened, halted, wanting}
 use Rattle.modbus_server.proofs.Stepping.{fails_end}
+use Rattle.modbus_server.specs.Moment.{moment, watched, signalled}
 
 module _ (F : Framing) {S X : Type 0} (A : Answering S) (stops : X → ℕ) (looks : X → Bool → X → Type 0) where
   -- what a loop of steps keeps
@@ -27,8 +28,8 @@ module _ (F : Framing) {S X : Type 0} (A : Answering S) (stops : X → ℕ) (loo
     pub made : List (ℕ × ℕ)
     pub sent : List ℕ
     pub exchanges : List (Exchange F)
-    pub passes : Passes from to sunk sinks fed made sent
-    pub stands : Stands F A fed (totals made) state.held start now sent [] exchanges
+    pub passes : Passes (outside from sunk) (outside to sinks) fed made sent
+    pub stands : Stands F A (past fed (totals made) start sent exchanges) state.held now []
     pub rooms : HaveRooms F.HasRoom fed 0 made
     pub spends : length made + left ≡ turns
     pub waiting : state.waiting ≡ []
@@ -42,8 +43,8 @@ module _ (F : Framing) {S X : Type 0} (A : Answering S) (stops : X → ℕ) (loo
     made = [];
     sent = [];
     exchanges = [];
-    passes = passes_none a k;
-    stands = subst (λ held. Stands F A [] [] held start start [] [] []) (sym empty) (opened F A start stands);
+    passes = passes_none (outside a k);
+    stands = subst (λ held. Stands F A (past [] [] start [] []) held start []) (sym empty) (opened F A start stands);
     rooms = tt;
     spends = omega arith;
     waiting = written;
@@ -54,7 +55,7 @@ module _ (F : Framing) {S X : Type 0} (A : Answering S) (stops : X → ℕ) (loo
 
   -- it is stopped where the next look says so
   pub ran_stopped : (start now : S) (a b : Input) (k l : Output) (turns left : ℕ) (state : State) (first last seen : X) → Going start now a b k l turns left state first last
-      → Rose (stops last) (stops seen) → looks last true seen → RanUntil F A stops looks start now a b k l turns first seen (Ok Aborted)
+      → Rose (stops last) (stops seen) → looks last true seen → RanUntil F A (signalled stops looks) turns (watched start a k first) (watched now b l seen) (Ok Aborted)
   ran_stopped start now a b k l turns left state first last seen g rose set = record {
     fed = g.fed;
     made = g.made;
@@ -77,30 +78,30 @@ module _ (F : Framing) {S X : Type 0} (A : Answering S) (stops : X → ℕ) (loo
     all_looked : (count : ℕ) → count ≡ length g.made + length g.exchanges + 1 → StaysUnset looks first count seen
     all_looked count e = subst (λ n. StaysUnset looks first n seen) (sym (e ∙ add-one (length g.made + length g.exchanges))) (last, g.looked, unset)
 
-    module _ (result : Result Step ProcessError) (step : Stepped F A old new now next b c l m may_read result) where
-      all_passes : Passes a c k m (g.fed ++ step.fed) (g.made ++ shifted (length g.fed) step.made) (g.sent ++ step.sent)
-      all_passes = passes_both a b c k l m g.fed step.fed g.made step.made g.sent step.sent g.passes step.passes
+    module _ (result : Result Step ProcessError) (step : Stepped F A old new (moment now b l) (moment next c m) may_read result) where
+      all_passes : Passes (outside a k) (outside c m) (g.fed ++ step.fed) (g.made ++ shifted (length g.fed) step.made) (g.sent ++ step.sent)
+      all_passes = passes_both (outside a k) (outside b l) (outside c m) g.fed step.fed g.made step.made g.sent step.sent g.passes step.passes
 
-      all_steps : StepsAs F A (g.fed ++ step.fed) (totals (g.made ++ shifted (length g.fed) step.made)) new.held start next (g.sent ++ step.sent) new.waiting g.exchanges result
-      all_steps = subst (λ t. StepsAs F A (g.fed ++ step.fed) t new.held start next (g.sent ++ step.sent) new.waiting g.exchanges result) (sym (totals_both (length g.fed) g.made step.made))
-          (step.stands g.fed (totals g.made) g.sent start g.exchanges g.stands)
+      all_steps : StepsAs F A (past (g.fed ++ step.fed) (totals (g.made ++ shifted (length g.fed) step.made)) start (g.sent ++ step.sent) g.exchanges) new.held next new.waiting result
+      all_steps = subst (λ t. StepsAs F A (past (g.fed ++ step.fed) t start (g.sent ++ step.sent) g.exchanges) new.held next new.waiting result) (sym (totals_both (length g.fed) g.made step.made))
+          (step.stands (past g.fed (totals g.made) start g.sent g.exchanges) g.stands)
 
       all_rooms : HaveRooms F.HasRoom (g.fed ++ step.fed) 0 (g.made ++ shifted (length g.fed) step.made)
       all_rooms = rooms_then F.HasRoom (g.fed ++ step.fed) 0 (length g.fed) g.made (shifted (length g.fed) step.made) g.passes.rises
           (rooms_more F.HasRoom g.fed step.fed 0 (length g.fed) g.made g.passes.rises (omega arith) g.rooms)
-          (step.rooms g.fed (totals g.made) g.sent start g.exchanges g.stands)
+          (step.rooms (past g.fed (totals g.made) start g.sent g.exchanges) g.stands)
 
       all_made : length (g.made ++ shifted (length g.fed) step.made) ≡ length g.made + length step.made
       all_made = count_both (length g.fed) g.made step.made
 
-    pub read_on : (left' : ℕ) → left ≡ left' + 1 → Stepped F A old new now next b c l m may_read (Ok MoreRead) → Going start next a c k m turns left' new first seen
+    pub read_on : (left' : ℕ) → left ≡ left' + 1 → Stepped F A old new (moment now b l) (moment next c m) may_read (Ok MoreRead) → Going start next a c k m turns left' new first seen
     read_on left' e step = record {
       fed = g.fed ++ step.fed;
       made = g.made ++ shifted (length g.fed) step.made;
       sent = g.sent ++ step.sent;
       exchanges = g.exchanges;
       passes = all_passes (Ok MoreRead) step;
-      stands = subst (λ w. Stands F A (g.fed ++ step.fed) (totals (g.made ++ shifted (length g.fed) step.made)) new.held start next (g.sent ++ step.sent) w g.exchanges) step.leaves.2 (all_steps (Ok MoreRead) step);
+      stands = subst (λ w. Stands F A (past (g.fed ++ step.fed) (totals (g.made ++ shifted (length g.fed) step.made)) start (g.sent ++ step.sent) g.exchanges) new.held next w) step.leaves.2 (all_steps (Ok MoreRead) step);
       rooms = all_rooms (Ok MoreRead) step;
       spends = omega (arith, all_made (Ok MoreRead) step, step.leaves.0, g.spends, e);
       waiting = step.leaves.2;
@@ -109,14 +110,14 @@ module _ (F : Framing) {S X : Type 0} (A : Answering S) (stops : X → ℕ) (loo
       looked = all_looked _ (omega (arith, all_made (Ok MoreRead) step, step.leaves.0));
     }
 
-    pub answered_on : Stepped F A old new now next b c l m may_read (Ok Answered) → Going start next a c k m turns left new first seen
+    pub answered_on : Stepped F A old new (moment now b l) (moment next c m) may_read (Ok Answered) → Going start next a c k m turns left new first seen
     answered_on step = let h = all_steps (Ok Answered) step in record {
       fed = g.fed ++ step.fed;
       made = g.made ++ shifted (length g.fed) step.made;
       sent = g.sent ++ step.sent;
       exchanges = g.exchanges ++ h.0 ∷ [];
       passes = all_passes (Ok Answered) step;
-      stands = subst (λ w. Stands F A (g.fed ++ step.fed) (totals (g.made ++ shifted (length g.fed) step.made)) new.held start next (g.sent ++ step.sent) w (g.exchanges ++ h.0 ∷ [])) step.leaves.2 h.1;
+      stands = subst (λ w. Stands F A (past (g.fed ++ step.fed) (totals (g.made ++ shifted (length g.fed) step.made)) start (g.sent ++ step.sent) (g.exchanges ++ h.0 ∷ [])) new.held next w) step.leaves.2 h.1;
       rooms = all_rooms (Ok Answered) step;
       spends = omega (arith, all_made (Ok Answered) step, ap length step.leaves.0, g.spends);
       waiting = step.leaves.2;
@@ -125,14 +126,14 @@ module _ (F : Framing) {S X : Type 0} (A : Answering S) (stops : X → ℕ) (loo
       looked = all_looked _ (omega (arith, all_made (Ok Answered) step, ap length step.leaves.0, length-append g.exchanges (h.0 ∷ [])));
     }
 
-    pub silent_on : Stepped F A old new now next b c l m may_read (Ok Silent) → Going start next a c k m turns left new first seen
+    pub silent_on : Stepped F A old new (moment now b l) (moment next c m) may_read (Ok Silent) → Going start next a c k m turns left new first seen
     silent_on step = let h = all_steps (Ok Silent) step in record {
       fed = g.fed ++ step.fed;
       made = g.made ++ shifted (length g.fed) step.made;
       sent = g.sent ++ step.sent;
       exchanges = g.exchanges ++ h.0 ∷ [];
       passes = all_passes (Ok Silent) step;
-      stands = subst (λ w. Stands F A (g.fed ++ step.fed) (totals (g.made ++ shifted (length g.fed) step.made)) new.held start next (g.sent ++ step.sent) w (g.exchanges ++ h.0 ∷ [])) step.leaves.2 h.1;
+      stands = subst (λ w. Stands F A (past (g.fed ++ step.fed) (totals (g.made ++ shifted (length g.fed) step.made)) start (g.sent ++ step.sent) (g.exchanges ++ h.0 ∷ [])) new.held next w) step.leaves.2 h.1;
       rooms = all_rooms (Ok Silent) step;
       spends = omega (arith, all_made (Ok Silent) step, ap length step.leaves.0, g.spends);
       waiting = step.leaves.2;
@@ -142,13 +143,13 @@ module _ (F : Framing) {S X : Type 0} (A : Answering S) (stops : X → ℕ) (loo
     }
 
     module _ (may : may_read ≡ true → 0 < left) (must : may_read ≡ false → left ≡ 0) where
-      used_up : {bytes cuts held written waiting : List ℕ} {exchanges : List (Exchange F)} → waiting ≡ [] → (s : Stands F A bytes cuts held start next written waiting exchanges) → F.IsAll bytes cuts held s.taken
+      used_up : {bytes cuts held written waiting : List ℕ} {exchanges : List (Exchange F)} → waiting ≡ [] → (s : Stands F A (past bytes cuts start written exchanges) held next waiting) → F.IsAll bytes cuts held s.taken
           → (served : Served F A bytes cuts start next written (remaining held)) × (served.exchanges ≡ exchanges)
       unfolding halted
       used_up {bytes} {cuts} {held} {written} {waiting} {exchanges} none s all =
-          let both : (s : Stands F A bytes cuts held start next written [] exchanges) × F.IsAll bytes cuts held s.taken =
-          subst (λ w. (s : Stands F A bytes cuts held start next written w exchanges) × F.IsAll bytes cuts held s.taken) none (s, all) in
-          (halted F A bytes cuts held start next written exchanges both.0 (remaining held) next (both.1, refl), refl)
+          let both : (s : Stands F A (past bytes cuts start written exchanges) held next []) × F.IsAll bytes cuts held s.taken =
+          subst (λ w. (s : Stands F A (past bytes cuts start written exchanges) held next w) × F.IsAll bytes cuts held s.taken) none (s, all) in
+          (halted F A (past bytes cuts start written exchanges) held next both.0 (remaining held) next (both.1, refl), refl)
 
       spent : (error : ProcessError) (made : ℕ) → EndsIfMay may_read error → made + left ≡ turns → Spends (spending_of (Err error)) made turns
       spent ReadFault made e s = let some = may e in omega arith
@@ -166,19 +167,19 @@ module _ (F : Framing) {S X : Type 0} (A : Answering S) (stops : X → ℕ) (loo
       ended_as BytesRemaining left e = e
       ended_as _ left e = tt
 
-      looks_each : {a c : Input} {k m : Output} {now : S} (error : ProcessError) (ran : Ran F A start now a c k m turns (Err error)) (count : ℕ) → length ran.made < count
-          → LooksEach F A start now a c k m turns (Err error) ran count
+      looks_each : {a c : Input} {k m : Output} {now : S} (error : ProcessError) (ran : Ran F A turns (moment start a k) (moment now c m) (Err error)) (count : ℕ) → length ran.made < count
+          → LooksEach (Err error) ran count
       looks_each NoMemory ran count less = omega (arith, less)
       looks_each _ ran count less = less
 
-      pub ran_error : (error : ProcessError) → Stepped F A old new now next b c l m may_read (Err error) → RanUntil F A stops looks start next a c k m turns first seen (Err error)
+      pub ran_error : (error : ProcessError) → Stepped F A old new (moment now b l) (moment next c m) may_read (Err error) → RanUntil F A (signalled stops looks) turns (watched start a k first) (watched next c m seen) (Err error)
       ran_error error step = record {
         ran = record {
           fed = g.fed ++ step.fed;
           made = g.made ++ shifted (length g.fed) step.made;
           sent = g.sent ++ step.sent;
           passes = all_passes (Err error) step;
-          served = fails_end F A (g.fed ++ step.fed) (totals (g.made ++ shifted (length g.fed) step.made)) start next (g.sent ++ step.sent) g.exchanges error (all_steps (Err error) step);
+          served = fails_end F A (past (g.fed ++ step.fed) (totals (g.made ++ shifted (length g.fed) step.made)) start (g.sent ++ step.sent) g.exchanges) next error (all_steps (Err error) step);
           rooms = all_rooms (Err error) step;
           spends = spent error (length (g.made ++ shifted (length g.fed) step.made)) step.leaves.2 (omega (arith, all_made (Err error) step, ap length step.leaves.0, g.spends));
           ended = λ told. ended_as error c.left (step.ended (g.passes.source.told ∙ told));
@@ -196,7 +197,7 @@ module _ (F : Framing) {S X : Type 0} (A : Answering S) (stops : X → ℕ) (loo
         looked = all_looked _ refl;
       }
 
-      pub ran_hungry : Stepped F A old new now next b c l m may_read (Ok Hungry) → RanUntil F A stops looks start next a c k m turns first seen (Err TurnLimit)
+      pub ran_hungry : Stepped F A old new (moment now b l) (moment next c m) may_read (Ok Hungry) → RanUntil F A (signalled stops looks) turns (watched start a k first) (watched next c m seen) (Err TurnLimit)
       ran_hungry step = let h = all_steps (Ok Hungry) step in record {
         ran = record {
           fed = g.fed ++ step.fed;
@@ -215,7 +216,7 @@ module _ (F : Framing) {S X : Type 0} (A : Answering S) (stops : X → ℕ) (loo
         looked = all_looked _ refl;
       }
 
-      pub ran_ended : Stepped F A old new now next b c l m may_read (Ok Ended) → RanUntil F A stops looks start next a c k m turns first seen (Ok Finished)
+      pub ran_ended : Stepped F A old new (moment now b l) (moment next c m) may_read (Ok Ended) → RanUntil F A (signalled stops looks) turns (watched start a k first) (watched next c m seen) (Ok Finished)
       ran_ended step =
           let h = all_steps (Ok Ended) step in
           let used : (served : Served F A (g.fed ++ step.fed) (totals (g.made ++ shifted (length g.fed) step.made)) start next (g.sent ++ step.sent) (remaining [])) × (served.exchanges ≡ g.exchanges) =
@@ -238,14 +239,14 @@ module _ (F : Framing) {S X : Type 0} (A : Answering S) (stops : X → ℕ) (loo
           }
 
   -- no connection was opened, as memory was refused
-  pub ran_none : (start : S) (a : Input) (k : Output) (turns : ℕ) (signal : X) → F.StandsFor [] [] [] [] → RanUntil F A stops looks start start a a k k turns signal signal (Err NoMemory)
+  pub ran_none : (start : S) (a : Input) (k : Output) (turns : ℕ) (signal : X) → F.StandsFor [] [] [] [] → RanUntil F A (signalled stops looks) turns (watched start a k signal) (watched start a k signal) (Err NoMemory)
   ran_none start a k turns signal stands = record {
     ran = record {
       fed = [];
       made = [];
       sent = [];
-      passes = passes_none a k;
-      served = wanting F A [] [] [] start start [] [] (opened F A start stands) start (inr (inr (refl, refl, refl)));
+      passes = passes_none (outside a k);
+      served = wanting F A (past [] [] start [] []) [] start (opened F A start stands) start (inr (inr (refl, refl, refl)));
       rooms = tt;
       spends = omega arith;
       ended = λ told. tt;

@@ -1,7 +1,7 @@
 -- One step is what the connection takes, and what is moved between it and the outside.
 use Rattle.std.proofs.Common.{◌≡◌, ◌≢◌, ◌⊎◌, ℕ, ◌<◌, List, [], ◌∷◌, ◌++◌, length, refl, sym, ap, ◌∙◌, subst, Ok, Err, Result, Bool, true, false, append-nil, length-append, inl, inr}
 use Rattle.std.proofs.lemmas.List.{take_at}
-use Rattle.modbus_link.specs.Outside.{Input, Output, Rose, shifted, RisesTo}
+use Rattle.modbus_link.specs.Outside.{outside, Input, Output, Rose, shifted, RisesTo}
 use Rattle.modbus_link.specs.Passing.{Passes, Sends, rises_none, rises_one, passes_out, passes_in, passes_none}
 use Rattle.modbus_link.specs.Reads.{HaveRooms, totals}
 use Rattle.modbus_server.specs.declared.error.ProcessError.{ProcessError}
@@ -16,12 +16,13 @@ use Rattle.modbus_server.specs.declared.error.Step.TheVariants.{Answered, Silent
 use Rattle.modbus_server.specs.Framing.{Framing, Message, IsOfFraming}
 use Rattle.modbus_service.specs.Answering.{Answering}
 use Rattle.modbus_server.specs.Exchanges.{Exchange}
-use Rattle.modbus_server.specs.Serving.{Stands, AreAllAnswered, ServedAfter, remaining, broken, NextTakesMemory, WantingAfter, EndsAs}
+use Rattle.modbus_server.specs.Served.{Past, past, with_exchange, Stands, AreAllAnswered, ServedAfter, remaining, broken, NextTakesMemory, WantingAfter, EndsAs}
 use Rattle.modbus_server.specs.State.{State}
-use Rattle.modbus_server.specs.Taking.{TakesAs, Took, told_next, IsToldWell}
-use Rattle.modbus_server.specs.Moving.{Writes, Reads, EndsInput}
-use Rattle.modbus_server.specs.Stepping.{FailsAs, StepsAs, ReadsLast, EndsIfMay, LeavesAs, Stepped}
+use Rattle.modbus_server.specs.Next.{TakesAs, Took, told_next, IsToldWell}
+use Rattle.modbus_server.specs.Transfer.{Writes, Reads, EndsInput}
+use Rattle.modbus_server.specs.Step.{FailsAs, StepsAs, ReadsLast, EndsIfMay, LeavesAs, Stepped}
 use Rattle.modbus_server.proofs.Standing.{sent_on, fed_on, halted_after, wanting_after}
+use Rattle.modbus_server.specs.Moment.{moment}
 
 -- of what holds for each fault that is left to a framing
 pub of_framing : (P : ProcessError → Type 0) → P TooManyRetries → P InvalidLength → ((protocol : ℕ) → P (InvalidProtocol protocol)) → (error : ProcessError) → IsOfFraming error → P error
@@ -45,38 +46,37 @@ idle P bytes cuts written p = along P (bytes ++ []) bytes (cuts ++ []) cuts (wri
 
 module _ (F : Framing) {S : Type 0} (A : Answering S) where
   -- a call that ends as a step failed
-  pub fails_end : (bytes cuts : List ℕ) (opening now : S) (written : List ℕ) (exchanges : List (Exchange F)) (error : ProcessError)
-      → FailsAs F A bytes cuts opening now written exchanges error → EndsAs F A bytes cuts opening now written (Err error)
-  fails_end bytes cuts opening now written exchanges BytesRemaining (left, some, served) = (left, some, served.0)
-  fails_end bytes cuts opening now written exchanges ReadFault (left, served) = (left, served.0)
-  fails_end bytes cuts opening now written exchanges TurnLimit never = absurd never
-  fails_end bytes cuts opening now written exchanges (InvalidRequest reason) served = served.0
-  fails_end bytes cuts opening now written exchanges (ResponseTooLong size) served = served.0
-  fails_end bytes cuts opening now written exchanges WriteFault (x, unwritten, same) = unwritten
-  fails_end bytes cuts opening now written exchanges NoMemory wanting = wanting.0
-  fails_end bytes cuts opening now written exchanges TooManyRetries served = served.0
-  fails_end bytes cuts opening now written exchanges InvalidLength served = served.0
-  fails_end bytes cuts opening now written exchanges (InvalidProtocol protocol) served = served.0
+  pub fails_end : (behind : Past F S) (now : S) (error : ProcessError)
+      → FailsAs F A behind now error → EndsAs F A behind.bytes behind.cuts behind.opening now behind.written (Err error)
+  fails_end behind now BytesRemaining (left, some, served) = (left, some, served.0)
+  fails_end behind now ReadFault (left, served) = (left, served.0)
+  fails_end behind now TurnLimit never = absurd never
+  fails_end behind now (InvalidRequest reason) served = served.0
+  fails_end behind now (ResponseTooLong size) served = served.0
+  fails_end behind now WriteFault (x, unwritten, same) = unwritten
+  fails_end behind now NoMemory wanting = wanting.0
+  fails_end behind now TooManyRetries served = served.0
+  fails_end behind now InvalidLength served = served.0
+  fails_end behind now (InvalidProtocol protocol) served = served.0
 
-  fails_told : {E : Type 0} (told : E → ProcessError) (bytes cuts held : List ℕ) (opening now : S) (written waiting : List ℕ) (exchanges : List (Exchange F)) (error : NextError E)
-      → IsToldWell told error → TakesAs F A told bytes cuts held opening now written waiting exchanges (Err error) → FailsAs F A bytes cuts opening now written exchanges (told_next told error)
-  fails_told told bytes cuts held opening now written waiting exchanges (next.Broken fault) own served =
-      of_framing (λ e. ServedAfter F A bytes cuts opening now written exchanges (broken e) → FailsAs F A bytes cuts opening now written exchanges e) (λ s. s) (λ s. s) (λ p s. s) (told fault) own served
-  fails_told told bytes cuts held opening now written waiting exchanges (next.Refused reason) own served = served
-  fails_told told bytes cuts held opening now written waiting exchanges (next.TooLong size) own served = served
-  fails_told told bytes cuts held opening now written waiting exchanges next.NoMemory own (wanting, request) = wanting
+  fails_told : {E : Type 0} (told : E → ProcessError) (behind : Past F S) (held : List ℕ) (now : S) (waiting : List ℕ) (error : NextError E)
+      → IsToldWell told error → TakesAs F A told behind held now waiting (Err error) → FailsAs F A behind now (told_next told error)
+  fails_told told behind held now waiting (next.Broken fault) own served =
+      of_framing (λ e. ServedAfter F A behind now (broken e) → FailsAs F A behind now e) (λ s. s) (λ s. s) (λ p s. s) (told fault) own served
+  fails_told told behind held now waiting (next.Refused reason) own served = served
+  fails_told told behind held now waiting (next.TooLong size) own served = served
+  fails_told told behind held now waiting next.NoMemory own (wanting, request) = wanting
 
-  pub ends_told : {E : Type 0} (told : E → ProcessError) (bytes cuts held : List ℕ) (opening now : S) (written waiting : List ℕ) (exchanges : List (Exchange F)) (error : NextError E)
-      → IsToldWell told error → TakesAs F A told bytes cuts held opening now written waiting exchanges (Err error) → EndsAs F A bytes cuts opening now written (Err (told_next told error))
-  ends_told told bytes cuts held opening now written waiting exchanges error own takes =
-      fails_end bytes cuts opening now written exchanges (told_next told error) (fails_told told bytes cuts held opening now written waiting exchanges error own takes)
+  pub ends_told : {E : Type 0} (told : E → ProcessError) (behind : Past F S) (held : List ℕ) (now : S) (waiting : List ℕ) (error : NextError E)
+      → IsToldWell told error → TakesAs F A told behind held now waiting (Err error) → EndsAs F A behind.bytes behind.cuts behind.opening now behind.written (Err (told_next told error))
+  ends_told told behind held now waiting error own takes = fails_end behind now (told_next told error) (fails_told told behind held now waiting error own takes)
 
-  last_told : {E : Type 0} (told : E → ProcessError) (bytes cuts held : List ℕ) (opening now : S) (written waiting : List ℕ) (exchanges : List (Exchange F)) (error : NextError E) → IsToldWell told error
-      → TakesAs F A told bytes cuts held opening now written waiting exchanges (Err error) → ReadsLast F bytes cuts exchanges (Err (told_next told error))
-  last_told told bytes cuts held opening now written waiting exchanges (next.Broken fault) own served = of_framing (λ e. ReadsLast F bytes cuts exchanges (Err e)) tt tt (λ p. tt) (told fault) own
-  last_told told bytes cuts held opening now written waiting exchanges (next.Refused reason) own served = tt
-  last_told told bytes cuts held opening now written waiting exchanges (next.TooLong size) own served = tt
-  last_told told bytes cuts held opening now written waiting exchanges next.NoMemory own (wanting, request) = inl request
+  last_told : {E : Type 0} (told : E → ProcessError) (behind : Past F S) (held : List ℕ) (now : S) (waiting : List ℕ) (error : NextError E) → IsToldWell told error
+      → TakesAs F A told behind held now waiting (Err error) → ReadsLast F behind.bytes behind.cuts behind.exchanges (Err (told_next told error))
+  last_told told behind held now waiting (next.Broken fault) own served = of_framing (λ e. ReadsLast F behind.bytes behind.cuts behind.exchanges (Err e)) tt tt (λ p. tt) (told fault) own
+  last_told told behind held now waiting (next.Refused reason) own served = tt
+  last_told told behind held now waiting (next.TooLong size) own served = tt
+  last_told told behind held now waiting next.NoMemory own (wanting, request) = inl request
 
   pub other_than : {E : Type 0} (told : E → ProcessError) (P : ProcessError → Type 0) → P TooManyRetries → P InvalidLength → ((p : ℕ) → P (InvalidProtocol p)) → ((r : _) → P (InvalidRequest r)) → ((n : ℕ) → P (ResponseTooLong n)) → P NoMemory
       → (error : NextError E) → IsToldWell told error → P (told_next told error)
@@ -99,9 +99,8 @@ module _ (F : Framing) {S : Type 0} (A : Answering S) where
   memory_told told (next.TooLong size) own e = cc
 
   -- of all for which a connection that holds these bytes stands
-  abbrev ForAll : List ℕ → S → (List ℕ → List ℕ → List ℕ → S → List (Exchange F) → Type 0) → Type 0
-  ForAll held now P = (bytes cuts written : List ℕ) (opening : S) (exchanges : List (Exchange F)) → Stands F A bytes cuts held opening now written [] exchanges
-      → P bytes cuts written opening exchanges
+  abbrev ForAll : List ℕ → S → (Past F S → Type 0) → Type 0
+  ForAll held now P = (behind : Past F S) → Stands F A behind held now [] → P behind
 
   -- what a step says of refused memory
   abbrev Memory : List ℕ → S → S → Result Step ProcessError → Type 0
@@ -111,19 +110,19 @@ module _ (F : Framing) {S : Type 0} (A : Answering S) where
   module _ (old new : State) (before after : S) (a : Input) (k : Output) (may_read : Bool) where
     -- it neither reads nor writes
     still : (result : Result Step ProcessError)
-        → ForAll old.held before (λ bytes cuts written opening exchanges. StepsAs F A bytes cuts new.held opening after written new.waiting exchanges result)
-        → ForAll old.held before (λ bytes cuts written opening exchanges. ReadsLast F bytes cuts exchanges result)
-        → LeavesAs F.Waits F.most [] [] may_read old new before after result → Memory old.held before after result → EndsInput result a.left → (result ≡ Err ReadFault → ⊥) → (result ≡ Err WriteFault → ⊥)
-        → Stepped F A old new before after a a k k may_read result
+        → ForAll old.held before (λ behind. StepsAs F A behind new.held after new.waiting result)
+        → ForAll old.held before (λ behind. ReadsLast F behind.bytes behind.cuts behind.exchanges result)
+        → LeavesAs F [] may_read old new before after result → Memory old.held before after result → EndsInput result a.left → (result ≡ Err ReadFault → ⊥) → (result ≡ Err WriteFault → ⊥)
+        → Stepped F A old new (moment before a k) (moment after a k) may_read result
     still result stands last leaves memory ended no_read_fault no_write_fault = record {
       fed = [];
       made = [];
       sent = [];
-      passes = passes_none a k;
-      stands = λ bytes cuts written opening exchanges s.
-          idle (λ b c w. StepsAs F A b c new.held opening after w new.waiting exchanges result) bytes cuts written (stands bytes cuts written opening exchanges s);
+      passes = passes_none (outside a k);
+      stands = λ behind s.
+          idle (λ b c w. StepsAs F A (past b c behind.opening w behind.exchanges) new.held after new.waiting result) behind.bytes behind.cuts behind.written (stands behind s);
       last = last;
-      rooms = λ bytes cuts written opening exchanges s. tt;
+      rooms = λ behind s. tt;
       leaves = leaves;
       memory = memory;
       ended = λ t. ended;
@@ -133,13 +132,13 @@ module _ (F : Framing) {S : Type 0} (A : Answering S) where
     }
 
     pub stepped_error : {E : Type 0} (told : E → ProcessError) (error : NextError E) → IsToldWell told error → Took F A told old new before after (Err error)
-        → Stepped F A old new before after a a k k may_read (Err (told_next told error))
+        → Stepped F A old new (moment before a k) (moment after a k) may_read (Err (told_next told error))
     stepped_error told error own took =
         still (Err (told_next told error))
-        (λ bytes cuts written opening exchanges s.
-        fails_told told bytes cuts new.held opening after written new.waiting exchanges error own (took.stands bytes cuts written opening exchanges s))
-        (λ bytes cuts written opening exchanges s.
-        last_told told bytes cuts new.held opening after written new.waiting exchanges error own (took.stands bytes cuts written opening exchanges s))
+        (λ behind s.
+        fails_told told behind new.held after new.waiting error own (took.stands behind s))
+        (λ behind s.
+        last_told told behind new.held after new.waiting error own (took.stands behind s))
         (refl, took.goes_on, other_than told (EndsIfMay may_read) tt tt (λ p. tt) (λ r. tt) (λ n. tt) tt error own)
         (λ e bytes cuts taken s. inl (took.memory (memory_told told error own e) bytes cuts taken s))
         (other_than told (λ e. EndsInput (Err e) a.left) tt tt (λ p. tt) (λ r. tt) (λ n. tt) tt error own)
@@ -150,21 +149,21 @@ module _ (F : Framing) {S : Type 0} (A : Answering S) where
         let same : told_next told error ≡ WriteFault = cc in
         other_than told (λ e. e ≢ WriteFault) (λ e. cc) (λ e. cc) (λ p e. cc) (λ r e. cc) (λ n e. cc) (λ e. cc) error own same)
 
-    pub stepped_silent : {E : Type 0} (told : E → ProcessError) → Took F A told old new before after (Ok take.Silent) → Stepped F A old new before after a a k k may_read (Ok Silent)
+    pub stepped_silent : {E : Type 0} (told : E → ProcessError) → Took F A told old new before after (Ok take.Silent) → Stepped F A old new (moment before a k) (moment after a k) may_read (Ok Silent)
     stepped_silent told took =
         still (Ok Silent)
-        (λ bytes cuts written opening exchanges s.
-        let h = took.stands bytes cuts written opening exchanges s in
-        (h.0, subst (λ w. Stands F A bytes cuts new.held opening after written w (exchanges ++ h.0 ∷ [])) (sym took.keeps.1) h.1, h.2))
-        (λ bytes cuts written opening exchanges s. tt) (refl, took.keeps.0, took.keeps.1, took.goes_on) (λ e. cc) tt (λ e. cc) (λ e. cc)
+        (λ behind s.
+        let h = took.stands behind s in
+        (h.0, subst (λ w. Stands F A (with_exchange behind h.0) new.held after w) (sym took.keeps.1) h.1, h.2))
+        (λ behind s. tt) (refl, took.keeps.0, took.keeps.1, took.goes_on) (λ e. cc) tt (λ e. cc) (λ e. cc)
 
-    pub stepped_hungry : {E : Type 0} (told : E → ProcessError) → Took F A told old new before after (Ok Waiting) → may_read ≡ false → Stepped F A old new before after a a k k may_read (Ok Hungry)
+    pub stepped_hungry : {E : Type 0} (told : E → ProcessError) → Took F A told old new before after (Ok Waiting) → may_read ≡ false → Stepped F A old new (moment before a k) (moment after a k) may_read (Ok Hungry)
     stepped_hungry told took may =
         still (Ok Hungry)
-        (λ bytes cuts written opening exchanges s.
-        let h = took.stands bytes cuts written opening exchanges s in
-        subst (λ w. (s : Stands F A bytes cuts new.held opening after written w exchanges) × F.IsAll bytes cuts new.held s.taken) (sym took.keeps.1) h)
-        (λ bytes cuts written opening exchanges s. let h = took.stands bytes cuts written opening exchanges s in (h.0.taken, new.held, h.1, h.0.asked))
+        (λ behind s.
+        let h = took.stands behind s in
+        subst (λ w. (s : Stands F A behind new.held after w) × F.IsAll behind.bytes behind.cuts new.held s.taken) (sym took.keeps.1) h)
+        (λ behind s. let h = took.stands behind s in (h.0.taken, new.held, h.1, h.0.asked))
         (refl, took.keeps.0, took.keeps.1, took.goes_on, may, took.keeps.2) (λ e. cc) tt (λ e. cc) (λ e. cc)
 
     -- where nothing was fed
@@ -180,28 +179,28 @@ module _ (F : Framing) {S : Type 0} (A : Answering S) where
     module _ {E : Type 0} (told : E → ProcessError) (mid : State) (b : Input) (m : Output) where
       -- the reply is written
       module _ (took : Took F A told old mid before after (Ok Reply)) (unread : b ≡ a) (sends : Sends k m mid.waiting new.waiting) where
-        wrote_reply : (bytes cuts written : List ℕ) (opening : S) (exchanges : List (Exchange F)) → Stands F A bytes cuts old.held opening before written [] exchanges
-            → (x : Exchange F) × Stands F A bytes cuts mid.held opening after (written ++ sends.sent) new.waiting (exchanges ++ x ∷ [])
-        wrote_reply bytes cuts written opening exchanges s =
-            let h = took.stands bytes cuts written opening exchanges s in
-            (h.0, sent_on F A bytes cuts mid.held opening after written mid.waiting sends.sent new.waiting (exchanges ++ h.0 ∷ []) sends.splits h.1)
+        wrote_reply : (behind : Past F S) → Stands F A behind old.held before []
+            → (x : Exchange F) × Stands F A (past behind.bytes behind.cuts behind.opening (behind.written ++ sends.sent) (behind.exchanges ++ x ∷ [])) mid.held after new.waiting
+        wrote_reply behind s =
+            let h = took.stands behind s in
+            (h.0, sent_on F A (with_exchange behind h.0) mid.held after mid.waiting sends.sent new.waiting sends.splits h.1)
 
         -- some of the reply, or all of it
         writes_as : (result : Result Step ProcessError)
-            → ForAll old.held before (λ bytes cuts written opening exchanges. StepsAs F A bytes cuts new.held opening after (written ++ sends.sent) new.waiting exchanges result)
-            → ForAll old.held before (λ bytes cuts written opening exchanges. ReadsLast F bytes cuts exchanges result)
-            → LeavesAs F.Waits F.most [] [] may_read old new before after result → result ≢ Err NoMemory → EndsInput result b.left → (result ≡ Err ReadFault → ⊥) → (result ≡ Err WriteFault → Rose k.faults m.faults)
-            → Stepped F A old new before after a b k m may_read result
+            → ForAll old.held before (λ behind. StepsAs F A (past behind.bytes behind.cuts behind.opening (behind.written ++ sends.sent) behind.exchanges) new.held after new.waiting result)
+            → ForAll old.held before (λ behind. ReadsLast F behind.bytes behind.cuts behind.exchanges result)
+            → LeavesAs F [] may_read old new before after result → result ≢ Err NoMemory → EndsInput result b.left → (result ≡ Err ReadFault → ⊥) → (result ≡ Err WriteFault → Rose k.faults m.faults)
+            → Stepped F A old new (moment before a k) (moment after b m) may_read result
         writes_as result stands last leaves there ended no_read_fault cause = record {
           fed = [];
           made = [];
           sent = sends.sent;
-          passes = passes_out a b k m sends.sent unread sends.sink sends.wrote;
-          stands = λ bytes cuts written opening exchanges s.
-              along (λ x y z. StepsAs F A x y new.held opening after z new.waiting exchanges result) (bytes ++ []) bytes (cuts ++ []) cuts (written ++ sends.sent) (written ++ sends.sent)
-              (append-nil bytes) (append-nil cuts) refl (stands bytes cuts written opening exchanges s);
+          passes = passes_out (outside a k) (outside b m) sends.sent unread sends.sink sends.wrote;
+          stands = λ behind s.
+              along (λ x y z. StepsAs F A (past x y behind.opening z behind.exchanges) new.held after new.waiting result) (behind.bytes ++ []) behind.bytes (behind.cuts ++ []) behind.cuts (behind.written ++ sends.sent) (behind.written ++ sends.sent)
+              (append-nil behind.bytes) (append-nil behind.cuts) refl (stands behind s);
           last = last;
-          rooms = λ bytes cuts written opening exchanges s. tt;
+          rooms = λ behind s. tt;
           leaves = leaves;
           memory = λ e. absurd (there e);
           ended = λ t. ended;
@@ -210,61 +209,61 @@ module _ (F : Framing) {S : Type 0} (A : Answering S) where
           write_fault = cause;
         }
 
-        pub stepped_sent : (result : Result Step ProcessError) → Writes mid new result → (result ≡ Err WriteFault → Rose k.faults m.faults) → Stepped F A old new before after a b k m may_read result
+        pub stepped_sent : (result : Result Step ProcessError) → Writes mid new result → (result ≡ Err WriteFault → Rose k.faults m.faults) → Stepped F A old new (moment before a k) (moment after b m) may_read result
         unfolding wrote_reply
         stepped_sent (Ok Answered) writes cause =
             writes_as (Ok Answered)
-            (λ bytes cuts written opening exchanges s.
-            let h = took.stands bytes cuts written opening exchanges s in
-            let w = wrote_reply bytes cuts written opening exchanges s in
-            (w.0, subst (λ held. Stands F A bytes cuts held opening after (written ++ sends.sent) new.waiting (exchanges ++ w.0 ∷ [])) (sym writes.0) w.1, h.2))
-            (λ bytes cuts written opening exchanges s. tt) (refl, subst (λ h. length h < length old.held) (sym writes.0) took.keeps, writes.1, writes.2 ∙ took.goes_on) (λ e. cc) tt (λ e. cc) cause
+            (λ behind s.
+            let h = took.stands behind s in
+            let w = wrote_reply behind s in
+            (w.0, subst (λ held. Stands F A (past behind.bytes behind.cuts behind.opening (behind.written ++ sends.sent) (behind.exchanges ++ w.0 ∷ [])) held after new.waiting) (sym writes.0) w.1, h.2))
+            (λ behind s. tt) (refl, subst (λ h. length h < length old.held) (sym writes.0) took.keeps, writes.1, writes.2 ∙ took.goes_on) (λ e. cc) tt (λ e. cc) cause
         stepped_sent (Err WriteFault) writes cause =
             writes_as (Err WriteFault)
-            (λ bytes cuts written opening exchanges s.
-            let w = wrote_reply bytes cuts written opening exchanges s in
-            (w.0, record { held = mid.held; waiting = new.waiting; exchanges = exchanges ++ w.0 ∷ []; stood = w.1 }, refl))
-            (λ bytes cuts written opening exchanges s. tt) (refl, writes.1, tt) (λ e. cc) tt (λ e. cc) cause
+            (λ behind s.
+            let w = wrote_reply behind s in
+            (w.0, record { held = mid.held; waiting = new.waiting; exchanges = behind.exchanges ++ w.0 ∷ []; stood = w.1 }, refl))
+            (λ behind s. tt) (refl, writes.1, tt) (λ e. cc) tt (λ e. cc) cause
         stepped_sent (Ok _) writes cause = absurd writes
         stepped_sent (Err _) writes cause = absurd writes
 
       -- a read is made
       module _ (took : Took F A told old mid before after (Ok Waiting)) (unsent : m ≡ k) (may : may_read ≡ true) where
-        all_answered : (bytes cuts written : List ℕ) (opening : S) (exchanges : List (Exchange F)) → Stands F A bytes cuts old.held opening before written [] exchanges → AreAllAnswered F bytes cuts exchanges
-        all_answered bytes cuts written opening exchanges s = let h = took.stands bytes cuts written opening exchanges s in (h.0.taken, mid.held, h.1, h.0.asked)
+        all_answered : (behind : Past F S) → Stands F A behind old.held before [] → AreAllAnswered F behind.bytes behind.cuts behind.exchanges
+        all_answered behind s = let h = took.stands behind s in (h.0.taken, mid.held, h.1, h.0.asked)
 
         idle_not : may_read ≡ false → b ≡ a
         idle_not e = let clash : true ≡ false = sym may ∙ e in absurd cc
 
-        served_all : (bytes cuts written : List ℕ) (opening : S) (exchanges : List (Exchange F)) → Stands F A bytes cuts old.held opening before written [] exchanges → ServedAfter F A bytes cuts opening after written exchanges (remaining mid.held)
-        served_all bytes cuts written opening exchanges s =
-            let h = took.stands bytes cuts written opening exchanges s in halted_after F A bytes cuts mid.held opening after written exchanges h.0 (remaining mid.held) after (h.1, refl)
+        served_all : (behind : Past F S) → Stands F A behind old.held before [] → ServedAfter F A behind after (remaining mid.held)
+        served_all behind s =
+            let h = took.stands behind s in halted_after F A behind mid.held after h.0 (remaining mid.held) after (h.1, refl)
 
-        wanting_all : F.ReadsTakeMemory → (bytes cuts written : List ℕ) (opening : S) (exchanges : List (Exchange F)) → Stands F A bytes cuts old.held opening before written [] exchanges
-            → WantingAfter F A bytes cuts opening after written exchanges
-        wanting_all takes bytes cuts written opening exchanges s =
-            let h = took.stands bytes cuts written opening exchanges s in
-            wanting_after F A bytes cuts mid.held opening after written exchanges h.0 after (inr (inl (takes, h.1, refl)))
+        wanting_all : F.ReadsTakeMemory → (behind : Past F S) → Stands F A behind old.held before []
+            → WantingAfter F A behind after
+        wanting_all takes behind s =
+            let h = took.stands behind s in
+            wanting_after F A behind mid.held after h.0 after (inr (inl (takes, h.1, refl)))
 
-        passes_read : (result : Result Step ProcessError) (reads : Reads F a b mid new result) → RisesTo 0 reads.made (length reads.fed) → Passes a b k m reads.fed reads.made []
-        passes_read result reads rises = passes_in a b k m reads.fed reads.made unsent reads.source reads.read reads.cuts rises
+        passes_read : (result : Result Step ProcessError) (reads : Reads F a b mid new result) → RisesTo 0 reads.made (length reads.fed) → Passes (outside a k) (outside b m) reads.fed reads.made []
+        passes_read result reads rises = passes_in (outside a k) (outside b m) reads.fed reads.made unsent reads.source reads.read reads.cuts rises
 
         -- it gave nothing
         reads_none : (result : Result Step ProcessError) (reads : Reads F a b mid new result) → reads.fed ≡ [] → reads.made ≡ []
-            → ForAll old.held before (λ bytes cuts written opening exchanges. StepsAs F A bytes cuts new.held opening after written new.waiting exchanges result)
-            → ForAll old.held before (λ bytes cuts written opening exchanges. ReadsLast F bytes cuts exchanges result)
-            → LeavesAs F.Waits F.most reads.fed reads.made may_read old new before after result → Memory old.held before after result → (result ≡ Err WriteFault → ⊥)
-            → Stepped F A old new before after a b k m may_read result
+            → ForAll old.held before (λ behind. StepsAs F A behind new.held after new.waiting result)
+            → ForAll old.held before (λ behind. ReadsLast F behind.bytes behind.cuts behind.exchanges result)
+            → LeavesAs F reads.made may_read old new before after result → Memory old.held before after result → (result ≡ Err WriteFault → ⊥)
+            → Stepped F A old new (moment before a k) (moment after b m) may_read result
         reads_none result reads none_fed none_made stands last leaves memory no_write_fault = record {
           fed = reads.fed;
           made = reads.made;
           sent = [];
           passes = passes_read result reads (rises_none reads.fed reads.made none_fed none_made);
-          stands = λ bytes cuts written opening exchanges s.
-              unfed (λ x y z. StepsAs F A x y new.held opening after z new.waiting exchanges result) bytes cuts written reads.fed reads.made none_fed none_made
-              (stands bytes cuts written opening exchanges s);
+          stands = λ behind s.
+              unfed (λ x y z. StepsAs F A (past x y behind.opening z behind.exchanges) new.held after new.waiting result) behind.bytes behind.cuts behind.written reads.fed reads.made none_fed none_made
+              (stands behind s);
           last = last;
-          rooms = λ bytes cuts written opening exchanges s. no_rooms bytes reads.fed reads.made none_made;
+          rooms = λ behind s. no_rooms behind.bytes reads.fed reads.made none_made;
           leaves = leaves;
           memory = memory;
           ended = reads.ended;
@@ -273,7 +272,7 @@ module _ (F : Framing) {S : Type 0} (A : Answering S) where
           write_fault = λ e. absurd (no_write_fault e);
         }
 
-        pub stepped_read : (result : Result Step ProcessError) → Reads F a b mid new result → Stepped F A old new before after a b k m may_read result
+        pub stepped_read : (result : Result Step ProcessError) → Reads F a b mid new result → Stepped F A old new (moment before a k) (moment after b m) may_read result
         stepped_read (Ok MoreRead) reads =
             let gives = reads.gives in
             let fed = reads.fed in
@@ -283,20 +282,20 @@ module _ (F : Framing) {S : Type 0} (A : Answering S) where
               made = reads.made;
               sent = [];
               passes = passes_read (Ok MoreRead) reads (rises_one fed reads.made gives.0 gives.1 gives.2);
-              stands = λ bytes cuts written opening exchanges s.
-                  let h = took.stands bytes cuts written opening exchanges s in
-                  let g = gives.6 bytes cuts h.0.taken h.0.stands in
-                  along (λ x y z. StepsAs F A x y new.held opening after z new.waiting exchanges (Ok MoreRead)) (bytes ++ fed) (bytes ++ fed)
-                  (cuts ++ totals (shifted (length bytes) reads.made)) (cuts ++ length (bytes ++ fed) ∷ []) (written ++ []) written refl
-                  (ap (λ (m : List (ℕ × ℕ)). cuts ++ totals (shifted (length bytes) m)) gives.1 ∙ ap (λ n. cuts ++ n ∷ []) (sym (length-append bytes fed))) (append-nil written)
-                  (subst (λ w. Stands F A (bytes ++ fed) (cuts ++ length (bytes ++ fed) ∷ []) new.held opening after written w exchanges) (sym none)
-                  (fed_on F A bytes cuts mid.held new.held fed opening after written [] exchanges h.0 g.1));
+              stands = λ behind s.
+                  let h = took.stands behind s in
+                  let g = gives.6 behind.bytes behind.cuts h.0.taken h.0.stands in
+                  along (λ x y z. StepsAs F A (past x y behind.opening z behind.exchanges) new.held after new.waiting (Ok MoreRead)) (behind.bytes ++ fed) (behind.bytes ++ fed)
+                  (behind.cuts ++ totals (shifted (length behind.bytes) reads.made)) (behind.cuts ++ length (behind.bytes ++ fed) ∷ []) (behind.written ++ []) behind.written refl
+                  (ap (λ (m : List (ℕ × ℕ)). behind.cuts ++ totals (shifted (length behind.bytes) m)) gives.1 ∙ ap (λ n. behind.cuts ++ n ∷ []) (sym (length-append behind.bytes fed))) (append-nil behind.written)
+                  (subst (λ w. Stands F A (past (behind.bytes ++ fed) (behind.cuts ++ length (behind.bytes ++ fed) ∷ []) behind.opening behind.written behind.exchanges) new.held after w) (sym none)
+                  (fed_on F A behind mid.held new.held fed after [] h.0 g.1));
               last = all_answered;
-              rooms = λ bytes cuts written opening exchanges s.
-                  let h = took.stands bytes cuts written opening exchanges s in
-                  let g = gives.6 bytes cuts h.0.taken h.0.stands in
-                  subst (λ (m : List (ℕ × ℕ)). HaveRooms F.HasRoom (bytes ++ fed) (length bytes) (shifted (length bytes) m)) (sym gives.1)
-                  (subst (λ x. F.HasRoom x gives.0) (sym (take_at bytes fed (length bytes) refl)) g.0, tt);
+              rooms = λ behind s.
+                  let h = took.stands behind s in
+                  let g = gives.6 behind.bytes behind.cuts h.0.taken h.0.stands in
+                  subst (λ (m : List (ℕ × ℕ)). HaveRooms F.HasRoom (behind.bytes ++ fed) (length behind.bytes) (shifted (length behind.bytes) m)) (sym gives.1)
+                  (subst (λ x. F.HasRoom x gives.0) (sym (take_at behind.bytes fed (length behind.bytes) refl)) g.0, tt);
               leaves = (ap length gives.1, gives.5, none, gives.4 ∙ took.goes_on, may, took.keeps.2);
               memory = λ e. absurd cc;
               ended = reads.ended;
@@ -309,23 +308,23 @@ module _ (F : Framing) {S : Type 0} (A : Answering S) where
             let none : new.waiting ≡ [] = gives.4 ∙ took.keeps.1 in
             let empty : new.held ≡ [] = gives.3 ∙ gives.2 in
             reads_none (Ok Ended) reads gives.0 gives.1
-            (λ bytes cuts written opening exchanges s.
-            let h = took.stands bytes cuts written opening exchanges s in
-            subst (λ held. (s : Stands F A bytes cuts held opening after written new.waiting exchanges) × F.IsAll bytes cuts held s.taken × (held ≡ [])) (sym gives.3)
-            (subst (λ w. (s : Stands F A bytes cuts mid.held opening after written w exchanges) × F.IsAll bytes cuts mid.held s.taken × (mid.held ≡ [])) (sym none) (h.0, h.1, gives.2)))
+            (λ behind s.
+            let h = took.stands behind s in
+            subst (λ held. (s : Stands F A behind held after new.waiting) × F.IsAll behind.bytes behind.cuts held s.taken × (held ≡ [])) (sym gives.3)
+            (subst (λ w. (s : Stands F A behind mid.held after w) × F.IsAll behind.bytes behind.cuts mid.held s.taken × (mid.held ≡ [])) (sym none) (h.0, h.1, gives.2)))
             all_answered (gives.1, empty, none, gives.5, may, took.keeps.2) (λ e. cc) (λ e. cc)
         stepped_read (Err BytesRemaining) reads =
             let gives = reads.gives in
             reads_none (Err BytesRemaining) reads gives.0 gives.1
-            (λ bytes cuts written opening exchanges s. (mid.held, gives.2, served_all bytes cuts written opening exchanges s)) all_answered (gives.1, gives.3, may) (λ e. cc) (λ e. cc)
+            (λ behind s. (mid.held, gives.2, served_all behind s)) all_answered (gives.1, gives.3, may) (λ e. cc) (λ e. cc)
         stepped_read (Err ReadFault) reads =
             let gives = reads.gives in
             reads_none (Err ReadFault) reads gives.0 gives.1
-            (λ bytes cuts written opening exchanges s. (mid.held, served_all bytes cuts written opening exchanges s)) all_answered (gives.1, gives.2, may) (λ e. cc) (λ e. cc)
+            (λ behind s. (mid.held, served_all behind s)) all_answered (gives.1, gives.2, may) (λ e. cc) (λ e. cc)
         stepped_read (Err NoMemory) reads =
             let gives = reads.gives in
             reads_none (Err NoMemory) reads gives.0 gives.1 (wanting_all gives.3)
-            (λ bytes cuts written opening exchanges s. inr (inl (all_answered bytes cuts written opening exchanges s))) (gives.1, gives.2, tt)
+            (λ behind s. inr (inl (all_answered behind s))) (gives.1, gives.2, tt)
             (λ e bytes cuts taken s. inr (gives.3, took.keeps.2)) (λ e. cc)
         stepped_read (Ok _) reads = absurd reads.gives
         stepped_read (Err _) reads = absurd reads.gives

@@ -1,5 +1,5 @@
 -- The failing place of a call over ADUs is the first one.
-use Rattle.std.proofs.Common.{◌≡◌, inl, inr, ℕ, ◌≤◌, List, [], ◌∷◌, ◌++◌, map, length, refl, sym, ap, ◌∙◌, subst, arith, Err, length-append, append_assoc, append-nil}
+use Rattle.std.proofs.Common.{◌≡◌, inl, inr, ℕ, ◌≤◌, List, [], ◌∷◌, ◌++◌, map, length, refl, sym, ap, ◌∙◌, subst, arith, Err, length-append, append_assoc}
 use Rattle.std.specs.Prelude.{All}
 use Rattle.std.proofs.lemmas.Bool.{cases_lt}
 use Rattle.modbus_frame.specs.declared.fault.Reason.{Reason}
@@ -11,7 +11,7 @@ use Rattle.modbus_service.specs.Answering.{Answering}
 use Rattle.modbus_server.specs.declared.error.ProcessError.TheVariants.{InvalidLength, InvalidProtocol}
 use Rattle.modbus_server.specs.Exchanges.{Exchange, Run, ReplyFits, told_reply_size, asked_of, asks}
 use Rattle.modbus_server.specs.Tcp.{tcp, IsNextAdu}
-use Rattle.modbus_server.specs.Serving.{Served, Halt, Halts, remaining, broken, refused, too_long, asked_last, all_asked}
+use Rattle.modbus_server.specs.Served.{Served, Halt, Halts, remaining, broken, refused, too_long, all_asked}
 use Rattle.modbus_server.specs.FirstAdu.{HasAduFault, IsFirstAduFault}
 use Rattle.modbus_server.proofs.Asked.{all_fit, last_or_within, same_after, no_refusal, as_many, within_front, asked_well, one_first}
 use Rattle.modbus_server.proofs.Standing.{run_more}
@@ -84,36 +84,39 @@ module _ (one : (bytes rest left : List ℕ) (adus others : List (Header × List
     not_before adus tail kind e place (too_long size) (earlier, message, later, splits, count, before', x, after, all, count', asks', is, long) =
         absurd (all_fit tcp exchanges before' after x size fit all is long)
 
-    alone : (halt : Halt) → FirstAduFault halt exchanges → FirstAduFault halt (exchanges ++ [])
-    alone halt h = subst (λ all. FirstAduFault halt all) (sym (append-nil exchanges)) h
+    abbrev all_of : (halt : Halt) → Halts tcp A bytes cuts before ends now halt → List (Exchange tcp)
+    all_of (remaining left) h = exchanges
+    all_of (broken fault) h = exchanges
+    all_of (refused reason) h = exchanges
+    all_of (too_long size) h = exchanges ++ h.2 ∷ []
 
-    by_halts : (halt : Halt) (h : Halts tcp A bytes cuts before ends now halt) → FirstAduFault halt (exchanges ++ asked_last tcp A bytes cuts before ends now halt h)
-    by_halts (remaining left) (inl split, same) = alone (remaining left) (
+    by_halts : (halt : Halt) (h : Halts tcp A bytes cuts before ends now halt) → FirstAduFault halt (all_of halt h)
+    by_halts (remaining left) (inl split, same) = (
       ran same,
       λ adus rest kind whole.
           let is = one bytes rest left adus before kind empty whole split in
           none_fails adus kind is.0 (λ bad. cc) (λ protocol bad. cc),
     )
-    by_halts (remaining left) (inr split, same) = alone (remaining left) (
+    by_halts (remaining left) (inr split, same) = (
       ran same,
       λ adus rest kind whole.
           let is = one bytes rest left adus before kind unfinished whole split in
           none_fails adus kind is.0 (λ bad. cc) (λ protocol bad. cc),
     )
-    by_halts (broken InvalidLength) ((left, split), same) = alone (broken InvalidLength) (
+    by_halts (broken InvalidLength) ((left, split), same) = (
       ran same,
       λ adus rest kind whole.
           let is = one bytes rest left adus before kind no_length whole split in
           (length adus, (refl, is.2), only_rest adus kind is.0),
     )
-    by_halts (broken (InvalidProtocol protocol)) ((left, split), same) = alone (broken (InvalidProtocol protocol)) (
+    by_halts (broken (InvalidProtocol protocol)) ((left, split), same) = (
       ran same,
       λ adus rest kind whole.
           let is = one bytes rest left adus before kind (foreign protocol) whole split in
           (length adus, (refl, is.2), only_rest adus kind is.0),
     )
     by_halts (broken _) (b, same) = absurd b
-    by_halts (refused reason) (message, t, bad, same) = alone (refused reason) (
+    by_halts (refused reason) (message, t, bad, same) = (
       ran same,
       λ adus rest kind whole.
           let after = next_of_all rest adus before kind message whole t in
@@ -143,8 +146,11 @@ module _ (one : (bytes rest left : List ℕ) (adus others : List (Header × List
               | inr same ↦ omega (arith, same, count', as_many tcp before exchanges asked)
             ]
 
-  pub first_adu_fault : (halt : Halt) (s : Served tcp A bytes cuts opening now written halt) → FirstAduFault halt (all_asked tcp A bytes cuts opening now written halt s)
-  first_adu_fault halt s = by_halts s.before s.exchanges s.asked s.fit s.ends s.run halt s.halts
+  pub first_adu_fault : (halt : Halt) (s : Served tcp A bytes cuts opening now written halt) → FirstAduFault halt (all_asked halt s)
+  first_adu_fault (remaining left) s = by_halts s.before s.exchanges s.asked s.fit s.ends s.run (remaining left) s.halts
+  first_adu_fault (broken fault) s = by_halts s.before s.exchanges s.asked s.fit s.ends s.run (broken fault) s.halts
+  first_adu_fault (refused reason) s = by_halts s.before s.exchanges s.asked s.fit s.ends s.run (refused reason) s.halts
+  first_adu_fault (too_long size) s = by_halts s.before s.exchanges s.asked s.fit s.ends s.run (too_long size) s.halts
 
 -- two kinds of fault are not both the first
 module _ (adus : List (Header × List ℕ)) (kind : Rest) (all : List (Exchange tcp)) where

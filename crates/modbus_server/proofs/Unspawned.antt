@@ -4,7 +4,7 @@ use Rattle.modbus_frame.specs.declared.server.Terminated.{Terminated}
 use Rattle.modbus_frame.specs.declared.server.Terminated.TheVariants.{Finished, Aborted}
 use Rattle.modbus_server.specs.declared.error.ServeError.{ServeError}
 use Rattle.modbus_server.specs.declared.error.ServeError.TheVariants.{AcceptFault, Connect, SpawnFault, NoMemory}
-use Rattle.modbus_server.specs.Listening.{Parts, Listener, Connected, StartedFor, AcceptsOne, AcceptsMany, AcceptsLast, Accepts, unspawned, without_spawner}
+use Rattle.modbus_server.specs.Listener.{Parts, Listener, Connected, StartedFor, AcceptsOne, AcceptsMany, AcceptsLast, Accepts, unspawned, without_spawner}
 
 module _ {A C P X K L V E H : Type 0} (parts : Parts A C P K L V E H) (looks : X → Bool → X → Type 0) (on_error : H) where
   abbrev told : Parts A C (Unit {0}) K L V E H

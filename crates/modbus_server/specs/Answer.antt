@@ -7,10 +7,10 @@ use Rattle.modbus_pdu.specs.Limits.{max_pdu}
 use Rattle.modbus_pdu.specs.Coding.{Fits, told_size}
 use Rattle.modbus_pdu.specs.RequestOf.{CarriesList}
 use Rattle.modbus_pdu.specs.ResponsePdu.{response_result_pdu}
-use Rattle.modbus_server.specs.declared.error.AnswerError.{AnswerError}
-use Rattle.modbus_server.specs.declared.error.AnswerError.TheVariants.{Refused, TooLong, NoMemory}
-use Rattle.modbus_server.specs.declared.error.Answer.{Answer}
-use Rattle.modbus_server.specs.declared.error.Answer.TheVariants.{Framed, Quiet}
+use Rattle.modbus_server.specs.declared.error.Next.{Next}
+use Rattle.modbus_server.specs.declared.error.Next.TheVariants.{Reply, Silent}
+use Rattle.modbus_server.specs.declared.error.NextError.{NextError}
+use Rattle.modbus_server.specs.declared.error.NextError.TheVariants.{Refused, TooLong, NoMemory}
 use Rattle.modbus_service.specs.Outcome.{silence}
 use Rattle.modbus_server.specs.Framing.{Framing, Message}
 use Rattle.modbus_service.specs.Answering.{Answering}
@@ -27,19 +27,20 @@ WantsFor F A message old new =
     (request : Asked) × (F.request_of message.1 ≡ Ok request) × ((CarriesList request × (new ≡ old)) ⊎ A.wants old (F.slave message.0) request new)
 
 -- An answer is framed, or is too long. There is room for each reply.
-abbrev pub FramesAs : (F : Framing) → F.Header → Result Response ExceptionResponse → Result Answer AnswerError → List ℕ → Type 0
-FramesAs F header given (Ok Framed) made = Fits (response_result_pdu given) × (made ≡ F.adu header (response_result_pdu given))
-FramesAs F header given (Ok Quiet) made = ⊥
+abbrev pub FramesAs : (F : Framing) → {E : Type 0} → F.Header → Result Response ExceptionResponse → Result Next (NextError E) → List ℕ → Type 0
+FramesAs F header given (Ok Reply) made = Fits (response_result_pdu given) × (made ≡ F.adu header (response_result_pdu given))
+FramesAs F header given (Ok _) made = ⊥
 FramesAs F header given (Err (TooLong size)) made = (max_pdu < length (response_result_pdu given)) × (size ≡ told_size (response_result_pdu given))
-FramesAs F header given (Err (Refused reason)) made = ⊥
-FramesAs F header given (Err NoMemory) made = ⊥
+FramesAs F header given (Err _) made = ⊥
 
 -- The reply is framed, there is none, or why there is no answer. There is room for each reply.
-abbrev pub AnswersAs : (F : Framing) → {S : Type 0} → Answering S → Message F → S → Result Answer AnswerError → S → List ℕ → Type 0
-AnswersAs F A message old (Ok Framed) new made =
+abbrev pub AnswersAs : (F : Framing) → {S E : Type 0} → Answering S → Message F → S → Result Next (NextError E) → S → List ℕ → Type 0
+AnswersAs F A message old (Ok Reply) new made =
     (x : Exchange F) × Answered F A message old new x × ReplyFits F x × (x.outcome ≢ silence) × (made ≡ reply_of F x)
-AnswersAs F A message old (Ok Quiet) new made = (x : Exchange F) × Answered F A message old new x × ReplyFits F x × (x.outcome ≡ silence) × (made ≡ [])
+AnswersAs F A message old (Ok Silent) new made = (x : Exchange F) × Answered F A message old new x × ReplyFits F x × (x.outcome ≡ silence) × (made ≡ [])
+AnswersAs F A message old (Ok _) new made = ⊥
 AnswersAs F A message old (Err (Refused reason)) new made = (F.request_of message.1 ≡ Err reason) × (new ≡ old)
 AnswersAs F A message old (Err (TooLong size)) new made =
     (x : Exchange F) × Answered F A message old new x × (size ≡ told_reply_size F x) × (max_pdu < size)
 AnswersAs F A message old (Err NoMemory) new made = WantsFor F A message old new
+AnswersAs F A message old (Err _) new made = ⊥

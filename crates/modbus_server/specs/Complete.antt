@@ -1,10 +1,11 @@
 -- When a call of a server comes to the end of its input.
 use Rattle.std.specs.Prelude.{◌≡◌, ◌⊎◌, ℕ, ◌<◌, List, ◌++◌, map, length, All, IsTrue, Result, Ok, Err}
 use Rattle.modbus_frame.specs.Meaning.{Asked}
-use Rattle.modbus_link.specs.Outside.{Input, Output, Rose}
+use Rattle.modbus_link.specs.Outside.{Rose}
 use Rattle.modbus_service.specs.Answering.{Answering}
 use Rattle.modbus_server.specs.declared.error.ProcessError.{ProcessError}
 use Rattle.modbus_server.specs.declared.error.ProcessError.TheVariants.{NoMemory}
+use Rattle.modbus_server.specs.Moment.{Moment}
 use Rattle.modbus_server.specs.Framing.{Framing, Message}
 use Rattle.modbus_server.specs.Exchanges.{Exchange, Run, ReplyFits, asked_of, asks}
 
@@ -24,6 +25,8 @@ RepliesFit F {S} A opening messages = (xs : List (Exchange F)) (end : S) (front 
 
 -- A clean line of fewer bytes than there are turns is served to its end, where every reply fits and neither the source nor the sink
 -- has a fault, or memory is wanting.
-abbrev pub Completes : (F : Framing) → {S : Type 0} → Answering S → S → Input → Input → Output → Output → ℕ → Result (Unit {0}) ProcessError → Type 0
-Completes F A opening from to sunk sinks turns result = IsTrue from.told → (clean : IsCleanLine F from.left) → RepliesFit F A opening clean.messages
-    → length from.left < turns → (Rose from.faults to.faults → ⊥) → (Rose sunk.faults sinks.faults → ⊥) → (result ≡ Ok tt) ⊎ (result ≡ Err NoMemory)
+abbrev pub Completes : (F : Framing) → {S : Type 0} → Answering S → ℕ → Moment S → Moment S → Result (Unit {0}) ProcessError → Type 0
+Completes F A turns before after result = IsTrue before.outside.input.told
+    → (clean : IsCleanLine F before.outside.input.left) → RepliesFit F A before.service clean.messages
+    → length before.outside.input.left < turns → (Rose before.outside.input.faults after.outside.input.faults → ⊥)
+    → (Rose before.outside.output.faults after.outside.output.faults → ⊥) → (result ≡ Ok tt) ⊎ (result ≡ Err NoMemory)

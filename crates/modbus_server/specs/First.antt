@@ -1,6 +1,6 @@
 -- What fails first, by places.
 use Rattle.std.specs.Prelude.{ℕ, ◌≤◌}
-use Rattle.modbus_server.specs.Serving.{Halt, remaining}
+use Rattle.modbus_server.specs.Served.{Halt, remaining}
 
 -- Of what fails at a place: nothing does, where some bytes are left after all messages; else it is the first place where something
 -- fails.

@@ -6,7 +6,7 @@ use Rattle.modbus_pdu.specs.RequestOf.{request_of}
 use Rattle.modbus_tcp.specs.Stream.{Rest, no_length, foreign}
 use Rattle.modbus_server.specs.declared.error.ProcessError.TheVariants.{InvalidLength, InvalidProtocol}
 use Rattle.modbus_server.specs.Exchanges.{Exchange, told_reply_size, asked_of, asks}
-use Rattle.modbus_server.specs.Serving.{Halt, remaining, broken, refused, too_long}
+use Rattle.modbus_server.specs.Served.{Halt, remaining, broken, refused, too_long}
 use Rattle.modbus_server.specs.First.{IsFirst}
 use Rattle.modbus_server.specs.Tcp.{tcp}
 

@@ -4,8 +4,7 @@ use Rattle.modbus_server.specs.declared.error.ProcessError.{ProcessError}
 use Rattle.modbus_server.specs.declared.error.ProcessError.TheVariants.{ReadFault, WriteFault, TurnLimit, NoMemory}
 use Rattle.modbus_server.specs.Framing.{Framing}
 use Rattle.modbus_service.specs.Answering.{Answering}
-use Rattle.modbus_server.specs.Exchanges.{Exchange}
-use Rattle.modbus_server.specs.Serving.{Stands, EndsAs}
+use Rattle.modbus_server.specs.Served.{Past, Stands, EndsAs}
 use Rattle.modbus_server.specs.Complete.{IsCleanLine, RepliesFit}
 
 -- an answer that comes of no read
@@ -19,8 +18,7 @@ pub record ServedHeld (F : Framing) {S : Type 0} (A : Answering S) (held : List 
   pub sent : List ℕ
   pub appended : new ≡ old ++ sent
   pub only : IsOfNoRead result
-  pub ends : (bytes cuts written : List ℕ) (opening : S) (exchanges : List (Exchange F)) → Stands F A bytes cuts held opening before written [] exchanges
-      → EndsAs F A bytes cuts opening after (written ++ sent) result
+  pub ends : (behind : Past F S) → Stands F A behind held before [] → EndsAs F A behind.bytes behind.cuts behind.opening after (behind.written ++ sent) result
 
 -- Of a piece as the whole input, which one read gave: the run ends so, and these bytes are appended to the replies. Or memory for a
 -- connection was refused, and nothing was done.

@@ -2,7 +2,7 @@
 use Rattle.std.specs.Prelude.{◌≡◌, ◌≢◌, ◌⊎◌, ℕ, ◌+◌, ◌≤◌, List, [], ◌++◌, length, Bool, true, IsTrue, Result, Ok, Err}
 use Rattle.modbus_link.specs.declared.polled.Polled.{Polled}
 use Rattle.modbus_link.specs.declared.polled.Polled.TheVariants.{Ready, Pending}
-use Rattle.modbus_link.specs.Outside.{Input, Output, Rose, Advances, IsFront, bytes_read, cuts_made, shifted, RisesTo}
+use Rattle.modbus_link.specs.Outside.{Input, Outside, Rose, Advances, IsFront, bytes_read, cuts_made, shifted, RisesTo}
 use Rattle.modbus_link.specs.Passing.{Passes}
 use Rattle.modbus_link.specs.Polled.{is_pending}
 use Rattle.modbus_link.specs.Reads.{totals, HaveRooms, Spends}
@@ -12,10 +12,11 @@ use Rattle.modbus_server.specs.declared.error.Step.{Step}
 use Rattle.modbus_server.specs.Framing.{Framing}
 use Rattle.modbus_service.specs.Answering.{Answering}
 use Rattle.modbus_server.specs.Exchanges.{Exchange}
-use Rattle.modbus_server.specs.Serving.{Stands, EndsAs}
+use Rattle.modbus_server.specs.Served.{Past, past, Stands, EndsAs}
+use Rattle.modbus_server.specs.Moment.{Moment}
 use Rattle.modbus_server.specs.State.{State}
-use Rattle.modbus_server.specs.Moving.{Writes, Reads}
-use Rattle.modbus_server.specs.Stepping.{Stepped, EndsRead, spending_of, Ran}
+use Rattle.modbus_server.specs.Transfer.{Writes, Reads}
+use Rattle.modbus_server.specs.Step.{Stepped, EndsRead, spending_of, Ran}
 use Rattle.modbus_server.specs.Complete.{Completes}
 
 -- what a polled server keeps
@@ -23,6 +24,9 @@ pub record PolledState : Type 0 where
   pub connection : State
   -- how many reads may still give bytes
   pub left : ℕ
+
+abbrev pub polled : State → ℕ → PolledState
+polled connection left = record { connection = connection; left = left }
 
 -- nothing waits where the link was ready all along, and something where it was not
 abbrev pub IsFlushed : {E : Type 0} → List ℕ → Result (Polled (Unit {0})) E → Type 0
@@ -54,41 +58,55 @@ abbrev pub Rests : Framing → State → Type 0
 Rests F state = (state.waiting ≢ []) ⊎ F.Waits state.held
 
 -- A step found the link not ready: it read nothing, and wrote a front of a reply or nothing.
-pub record Paused (F : Framing) {S : Type 0} (A : Answering S) (old new : State) (before after : S) (from to : Input) (sunk sinks : Output) : Type 0 where
+pub record Paused (F : Framing) {S : Type 0} (A : Answering S) (old new : State) (before after : Moment S) : Type 0 where
   pub sent : List ℕ
-  pub passes : Passes from to sunk sinks [] [] sent
-  pub stands : (bytes cuts written : List ℕ) (opening : S) (exchanges : List (Exchange F)) → Stands F A bytes cuts old.held opening before written [] exchanges
-      → (all : List (Exchange F)) × Stands F A bytes cuts new.held opening after (written ++ sent) new.waiting all
+  pub passes : Passes before.outside after.outside [] [] sent
+  pub stands : (behind : Past F S) → Stands F A behind old.held before.service []
+      → (all : List (Exchange F)) × Stands F A (past behind.bytes behind.cuts behind.opening (behind.written ++ sent) all) new.held after.service new.waiting
   pub is_open : new.is_open ≡ true
   pub rests : Rests F new
 
 -- one step, or as much of it as the link was ready for
-abbrev pub PollSteps : (F : Framing) → {S : Type 0} → Answering S → State → State → S → S → Input → Input → Output → Output → Bool → Result (Polled Step) ProcessError → Type 0
-PollSteps F A old new before after from to sunk sinks may_read (Ok (Ready step)) = Stepped F A old new before after from to sunk sinks may_read (Ok step)
-PollSteps F A old new before after from to sunk sinks may_read (Ok Pending) = Paused F A old new before after from to sunk sinks
-PollSteps F A old new before after from to sunk sinks may_read (Err error) = Stepped F A old new before after from to sunk sinks may_read (Err error)
+abbrev pub PollSteps : (F : Framing) → {S : Type 0} → Answering S → State → State → Moment S → Moment S → Bool → Result (Polled Step) ProcessError → Type 0
+PollSteps F A old new before after may_read (Ok (Ready step)) = Stepped F A old new before after may_read (Ok step)
+PollSteps F A old new before after may_read (Ok Pending) = Paused F A old new before after
+PollSteps F A old new before after may_read (Err error) = Stepped F A old new before after may_read (Err error)
 
--- What a polled server stands for, over all its polls: it was fed these bytes in these reads, and these bytes were written. So many reads
--- may still give bytes, of as many turns.
-pub record PollStands (F : Framing) {S : Type 0} (A : Answering S) (turns : ℕ) (bytes : List ℕ) (made : List (ℕ × ℕ)) (written : List ℕ)
-    (opening now : S) (state : State) (left : ℕ) : Type 0 where
+-- What a polled server has behind it, over all its polls: how many turns it has in all, the bytes that it was fed, the totals and rooms of
+-- the reads that gave them, the service as it was at first, and what was written.
+pub record PolledPast (S : Type 0) : Type 0 where
+  pub turns : ℕ
+  pub bytes : List ℕ
+  pub made : List (ℕ × ℕ)
+  pub opening : S
+  pub written : List ℕ
+
+abbrev pub polled_past : {S : Type 0} → ℕ → List ℕ → List (ℕ × ℕ) → S → List ℕ → PolledPast S
+polled_past turns bytes made opening written = record { turns = turns; bytes = bytes; made = made; opening = opening; written = written }
+
+-- it was fed more in these reads, and more was written
+abbrev pub polled_on : {S : Type 0} → PolledPast S → List ℕ → List (ℕ × ℕ) → List ℕ → PolledPast S
+polled_on behind fed made sent =
+    polled_past behind.turns (behind.bytes ++ fed) (behind.made ++ shifted (length behind.bytes) made) behind.opening (behind.written ++ sent)
+
+-- what a polled server stands for that has this behind it
+pub record PollStands (F : Framing) {S : Type 0} (A : Answering S) (behind : PolledPast S) (now : S) (process : PolledState) : Type 0 where
   pub exchanges : List (Exchange F)
-  pub stands : Stands F A bytes (totals made) state.held opening now written state.waiting exchanges
-  pub rises : RisesTo 0 made (length bytes)
-  pub rooms : HaveRooms F.HasRoom bytes 0 made
-  pub spends : length made + left ≡ turns
+  pub stands : Stands F A (past behind.bytes (totals behind.made) behind.opening behind.written exchanges) process.connection.held now process.connection.waiting
+  pub rises : RisesTo 0 behind.made (length behind.bytes)
+  pub rooms : HaveRooms F.HasRoom behind.bytes 0 behind.made
+  pub spends : length behind.made + process.left ≡ behind.turns
 
--- how a polled server ended, over all its polls
-pub record PollEnds (F : Framing) {S : Type 0} (A : Answering S) (turns : ℕ) (bytes : List ℕ) (made : List (ℕ × ℕ)) (written : List ℕ)
-    (opening now : S) (result : Result (Unit {0}) ProcessError) : Type 0 where
-  pub served : EndsAs F A bytes (totals made) opening now written result
-  pub rooms : HaveRooms F.HasRoom bytes 0 made
-  pub spends : Spends (spending_of result) (length made) turns
+-- how a polled server ended that has this behind it
+pub record PollEnds (F : Framing) {S : Type 0} (A : Answering S) (behind : PolledPast S) (now : S) (result : Result (Unit {0}) ProcessError) : Type 0 where
+  pub served : EndsAs F A behind.bytes (totals behind.made) behind.opening now behind.written result
+  pub rooms : HaveRooms F.HasRoom behind.bytes 0 behind.made
+  pub spends : Spends (spending_of result) (length behind.made) behind.turns
 
 -- what it is after a poll
-abbrev pub PollsAs : (F : Framing) → {S : Type 0} → Answering S → ℕ → List ℕ → List (ℕ × ℕ) → List ℕ → S → S → State → ℕ → Polled (Result (Unit {0}) ProcessError) → Type 0
-PollsAs F A turns bytes made written opening now state left Pending = PollStands F A turns bytes made written opening now state left
-PollsAs F A turns bytes made written opening now state left (Ready result) = PollEnds F A turns bytes made written opening now result
+abbrev pub PollsAs : (F : Framing) → {S : Type 0} → Answering S → PolledPast S → S → PolledState → Polled (Result (Unit {0}) ProcessError) → Type 0
+PollsAs F A behind now process Pending = PollStands F A behind now process
+PollsAs F A behind now process (Ready result) = PollEnds F A behind now result
 
 -- it ends with the input
 abbrev pub EndsPolled : Polled (Result (Unit {0}) ProcessError) → List ℕ → Type 0
@@ -96,31 +114,34 @@ EndsPolled Pending left = Unit {0}
 EndsPolled (Ready result) left = EndsRead result left
 
 -- What one poll promises: it read and wrote these bytes, and for all that the server stood for before it, it stands for that and these
--- after it, or ended so. It is not over only where the link's count of polls that found it not ready rose.
-pub record PolledTo (F : Framing) {S : Type 0} (A : Answering S) (old new : State) (left left' : ℕ) (before after : S) (from to : Input) (sunk sinks : Output)
-    (idle idle' : ℕ) (result : Polled (Result (Unit {0}) ProcessError)) : Type 0 where
+-- after it, or ended so.
+pub record PolledTo (F : Framing) {S : Type 0} (A : Answering S) (old new : PolledState) (before after : Moment S)
+    (result : Polled (Result (Unit {0}) ProcessError)) : Type 0 where
   pub fed : List ℕ
   pub made : List (ℕ × ℕ)
   pub sent : List ℕ
-  pub passes : Passes from to sunk sinks fed made sent
-  pub goes_on : (turns : ℕ) (bytes : List ℕ) (earlier : List (ℕ × ℕ)) (written : List ℕ) (opening : S) → PollStands F A turns bytes earlier written opening before old left
-      → PollsAs F A turns (bytes ++ fed) (earlier ++ shifted (length bytes) made) (written ++ sent) opening after new left' result
-  pub is_open : new.is_open ≡ is_pending result
-  pub rests : result ≡ Pending → Rests F new
+  pub passes : Passes before.outside after.outside fed made sent
+  pub goes_on : (behind : PolledPast S) → PollStands F A behind before.service old → PollsAs F A (polled_on behind fed made sent) after.service new result
+  pub is_open : new.connection.is_open ≡ is_pending result
+  pub rests : result ≡ Pending → Rests F new.connection
   -- it reads only once all that waited is written
-  pub writes_first : fed ≢ [] → IsFront old.waiting sent
-  pub ended : IsTrue from.told → EndsPolled result to.left
+  pub writes_first : fed ≢ [] → IsFront old.connection.waiting sent
+  pub ended : IsTrue before.outside.input.told → EndsPolled result after.outside.input.left
+  pub read_fault : result ≡ Ready (Err ReadFault) → Rose before.outside.input.faults after.outside.input.faults
+  pub write_fault : result ≡ Ready (Err WriteFault) → Rose before.outside.output.faults after.outside.output.faults
+
+-- A poll is not over only where the link's count of polls that found it not ready rose, and this count never falls.
+pub record PollWaits (idle idle' : ℕ) (result : Polled (Result (Unit {0}) ProcessError)) : Type 0 where
   pub waited : result ≡ Pending → Rose idle idle'
   pub later : idle ≤ idle'
-  pub read_fault : result ≡ Ready (Err ReadFault) → Rose from.faults to.faults
-  pub write_fault : result ≡ Ready (Err WriteFault) → Rose sunk.faults sinks.faults
 
 -- the promises of a call to the end, where a poll ended
-abbrev pub RanIfReady : (F : Framing) → {S : Type 0} → Answering S → S → S → Input → Input → Output → Output → ℕ → Polled (Result (Unit {0}) ProcessError) → Type 0
-RanIfReady F A opening after first to firsts sinks turns Pending = Unit {0}
-RanIfReady F A opening after first to firsts sinks turns (Ready result) = Ran F A opening after first to firsts sinks turns result × Completes F A opening first to firsts sinks turns result
+abbrev pub RanIfReady : (F : Framing) → {S : Type 0} → Answering S → ℕ → Moment S → Moment S → Polled (Result (Unit {0}) ProcessError) → Type 0
+RanIfReady F A turns before after Pending = Unit {0}
+RanIfReady F A turns before after (Ready result) = Ran F A turns before after result × Completes F A turns before after result
 
--- A poll that ends does, with all polls before it, what a call to the end does over the link of all polls.
-abbrev pub RunsWhole : (F : Framing) → {S : Type 0} → Answering S → State → ℕ → S → S → Input → Input → Output → Output → Polled (Result (Unit {0}) ProcessError) → Type 0
-RunsWhole F {S} A old left before after from to sunk sinks result = (turns : ℕ) (bytes : List ℕ) (made : List (ℕ × ℕ)) (written : List ℕ) (opening : S) (first : Input) (firsts : Output)
-    → PollStands F A turns bytes made written opening before old left → Passes first from firsts sunk bytes made written → RanIfReady F A opening after first to firsts sinks turns result
+-- A poll that ends does, with all polls before it, what a call to the end does over the link of all polls, which was so at first.
+abbrev pub RunsWhole : (F : Framing) → {S : Type 0} → Answering S → PolledState → Moment S → Moment S → Polled (Result (Unit {0}) ProcessError) → Type 0
+RunsWhole F {S} A old before after result = (behind : PolledPast S) (first : Outside) → PollStands F A behind before.service old
+    → Passes first before.outside behind.bytes behind.made behind.written
+    → RanIfReady F A behind.turns (record { service = behind.opening; outside = first }) after result

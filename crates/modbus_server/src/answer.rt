@@ -4,7 +4,7 @@ ghost use Rattle.std.specs.Result.{ForErr};
 ghost use Rattle.modbus_frame.specs.Codes.{function_number};
 ghost use Rattle.modbus_server.specs.Answer.{FramesAs, AnswersAs};
 
-use crate::error::{Answer, AnswerError};
+use crate::error::{Next, NextError};
 use crate::framing::Framing;
 use bytes::BytesMut;
 use modbus_frame::{EncodeError, ExceptionResponse, PduError, Response, SlaveRequest};
@@ -18,7 +18,7 @@ fn frame<I: Framing>(
     header: I::Header,
     answer: &Result<Response, ExceptionResponse>,
     reply: &mut BytesMut,
-) -> Result<Answer, AnswerError>
+) -> Result<Next, NextError<I::Fault>>
     requires function { ForErr answer.now (λ refusal. function_number refusal.function < 0x80) }
     requires empty { reply.old.items ≡ [] }
     requires space { I.framing.reply_room ≤ reply.old.spare }
@@ -26,8 +26,8 @@ fn frame<I: Framing>(
     ensures space { I.framing.reply_room ≤ length reply.new.items + reply.new.spare }
 {
     match I::encode_answer(alloc, header, answer, reply) {
-        Ok(()) => Ok(Answer::Framed),
-        Err(EncodeError::TooLong(size)) => Err(AnswerError::TooLong(size)),
+        Ok(()) => Ok(Next::Reply),
+        Err(EncodeError::TooLong(size)) => Err(NextError::TooLong(size)),
         Err(EncodeError::NoMemory) => unreachable!(),
     }
 }
@@ -39,7 +39,7 @@ fn refuse<I: Framing, V: Answerer>(
     header: I::Header,
     refusal: ExceptionResponse,
     reply: &mut BytesMut,
-) -> Result<Answer, AnswerError>
+) -> Result<Next, NextError<I::Fault>>
     requires function { function_number refusal.function < 0x80 }
     requires empty { reply.old.items ≡ [] }
     requires space { I.framing.reply_room ≤ reply.old.spare }
@@ -58,7 +58,7 @@ pub(crate) fn answer<I: Framing, V: Answerer>(
     header: I::Header,
     pdu: &[u8],
     reply: &mut BytesMut,
-) -> Result<Answer, AnswerError>
+) -> Result<Next, NextError<I::Fault>>
     requires empty { reply.old.items ≡ [] }
     requires space { I.framing.reply_room ≤ reply.old.spare }
     ensures answers { AnswersAs I.framing V.answering (I.header_of header, pdu.now) service.old
@@ -67,13 +67,13 @@ pub(crate) fn answer<I: Framing, V: Answerer>(
 {
     let request = match I::decode(alloc, pdu) {
         Ok(request) => request,
-        Err(PduError::Refused(reason)) => return Err(AnswerError::Refused(reason)),
-        Err(PduError::NoMemory) => return Err(AnswerError::NoMemory),
+        Err(PduError::Refused(reason)) => return Err(NextError::Refused(reason)),
+        Err(PduError::NoMemory) => return Err(NextError::NoMemory),
     };
     let slave = I::slave(header);
     let function = request.function_code();
     match service.ask(alloc, SlaveRequest { slave, request }) {
-        Ok(None) => Ok(Answer::Quiet),
+        Ok(None) => Ok(Next::Silent),
         Ok(Some(response)) => frame::<I>(alloc, header, &Ok(response), reply),
         Err(ServiceError::Exception(exception)) => {
             let refusal = ExceptionResponse {
@@ -82,6 +82,6 @@ pub(crate) fn answer<I: Framing, V: Answerer>(
             };
             refuse::<I, V>(alloc, header, refusal, reply)
         }
-        Err(ServiceError::NoMemory) => Err(AnswerError::NoMemory),
+        Err(ServiceError::NoMemory) => Err(NextError::NoMemory),
     }
 }

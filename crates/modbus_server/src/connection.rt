@@ -5,12 +5,12 @@ ghost use Rattle.modbus_link.specs.Polled.{Waited, at_once};
 ghost use Rattle.modbus_link.specs.Reads.{ReadsPiece};
 ghost use Rattle.modbus_server.specs.Framing.{Message};
 ghost use Rattle.modbus_server.specs.Exchanges.{Exchange};
-ghost use Rattle.modbus_server.specs.Serving.{Stands, NextTakesMemory};
-ghost use Rattle.modbus_server.specs.Moving.{Fills};
-ghost use Rattle.modbus_server.specs.Taking.{TakesAs, KeepsAs, next_of, Took, Fed};
+ghost use Rattle.modbus_server.specs.Served.{Past, Stands, NextTakesMemory};
+ghost use Rattle.modbus_server.specs.Transfer.{Fills};
+ghost use Rattle.modbus_server.specs.Next.{TakesAs, KeepsAs, Took, Fed};
 
 use crate::answer::answer;
-use crate::error::{Answer, AnswerError, Next, NextError};
+use crate::error::{Next, NextError};
 use crate::framing::{Framing, Front};
 use bytes::BytesMut;
 use modbus_link::{Failed, Polled, PolledLink};
@@ -51,19 +51,6 @@ impl<I: Framing> Model for Connection<I> {
     } };
 }
 
-/// What a connection did with a message that was answered so.
-fn next_after<F>(answer: Result<Answer, AnswerError>) -> Result<Next, NextError<F>>
-    ensures { result ≡ next_of answer }
-{
-    match answer {
-        Ok(Answer::Framed) => Ok(Next::Reply),
-        Ok(Answer::Quiet) => Ok(Next::Silent),
-        Err(AnswerError::Refused(reason)) => Err(NextError::Refused(reason)),
-        Err(AnswerError::TooLong(size)) => Err(NextError::TooLong(size)),
-        Err(AnswerError::NoMemory) => Err(NextError::NoMemory),
-    }
-}
-
 /// Takes the next message off, asks the service once and frames the reply into an empty buffer.
 #[inline(always)]
 fn take_next<I: Framing, V: Answerer>(
@@ -76,11 +63,10 @@ fn take_next<I: Framing, V: Answerer>(
     requires seam { I.framing.seam ≤ length seam.old }
     requires empty { reply.old.items ≡ [] }
     requires space { I.framing.reply_room ≤ reply.old.spare }
-    ensures stands { (bytes cuts written : List ℕ) (opening : V)
-        (exchanges : List (Exchange I.framing))
-        → Stands I.framing V.answering bytes cuts (I.held intake.old) opening service.old written []
-        exchanges → TakesAs I.framing V.answering I.told bytes cuts (I.held intake.new) opening
-        service.new written reply.new.items exchanges result }
+    ensures stands { (behind : Past I.framing V)
+        → Stands I.framing V.answering behind (I.held intake.old) service.old []
+        → TakesAs I.framing V.answering I.told behind (I.held intake.new) service.new
+        reply.new.items result }
     ensures keeps { KeepsAs I.framing.Waits (I.held intake.old) (I.held intake.new) reply.new.items
         service.old service.new result }
     ensures memory { result ≡ Err NextError.NoMemory
@@ -98,7 +84,7 @@ fn take_next<I: Framing, V: Answerer>(
         Ok(Front::Message { header, pdu, end }) => {
             let answer = answer::<I, V>(alloc, service, header, pdu, reply);
             intake.advance(end);
-            next_after(answer)
+            answer
         }
     }
 }

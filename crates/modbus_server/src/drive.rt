@@ -3,9 +3,10 @@ ghost use Rattle.std.specs.Prelude.{◌≡◌, ◌≤◌, [], IsTrue, OnErr, Err
 ghost use Rattle.modbus_link.specs.Outside.{Rose};
 ghost use Rattle.modbus_link.specs.Passing.{Sends};
 ghost use Rattle.modbus_link.specs.Polled.{Waited};
-ghost use Rattle.modbus_server.specs.Taking.{told_next, IsToldWell};
-ghost use Rattle.modbus_server.specs.Stepping.{Stepped};
+ghost use Rattle.modbus_server.specs.Next.{told_next, IsToldWell};
+ghost use Rattle.modbus_server.specs.Step.{Stepped};
 ghost use Rattle.modbus_server.specs.Polled.{IsFlushed, PollWrites, PollReads, PollSteps};
+ghost use Rattle.modbus_server.specs.Moment.{moment};
 
 use crate::connection::Connection;
 use crate::error::{Next, NextError, ProcessError, Step};
@@ -120,9 +121,9 @@ pub(crate) fn poll_step<I: Framing, L: PolledLink, V: Answerer>(
 ) -> Result<Polled<Step>, ProcessError>
     requires open { IsTrue connection.old.is_open }
     requires written { connection.old.waiting ≡ [] }
-    ensures steps { PollSteps I.framing V.answering connection.old connection.new service.old
-        service.new (L.input link.old) (L.input link.new) (L.output link.old) (L.output link.new)
-        may_read result }
+    ensures steps { PollSteps I.framing V.answering connection.old connection.new
+        (moment service.old (L.input link.old) (L.output link.old))
+        (moment service.new (L.input link.new) (L.output link.new)) may_read result }
     ensures waited { Waited result (L.not_ready link.old) (L.not_ready link.new) }
     ensures later { L.not_ready link.old ≤ L.not_ready link.new }
 {
@@ -156,9 +157,9 @@ impl<I: Framing> Connection<I> {
     ) -> Result<Step, ProcessError>
         requires open { IsTrue self.old.is_open }
         requires written { self.old.waiting ≡ [] }
-        ensures { Stepped I.framing V.answering self.old self.new service.old service.new
-            (L.input link.old) (L.input link.new) (L.output link.old) (L.output link.new) may_read
-            result }
+        ensures { Stepped I.framing V.answering self.old self.new
+            (moment service.old (L.input link.old) (L.output link.old))
+            (moment service.new (L.input link.new) (L.output link.new)) may_read result }
     {
         match poll_step(self, alloc, link, service, may_read) {
             Ok(Polled::Ready(step)) => Ok(step),
@@ -181,9 +182,9 @@ impl<I: Framing> Connection<I> {
     ) -> Result<Step, ProcessError>
         requires open { IsTrue self.old.is_open }
         requires written { self.old.waiting ≡ [] }
-        ensures { Stepped I.framing V.answering self.old self.new service.old service.new
-            (S.input source.old) (S.input source.new) (K.output sink.old) (K.output sink.new)
-            may_read result }
+        ensures { Stepped I.framing V.answering self.old self.new
+            (moment service.old (S.input source.old) (K.output sink.old))
+            (moment service.new (S.input source.new) (K.output sink.new)) may_read result }
     {
         self.step_link(alloc, &mut Both::new(source, sink), service, may_read)
     }

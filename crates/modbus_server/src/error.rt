@@ -37,26 +37,6 @@ pub enum ProcessError {
     NoMemory,
 }
 
-/// Why a request is not answered.
-#[derive(Clone, Copy, Debug, PartialEq, Eq)]
-pub enum AnswerError {
-    /// Its PDU is no request, for this reason.
-    Refused(Reason),
-    /// The PDU of the answer would have so many bytes, more than 253.
-    TooLong(usize),
-    /// Memory was refused.
-    NoMemory,
-}
-
-/// What the answer to a request is.
-#[derive(Clone, Copy, Debug, PartialEq, Eq)]
-pub enum Answer {
-    /// A reply, whose bytes were framed.
-    Framed,
-    /// There is none.
-    Quiet,
-}
-
 /// Why a connection has no next reply.
 #[derive(Clone, Copy, Debug, PartialEq, Eq)]
 pub enum NextError<F> {

@@ -12,7 +12,7 @@ ghost use Rattle.modbus_pdu.specs.RequestOf.{CarriesList};
 ghost use Rattle.modbus_pdu.specs.ResponsePdu.{response_result_pdu};
 ghost use Rattle.modbus_server.specs.declared.error.ProcessError.{ProcessError};
 ghost use Rattle.modbus_server.specs.Framing.{Framing as Frames, Message, IsOfFraming};
-ghost use Rattle.modbus_server.specs.Taking.{FindsNext, IsFrontWithin};
+ghost use Rattle.modbus_server.specs.Next.{FindsNext, IsFrontWithin};
 
 use crate::error::ProcessError;
 use bytes::BytesMut;

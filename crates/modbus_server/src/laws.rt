@@ -10,15 +10,16 @@ ghost use Rattle.modbus_frame.specs.declared.tcp.Header.{Header};
 ghost use Rattle.modbus_server.specs.declared.error.ProcessError.{ProcessError};
 ghost use Rattle.modbus_server.specs.State.{State};
 ghost use Rattle.modbus_server.specs.Exchanges.{Exchange, Run};
-ghost use Rattle.modbus_server.specs.Serving.{Served, Halt, remaining, all_asked};
+ghost use Rattle.modbus_server.specs.Served.{Served, Halt, remaining, all_asked};
 ghost use Rattle.modbus_server.specs.FirstFault.{HasFault, IsFirstFault};
 ghost use Rattle.modbus_server.specs.FirstAdu.{HasAduFault, IsFirstAduFault};
 ghost use Rattle.modbus_server.specs.Memory.{TakesNone};
-ghost use Rattle.modbus_server.specs.Stepping.{Ran};
+ghost use Rattle.modbus_server.specs.Step.{Ran};
 ghost use Rattle.modbus_server.specs.Rtu.{rtu};
 ghost use Rattle.modbus_server.specs.Tcp.{tcp};
 ghost use Rattle.modbus_server.specs.Complete.{Completes};
-ghost use Rattle.modbus_server.specs.Polled.{PollStands};
+ghost use Rattle.modbus_server.specs.Polled.{polled, polled_past, PollStands};
+ghost use Rattle.modbus_server.specs.Moment.{Moment};
 
 use crate::framing::Framing;
 use modbus_service::Answerer;
@@ -28,13 +29,11 @@ use modbus_service::Answerer;
 pub fn failing_place<V: Answerer>()
     ensures run { (bytes cuts written : List ℕ) (opening now : V) (halt : Halt)
         (s : Served rtu V.answering bytes cuts opening now written halt)
-        → Run rtu V.answering opening (all_asked rtu V.answering bytes cuts opening now written halt
-        s) now }
+        → Run rtu V.answering opening (all_asked halt s) now }
     ensures first { (bytes cuts written : List ℕ) (opening now : V) (halt : Halt)
         (s : Served rtu V.answering bytes cuts opening now written halt) (frames : List ℕ)
         (stop : ℕ) → IsLeftmost bytes frames stop
-        → IsFirstFault bytes cuts frames (all_asked rtu V.answering bytes cuts opening now written
-        halt s) halt }
+        → IsFirstFault bytes cuts frames (all_asked halt s) halt }
 {
     modbus_rtu::laws::one_reading();
 }
@@ -59,13 +58,11 @@ pub fn one_failing_place()
 pub fn failing_adu<V: Answerer>()
     ensures run { (bytes cuts written : List ℕ) (opening now : V) (halt : Halt)
         (s : Served tcp V.answering bytes cuts opening now written halt)
-        → Run tcp V.answering opening (all_asked tcp V.answering bytes cuts opening now written halt
-        s) now }
+        → Run tcp V.answering opening (all_asked halt s) now }
     ensures first { (bytes cuts written : List ℕ) (opening now : V) (halt : Halt)
         (s : Served tcp V.answering bytes cuts opening now written halt)
         (adus : List (Header × List ℕ)) (rest : List ℕ) (kind : Rest) → IsSplit bytes adus rest kind
-        → IsFirstAduFault adus kind (all_asked tcp V.answering bytes cuts opening now written halt
-        s) halt }
+        → IsFirstAduFault adus kind (all_asked halt s) halt }
 {
     modbus_tcp::laws::one_splitting();
     modbus_tcp::laws::adus_come_first();
@@ -88,15 +85,15 @@ pub fn one_failing_adu()
 pub fn polled_servers_begin<I: Framing, V: Answerer>()
     ensures { (turns : ℕ) (start : V) (state : State) → state.held ≡ [] → state.waiting ≡ []
         → I.framing.StandsFor [] [] [] []
-        → PollStands I.framing V.answering turns [] [] [] start start state turns }
+        → PollStands I.framing V.answering (polled_past turns [] [] start []) start (polled state
+        turns) }
 {}
 
 /// Every call that runs to its end, a polled one too, serves a clean line to its end.
 pub fn clean_lines_are_served<I: Framing, V: Answerer>()
-    ensures { (before after : V) (from to : Input) (sunk sinks : Output) (turns : ℕ)
-        (result : Result (Unit {0}) ProcessError)
-        → Ran I.framing V.answering before after from to sunk sinks turns result
-        → Completes I.framing V.answering before from to sunk sinks turns result }
+    ensures { (turns : ℕ) (before after : Moment V) (result : Result (Unit {0}) ProcessError)
+        → Ran I.framing V.answering turns before after result
+        → Completes I.framing V.answering turns before after result }
 {
     I::laws();
 }
@@ -104,9 +101,9 @@ pub fn clean_lines_are_served<I: Framing, V: Answerer>()
 /// Where no delivered frame takes memory, it is wanting only as a connection is opened: nothing was read then, and nothing written. A
 /// frame takes none where its request carries no list, and the service wants none for it.
 pub fn memory_at_the_opening<V: Answerer>()
-    ensures { (before after : V) (from to : Input) (sunk sinks : Output) (turns : ℕ)
-        (ran : Ran rtu V.answering before after from to sunk sinks turns (Err errors.NoMemory))
+    ensures { (turns : ℕ) (before after : Moment V)
+        (ran : Ran rtu V.answering turns before after (Err errors.NoMemory))
         (frames : List ℕ) (stop : ℕ) → IsLeftmost ran.fed frames stop
         → All (λ f. TakesNone rtu V.answering (frame_at ran.fed f)) frames
-        → (ran.fed ≡ []) × (ran.sent ≡ []) × (after ≡ before) }
+        → (ran.fed ≡ []) × (ran.sent ≡ []) × (after.service ≡ before.service) }
 {}

@@ -1,8 +1,8 @@
 //! The accept loop of a listener, whatever frames the messages of its connections.
 ghost use Rattle.std.specs.Prelude.{◌≡◌, ◌≢◌, Err, Option, Result};
 ghost use Rattle.modbus_link.specs.Outside.{Rose};
-ghost use Rattle.modbus_server.specs.Listening.{AcceptsOne, Accepts, Counted, Serves, unsignalled, unspawned, without_spawner, as_stopped, made_for};
-ghost use Rattle.modbus_server.specs.Stopping.{never_set};
+ghost use Rattle.modbus_server.specs.Listener.{AcceptsOne, Accepts, Counted, Serves, unsignalled, unspawned, without_spawner, as_stopped, made_for};
+ghost use Rattle.modbus_server.specs.Signal.{never_set};
 
 use crate::error::{ProcessError, ServeError};
 use crate::framing::Framing;

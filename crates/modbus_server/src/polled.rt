@@ -1,6 +1,7 @@
 //! A server over a link that may not be ready, which goes on where it stopped.
 ghost use Rattle.std.specs.Prelude.{◌≡◌, [], IfOk, IsTrue};
-ghost use Rattle.modbus_server.specs.Polled.{PolledTo, RunsWhole};
+ghost use Rattle.modbus_server.specs.Polled.{polled, PollWaits, PolledTo, RunsWhole};
+ghost use Rattle.modbus_server.specs.Moment.{moment};
 
 use crate::connection::Connection;
 use crate::drive::{poll_step, send};
@@ -21,9 +22,10 @@ fn poll_connection<I: Framing, L: PolledLink, V: Answerer>(
     service: &mut V,
 ) -> Polled<Result<(), ProcessError>>
     requires { IsTrue connection.old.is_open }
-    ensures { PolledTo I.framing V.answering connection.old connection.new left.old left.new
-        service.old service.new (L.input link.old) (L.input link.new) (L.output link.old)
-        (L.output link.new) (L.not_ready link.old) (L.not_ready link.new) result }
+    ensures { PolledTo I.framing V.answering (polled connection.old left.old)
+        (polled connection.new left.new) (moment service.old (L.input link.old) (L.output link.old))
+        (moment service.new (L.input link.new) (L.output link.new)) result
+        × PollWaits (L.not_ready link.old) (L.not_ready link.new) result }
 {
     match send(connection, link) {
         Err(error) => return Polled::Ready(Err(error)),
@@ -102,13 +104,13 @@ impl<I: Framing> PolledProcess<I> {
         service: &mut V,
     ) -> Polled<Result<(), ProcessError>>
         requires { IsTrue self.old.connection.is_open }
-        ensures polled { PolledTo I.framing V.answering self.old.connection self.new.connection
-            self.old.left self.new.left service.old service.new (L.input link.old)
-            (L.input link.new) (L.output link.old) (L.output link.new) (L.not_ready link.old)
-            (L.not_ready link.new) result }
-        ensures ran { RunsWhole I.framing V.answering self.old.connection self.old.left service.old
-            service.new (L.input link.old) (L.input link.new) (L.output link.old)
-            (L.output link.new) result }
+        ensures polled { PolledTo I.framing V.answering self.old self.new
+            (moment service.old (L.input link.old) (L.output link.old))
+            (moment service.new (L.input link.new) (L.output link.new)) result }
+        ensures waits { PollWaits (L.not_ready link.old) (L.not_ready link.new) result }
+        ensures ran { RunsWhole I.framing V.answering self.old
+            (moment service.old (L.input link.old) (L.output link.old))
+            (moment service.new (L.input link.new) (L.output link.new)) result }
     {
         clean_lines_are_served::<I, V>();
         poll_connection(

@@ -3,10 +3,11 @@
 ghost use Rattle.std.specs.Prelude.{◌≡◌, ◌-◌, ◌^◌, length};
 ghost use Rattle.modbus_server.specs.declared.error.ProcessError.TheVariants.{TooManyRetries};
 ghost use Rattle.modbus_server.specs.Complete.{Completes};
-ghost use Rattle.modbus_server.specs.Stepping.{Ran};
-ghost use Rattle.modbus_server.specs.Stopping.{RanUntil, to_the_end};
+ghost use Rattle.modbus_server.specs.Step.{Ran};
+ghost use Rattle.modbus_server.specs.Signal.{RanUntil, to_the_end};
 ghost use Rattle.modbus_rtu.specs.Limits.{max_frame};
 ghost use Rattle.modbus_server.specs.Rtu.{rtu};
+ghost use Rattle.modbus_server.specs.Moment.{moment, watched, signalled};
 
 use crate::error::ProcessError;
 use crate::framing::{Framing, Front};
@@ -163,10 +164,12 @@ impl<L: Link> Server<L> {
         alloc: Global,
         service: &mut V,
     ) -> Result<(), ProcessError>
-        ensures ran { Ran rtu V.answering service.old service.new (L.input self.old)
-            (L.input self.new) (L.output self.old) (L.output self.new) (2 ^ 64 - 1) result }
-        ensures complete { Completes rtu V.answering service.old (L.input self.old)
-            (L.input self.new) (L.output self.old) (L.output self.new) (2 ^ 64 - 1) result }
+        ensures ran { Ran rtu V.answering (2 ^ 64 - 1)
+            (moment service.old (L.input self.old) (L.output self.old))
+            (moment service.new (L.input self.new) (L.output self.new)) result }
+        ensures complete { Completes rtu V.answering (2 ^ 64 - 1)
+            (moment service.old (L.input self.old) (L.output self.old))
+            (moment service.new (L.input self.new) (L.output self.new)) result }
     {
         process_link(alloc, &mut self.link, service, u64::MAX)
     }
@@ -185,12 +188,12 @@ impl<L: Link> Server<L> {
         service: &mut V,
         abort_signal: &mut X,
     ) -> Result<Terminated, ProcessError>
-        ensures ran { RanUntil rtu V.answering X.stops X.looks service.old service.new
-            (L.input self.old) (L.input self.new) (L.output self.old) (L.output self.new)
-            (2 ^ 64 - 1) abort_signal.old abort_signal.new result }
-        ensures complete { Completes rtu V.answering service.old (L.input self.old)
-            (L.input self.new) (L.output self.old) (L.output self.new) (2 ^ 64 - 1)
-            (to_the_end result) }
+        ensures ran { RanUntil rtu V.answering (signalled X.stops X.looks) (2 ^ 64 - 1)
+            (watched service.old (L.input self.old) (L.output self.old) abort_signal.old)
+            (watched service.new (L.input self.new) (L.output self.new) abort_signal.new) result }
+        ensures complete { Completes rtu V.answering (2 ^ 64 - 1)
+            (moment service.old (L.input self.old) (L.output self.old))
+            (moment service.new (L.input self.new) (L.output self.new)) (to_the_end result) }
     {
         serve_until::<Inbox, L, V, X>(alloc, &mut self.link, service, abort_signal, u64::MAX)
     }

@@ -1,7 +1,8 @@
 //! Serving RTU frames over any stream of bytes, until its input ends.
 ghost use Rattle.modbus_server.specs.Complete.{Completes};
-ghost use Rattle.modbus_server.specs.Stepping.{Ran};
+ghost use Rattle.modbus_server.specs.Step.{Ran};
 ghost use Rattle.modbus_server.specs.Rtu.{rtu};
+ghost use Rattle.modbus_server.specs.Moment.{moment};
 
 use crate::error::ProcessError;
 pub use crate::listener::accept_tcp_connection;
@@ -27,10 +28,12 @@ pub fn process_link<L: Source + Sink, V: Answerer>(
     service: &mut V,
     turns: u64,
 ) -> Result<(), ProcessError>
-    ensures ran { Ran rtu V.answering service.old service.new (L.input link.old) (L.input link.new)
-        (L.output link.old) (L.output link.new) turns result }
-    ensures complete { Completes rtu V.answering service.old (L.input link.old) (L.input link.new)
-        (L.output link.old) (L.output link.new) turns result }
+    ensures ran { Ran rtu V.answering turns
+        (moment service.old (L.input link.old) (L.output link.old))
+        (moment service.new (L.input link.new) (L.output link.new)) result }
+    ensures complete { Completes rtu V.answering turns
+        (moment service.old (L.input link.old) (L.output link.old))
+        (moment service.new (L.input link.new) (L.output link.new)) result }
 {
     serve_link::<Inbox, L, V>(alloc, link, service, turns)
 }
@@ -59,10 +62,12 @@ pub fn process<S: Source, K: Sink, V: Answerer>(
     service: &mut V,
     turns: u64,
 ) -> Result<(), ProcessError>
-    ensures ran { Ran rtu V.answering service.old service.new (S.input source.old)
-        (S.input source.new) (K.output sink.old) (K.output sink.new) turns result }
-    ensures complete { Completes rtu V.answering service.old (S.input source.old)
-        (S.input source.new) (K.output sink.old) (K.output sink.new) turns result }
+    ensures ran { Ran rtu V.answering turns
+        (moment service.old (S.input source.old) (K.output sink.old))
+        (moment service.new (S.input source.new) (K.output sink.new)) result }
+    ensures complete { Completes rtu V.answering turns
+        (moment service.old (S.input source.old) (K.output sink.old))
+        (moment service.new (S.input source.new) (K.output sink.new)) result }
 {
     serve::<Inbox, S, K, V>(alloc, source, sink, service, turns)
 }

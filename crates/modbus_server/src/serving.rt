@@ -1,8 +1,9 @@
 //! Steps one after another until the input of a connection ends or a signal says to stop, whatever frames its messages.
 ghost use Rattle.std.specs.Prelude.{◌≡◌, [], IsTrue};
 ghost use Rattle.modbus_server.specs.Complete.{Completes};
-ghost use Rattle.modbus_server.specs.Stepping.{Ran};
-ghost use Rattle.modbus_server.specs.Stopping.{RanUntil, never_set, to_the_end};
+ghost use Rattle.modbus_server.specs.Step.{Ran};
+ghost use Rattle.modbus_server.specs.Signal.{RanUntil, never_set, to_the_end};
+ghost use Rattle.modbus_server.specs.Moment.{moment, watched, signalled};
 
 use crate::connection::Connection;
 use crate::error::{ProcessError, Step};
@@ -48,9 +49,9 @@ fn run<I: Framing, L: Source + Sink, V: Answerer, X: Stop>(
     requires written { connection.old.waiting ≡ [] }
     requires ready { IsTrue connection.old.is_open }
     requires stands { I.framing.StandsFor [] [] [] [] }
-    ensures { RanUntil I.framing V.answering X.stops X.looks service.old service.new
-        (L.input link.old) (L.input link.new) (L.output link.old) (L.output link.new) turns
-        abort_signal.old abort_signal.new result }
+    ensures { RanUntil I.framing V.answering (signalled X.stops X.looks) turns
+        (watched service.old (L.input link.old) (L.output link.old) abort_signal.old)
+        (watched service.new (L.input link.new) (L.output link.new) abort_signal.new) result }
 {
     let mut left = turns;
     'steps: loop {
@@ -82,11 +83,12 @@ pub fn serve_until<I: Framing, L: Source + Sink, V: Answerer, X: Stop>(
     abort_signal: &mut X,
     turns: u64,
 ) -> Result<Terminated, ProcessError>
-    ensures ran { RanUntil I.framing V.answering X.stops X.looks service.old service.new
-        (L.input link.old) (L.input link.new) (L.output link.old) (L.output link.new) turns
-        abort_signal.old abort_signal.new result }
-    ensures complete { Completes I.framing V.answering service.old (L.input link.old)
-        (L.input link.new) (L.output link.old) (L.output link.new) turns (to_the_end result) }
+    ensures ran { RanUntil I.framing V.answering (signalled X.stops X.looks) turns
+        (watched service.old (L.input link.old) (L.output link.old) abort_signal.old)
+        (watched service.new (L.input link.new) (L.output link.new) abort_signal.new) result }
+    ensures complete { Completes I.framing V.answering turns
+        (moment service.old (L.input link.old) (L.output link.old))
+        (moment service.new (L.input link.new) (L.output link.new)) (to_the_end result) }
 {
     clean_lines_are_served::<I, V>();
     match Connection::<I>::open(alloc) {
@@ -105,10 +107,12 @@ pub fn serve_link<I: Framing, L: Source + Sink, V: Answerer>(
     service: &mut V,
     turns: u64,
 ) -> Result<(), ProcessError>
-    ensures ran { Ran I.framing V.answering service.old service.new (L.input link.old)
-        (L.input link.new) (L.output link.old) (L.output link.new) turns result }
-    ensures complete { Completes I.framing V.answering service.old (L.input link.old)
-        (L.input link.new) (L.output link.old) (L.output link.new) turns result }
+    ensures ran { Ran I.framing V.answering turns
+        (moment service.old (L.input link.old) (L.output link.old))
+        (moment service.new (L.input link.new) (L.output link.new)) result }
+    ensures complete { Completes I.framing V.answering turns
+        (moment service.old (L.input link.old) (L.output link.old))
+        (moment service.new (L.input link.new) (L.output link.new)) result }
 {
     match serve_until::<I, L, V, Never>(alloc, link, service, &mut Never, turns) {
         Ok(Terminated::Finished) => Ok(()),
@@ -128,10 +132,12 @@ pub fn serve<I: Framing, S: Source, K: Sink, V: Answerer>(
     service: &mut V,
     turns: u64,
 ) -> Result<(), ProcessError>
-    ensures ran { Ran I.framing V.answering service.old service.new (S.input source.old)
-        (S.input source.new) (K.output sink.old) (K.output sink.new) turns result }
-    ensures complete { Completes I.framing V.answering service.old (S.input source.old)
-        (S.input source.new) (K.output sink.old) (K.output sink.new) turns result }
+    ensures ran { Ran I.framing V.answering turns
+        (moment service.old (S.input source.old) (K.output sink.old))
+        (moment service.new (S.input source.new) (K.output sink.new)) result }
+    ensures complete { Completes I.framing V.answering turns
+        (moment service.old (S.input source.old) (K.output sink.old))
+        (moment service.new (S.input source.new) (K.output sink.new)) result }
 {
     clean_lines_are_served::<I, V>();
     serve_link::<I, Both<'_, '_, S, K>, V>(alloc, &mut Both::new(source, sink), service, turns)

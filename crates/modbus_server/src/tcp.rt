@@ -1,8 +1,9 @@
 //! Serving Modbus TCP (MODBUS Messaging on TCP/IP V1.0b, section 3.1): a connection takes ADUs with an MBAP header step by step, and
 //! `process` serves a stream of them until its input ends.
 ghost use Rattle.modbus_server.specs.Complete.{Completes};
-ghost use Rattle.modbus_server.specs.Stepping.{Ran};
+ghost use Rattle.modbus_server.specs.Step.{Ran};
 ghost use Rattle.modbus_server.specs.Tcp.{tcp, told_fault};
+ghost use Rattle.modbus_server.specs.Moment.{moment};
 
 use crate::error::ProcessError;
 use crate::framing::{Framing, Front};
@@ -152,10 +153,12 @@ pub fn process_link<L: Source + Sink, V: Answerer>(
     service: &mut V,
     turns: u64,
 ) -> Result<(), ProcessError>
-    ensures ran { Ran tcp V.answering service.old service.new (L.input link.old) (L.input link.new)
-        (L.output link.old) (L.output link.new) turns result }
-    ensures complete { Completes tcp V.answering service.old (L.input link.old) (L.input link.new)
-        (L.output link.old) (L.output link.new) turns result }
+    ensures ran { Ran tcp V.answering turns
+        (moment service.old (L.input link.old) (L.output link.old))
+        (moment service.new (L.input link.new) (L.output link.new)) result }
+    ensures complete { Completes tcp V.answering turns
+        (moment service.old (L.input link.old) (L.output link.old))
+        (moment service.new (L.input link.new) (L.output link.new)) result }
 {
     serve_link::<AduBuffer, L, V>(alloc, link, service, turns)
 }
@@ -186,10 +189,12 @@ pub fn process<S: Source, K: Sink, V: Answerer>(
     service: &mut V,
     turns: u64,
 ) -> Result<(), ProcessError>
-    ensures ran { Ran tcp V.answering service.old service.new (S.input source.old)
-        (S.input source.new) (K.output sink.old) (K.output sink.new) turns result }
-    ensures complete { Completes tcp V.answering service.old (S.input source.old)
-        (S.input source.new) (K.output sink.old) (K.output sink.new) turns result }
+    ensures ran { Ran tcp V.answering turns
+        (moment service.old (S.input source.old) (K.output sink.old))
+        (moment service.new (S.input source.new) (K.output sink.new)) result }
+    ensures complete { Completes tcp V.answering turns
+        (moment service.old (S.input source.old) (K.output sink.old))
+        (moment service.new (S.input source.new) (K.output sink.new)) result }
 {
     serve::<AduBuffer, S, K, V>(alloc, source, sink, service, turns)
 }

@@ -1,8 +1,9 @@
 //! One connection as work that can be handed over, whatever frames its messages.
 ghost use Rattle.std.specs.Prelude.{◌≡◌, ◌-◌, ◌^◌};
 ghost use Rattle.modbus_server.specs.Complete.{Completes};
-ghost use Rattle.modbus_server.specs.Listening.{WorkerState, IsTold, WorksOnce};
-ghost use Rattle.modbus_server.specs.Stopping.{RanUntil, to_the_end};
+ghost use Rattle.modbus_server.specs.Listener.{WorkerState, IsTold, WorksOnce};
+ghost use Rattle.modbus_server.specs.Signal.{RanUntil, to_the_end};
+ghost use Rattle.modbus_server.specs.Moment.{moment, watched, signalled};
 
 use crate::error::ProcessError;
 use crate::framing::Framing;
@@ -28,7 +29,7 @@ pub struct ConnectionWorker<I, L, V, H, X> {
 
 /// A contract sees the link, the service, the hook and the signal.
 impl<I, L, V, H, X> Model for ConnectionWorker<I, L, V, H, X> {
-    ghost use Rattle.modbus_server.specs.Listening.{WorkerState};
+    ghost use Rattle.modbus_server.specs.Listener.{WorkerState};
 
     ghost Value = { WorkerState L V H X };
 
@@ -82,12 +83,14 @@ impl<I: Framing, L: Link, V: Answerer, H: Fn(ProcessError), X: Stop> ConnectionW
     /// # Errors
     /// Those of `process`, with the same causes, where no look said that the signal is set.
     pub fn work(&mut self) -> Result<Terminated, ProcessError>
-        ensures ran { RanUntil I.framing V.answering X.stops X.looks self.old.service
-            self.new.service (L.input self.old.link) (L.input self.new.link)
-            (L.output self.old.link) (L.output self.new.link) (2 ^ 64 - 1) self.old.signal
-            self.new.signal result }
-        ensures complete { Completes I.framing V.answering self.old.service (L.input self.old.link)
-            (L.input self.new.link) (L.output self.old.link) (L.output self.new.link) (2 ^ 64 - 1)
+        ensures ran { RanUntil I.framing V.answering (signalled X.stops X.looks) (2 ^ 64 - 1)
+            (watched self.old.service (L.input self.old.link) (L.output self.old.link)
+            self.old.signal)
+            (watched self.new.service (L.input self.new.link) (L.output self.new.link)
+            self.new.signal) result }
+        ensures complete { Completes I.framing V.answering (2 ^ 64 - 1)
+            (moment self.old.service (L.input self.old.link) (L.output self.old.link))
+            (moment self.new.service (L.input self.new.link) (L.output self.new.link))
             (to_the_end result) }
         ensures hook { self.new.on_process_error ≡ self.old.on_process_error }
     {
@@ -125,9 +128,10 @@ impl<
     fn run(mut self)
         requires ready { H.IsAlwaysCallable self.on_process_error }
         ensures worked { WorksOnce (λ (after : WorkerState L V H X) result. RanUntil I.framing
-            V.answering X.stops X.looks self.service after.service (L.input self.link)
-            (L.input after.link) (L.output self.link) (L.output after.link) (2 ^ 64 - 1) self.signal
-            after.signal result) (H.post self.on_process_error) }
+            V.answering (signalled X.stops X.looks) (2 ^ 64 - 1)
+            (watched self.service (L.input self.link) (L.output self.link) self.signal)
+            (watched after.service (L.input after.link) (L.output after.link) after.signal) result)
+            (H.post self.on_process_error) }
     {
         let answer = self.work();
         self.tell(answer);

@@ -5,7 +5,7 @@ use Rattle.modbus_frame.specs.declared.fault.Reason.{Reason}
 use Rattle.modbus_service.specs.Answering.{Answering}
 use Rattle.modbus_server.specs.declared.error.ProcessError.{ProcessError}
 use Rattle.modbus_server.specs.declared.error.ProcessError.TheVariants.{TooManyRetries, InvalidLength, InvalidProtocol, InvalidRequest}
-use Rattle.modbus_server.specs.Serving.{Served, Halts, refused, EndsAs}
+use Rattle.modbus_server.specs.Served.{Served, Halts, refused, EndsAs}
 use Rattle.modbus_stream.specs.Framing.{stream}
 use Rattle.modbus_stream.specs.Line.{IsOfNoStream}
 

@@ -1,9 +1,10 @@
 //! Serving a stream of Modbus TCP, until its input ends (MODBUS Messaging on TCP/IP V1.0b, section 3.1.3).
 ghost use Rattle.std.specs.Prelude.{IfErr};
 ghost use Rattle.modbus_server.specs.Complete.{Completes};
-ghost use Rattle.modbus_server.specs.Stepping.{Ran};
+ghost use Rattle.modbus_server.specs.Step.{Ran};
 ghost use Rattle.modbus_stream.specs.Framing.{stream};
 ghost use Rattle.modbus_stream.specs.Line.{IsOfNoStream};
+ghost use Rattle.modbus_server.specs.Moment.{moment};
 
 use crate::buffer::StreamBuffer;
 use modbus_link::{Sink, Source};
@@ -33,10 +34,12 @@ pub fn process_link<L: Source + Sink, V: Answerer>(
     service: &mut V,
     turns: u64,
 ) -> Result<(), ProcessError>
-    ensures ran { Ran stream V.answering service.old service.new (L.input link.old)
-        (L.input link.new) (L.output link.old) (L.output link.new) turns result }
-    ensures complete { Completes stream V.answering service.old (L.input link.old)
-        (L.input link.new) (L.output link.old) (L.output link.new) turns result }
+    ensures ran { Ran stream V.answering turns
+        (moment service.old (L.input link.old) (L.output link.old))
+        (moment service.new (L.input link.new) (L.output link.new)) result }
+    ensures complete { Completes stream V.answering turns
+        (moment service.old (L.input link.old) (L.output link.old))
+        (moment service.new (L.input link.new) (L.output link.new)) result }
     ensures causes { IfErr result (λ error. IsOfNoStream error → ⊥) }
 {
     serve_link::<StreamBuffer, L, V>(alloc, link, service, turns)
@@ -65,10 +68,12 @@ pub fn process<S: Source, K: Sink, V: Answerer>(
     service: &mut V,
     turns: u64,
 ) -> Result<(), ProcessError>
-    ensures ran { Ran stream V.answering service.old service.new (S.input source.old)
-        (S.input source.new) (K.output sink.old) (K.output sink.new) turns result }
-    ensures complete { Completes stream V.answering service.old (S.input source.old)
-        (S.input source.new) (K.output sink.old) (K.output sink.new) turns result }
+    ensures ran { Ran stream V.answering turns
+        (moment service.old (S.input source.old) (K.output sink.old))
+        (moment service.new (S.input source.new) (K.output sink.new)) result }
+    ensures complete { Completes stream V.answering turns
+        (moment service.old (S.input source.old) (K.output sink.old))
+        (moment service.new (S.input source.new) (K.output sink.new)) result }
     ensures causes { IfErr result (λ error. IsOfNoStream error → ⊥) }
 {
     serve::<StreamBuffer, S, K, V>(alloc, source, sink, service, turns)

@@ -8,9 +8,9 @@ use Rattle.modbus_server.specs.declared.error.ProcessError.{ProcessError}
 use Rattle.modbus_server.specs.declared.error.ProcessError.TheVariants.{ReadFault, WriteFault, BytesRemaining, InvalidRequest, ResponseTooLong, TurnLimit, NoMemory}
 use Rattle.modbus_server.specs.Framing.{Framing, Message}
 use Rattle.modbus_server.specs.Exchanges.{Exchange, GivesOutcome, Run}
-use Rattle.modbus_server.specs.Serving.{Stands, Served, Unwritten, Wanting, WantsMemory, remaining, broken, refused, too_long, Halt, EndsAs}
+use Rattle.modbus_server.specs.Served.{past, Stands, Served, Unwritten, Wanting, WantsMemory, remaining, broken, refused, too_long, Halt, EndsAs}
 use Rattle.modbus_server.specs.State.{State}
-use Rattle.modbus_server.specs.Polled.{PollStands}
+use Rattle.modbus_server.specs.Polled.{polled, polled_past, PollStands}
 use Rattle.modbus_turn.specs.InTurn.{Said, unframed, all_unframed, RunOver, InTurnState, in_turn, saying_again, WantsNext}
 
 not_nil : (y : Said) (ys : List Said) → y ∷ ys ≡ [] → ⊥
@@ -62,7 +62,7 @@ module _ (F : Framing) {S : Type 0} (A : Answering S) where
 
   -- the same standing, with a run of another state
   restand : (bytes cuts held : List ℕ) (opening now opening' now' : InTurnState S) (written waiting : List ℕ) (xs : List (Exchange F))
-      → Stands F T bytes cuts held opening now written waiting xs → Run F T opening' xs now' → Stands F T bytes cuts held opening' now' written waiting xs
+      → Stands F T (past bytes cuts opening written xs) held now waiting → Run F T opening' xs now' → Stands F T (past bytes cuts opening' written xs) held now' waiting
   restand bytes cuts held opening now opening' now' written waiting xs stood run =
       record { taken = stood.taken; stands = stood.stands; asked = stood.asked; run = run; fit = stood.fit; wrote = stood.wrote; late = stood.late }
 
@@ -200,10 +200,10 @@ module _ (F : Framing) {S : Type 0} (A : Answering S) where
 
   -- what a connection stands for after a poll, and how it stands again with another state of the service
   abbrev PollsOn : ℕ → List ℕ → List (ℕ × ℕ) → List ℕ → List Said → State → ℕ → Type 0
-  PollsOn turns bytes made written own state left = (service : S) → PollStands F T turns bytes made written (at own service) (at [] service) state left
+  PollsOn turns bytes made written own state left = (service : S) → PollStands F T (polled_past turns bytes made (at own service) written) (at [] service) (polled state left)
 
   pub standing : (turns : ℕ) (bytes : List ℕ) (made : List (ℕ × ℕ)) (written : List ℕ) (own : List Said) (s end : S) (state : State) (left : ℕ)
-      → PollStands F T turns bytes made written (at own s) (at [] end) state left
+      → PollStands F T (polled_past turns bytes made (at own s) written) (at [] end) (polled state left)
       → (fresh : List Said) × RunOver A s fresh end × PollsOn turns bytes made written (own ++ fresh) state left
   standing turns bytes made written own s end state left p =
       let again = replayed own s p.exchanges end p.stands.run in (

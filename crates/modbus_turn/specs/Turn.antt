@@ -4,12 +4,14 @@ use Rattle.modbus_link.specs.Line.{LinkMeaning}
 use Rattle.modbus_link.specs.Passing.{Passes}
 use Rattle.modbus_server.specs.declared.error.ProcessError.{ProcessError}
 use Rattle.modbus_server.specs.Framing.{Framing}
-use Rattle.modbus_server.specs.Polled.{PolledState, PollStands}
-use Rattle.modbus_server.specs.Stepping.{Ran}
+use Rattle.modbus_server.specs.Polled.{polled, polled_past, PolledState, PollStands}
+use Rattle.modbus_server.specs.Step.{Ran}
 use Rattle.modbus_service.specs.Answering.{Answering}
 use Rattle.modbus_turn.specs.declared.turn.Turn.{Turn}
 use Rattle.modbus_turn.specs.declared.turn.Turn.TheVariants.{Waiting, Spent, Over}
 use Rattle.modbus_turn.specs.InTurn.{Said, RunOver, in_turn, saying_again}
+use Rattle.modbus_link.specs.Outside.{outside}
+use Rattle.modbus_server.specs.Moment.{moment}
 
 -- a connection: its link, and what its server keeps
 pub record SeatState (L : Type 0) : Type 0 where
@@ -35,14 +37,14 @@ module _ (F : Framing) {S : Type 0} (A : Answering S) {L : Type 0} (M : LinkMean
     pub bytes : List ℕ
     pub made : List (ℕ × ℕ)
     pub written : List ℕ
-    pub passes : Passes (M.input first) (M.input seat.link) (M.output first) (M.output seat.link) bytes made written
-    pub stands : (service : S) → PollStands F (in_turn A) turns bytes made written (saying_again own service) (saying_again [] service) seat.process.connection seat.process.left
+    pub passes : Passes (outside (M.input first) (M.output first)) (outside (M.input seat.link) (M.output seat.link)) bytes made written
+    pub stands : (service : S) → PollStands F (in_turn A) (polled_past turns bytes made (saying_again own service) written) (saying_again [] service) (polled seat.process.connection seat.process.left)
 
   -- Such a connection is over: it did what `process` does, over the link from first to last, whose service says all this to it and then goes
   -- from one state to another, as it does only where it refused memory.
   abbrev pub RanAlone : ℕ → L → List Said → L → S → S → Result (Unit {0}) ProcessError → Type 0
   RanAlone turns first own last before after result =
-      Ran F (in_turn A) (saying_again own before) (saying_again [] after) (M.input first) (M.input last) (M.output first) (M.output last) turns result
+      Ran F (in_turn A) turns (moment (saying_again own before) (M.input first) (M.output first)) (moment (saying_again [] after) (M.input last) (M.output last)) result
 
   -- what a connection that was told this is after a turn, at which the service came to a state and then to another
   abbrev pub TurnLeaves : ℕ → L → List Said → SeatState L → S → S → Turn → Type 0

@@ -1,8 +1,9 @@
-use Rattle.std.proofs.Common.{subst, ◌-◌, ◌^◌, ℕ, None, Ok}
+use Rattle.std.proofs.Common.{subst, ◌-◌, ◌^◌, None, Ok}
 use Rattle.modbus_link.specs.Line.{meaning_of}
 use Rattle.modbus_gateway.specs.Forwarded.{Forwarded}
 use Rattle.modbus_app.specs.Ending.{EndsBy}
 use Rattle.modbus_app.proofs.gateway.forward_to.Goals as goal
+use Rattle.modbus_server.specs.Moment.{moment}
 
 -- src/gateway.rt:61:1
 pub returns-in-Ok : goal.returns-in-Ok
@@ -18,7 +19,7 @@ returns-in-Ok g c =
       subst (λ given. g.C.Connector.connects c.args.connector.now c.args.line None given c.connect.new.self) c.in-Ok.is c.connect.ensures.connects,
       (
         c.run_gateway.new.line,
-        subst (λ start. EndsBy (Forwarded M start c.run_gateway.new.line from to sunk sinks (2 ^ 64 - 1)) said told c.run_gateway.result)
+        subst (λ start. EndsBy (Forwarded M (2 ^ 64 - 1) (moment start from sunk) (moment c.run_gateway.new.line to sinks)) said told c.run_gateway.result)
             c.attach-client.ensures c.run_gateway.ensures.ends,
       ),
     )

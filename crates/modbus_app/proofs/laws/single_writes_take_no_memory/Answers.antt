@@ -8,6 +8,6 @@ use Rattle.modbus_app.proofs.SingleWrites.{takes_none}
 use Rattle.modbus_app.proofs.laws.single_writes_take_no_memory.Goals as goal
 
 pub returns : goal.returns
-returns c = λ before after from to sunk sinks turns ran frames stop reading writes.
-    c.memory_at_the_opening.ensures before after from to sunk sinks turns ran frames stop reading
+returns c = λ turns before after ran frames stop reading writes.
+    c.memory_at_the_opening.ensures turns before after ran frames stop reading
     (All-weaker (λ f. IsSingleWrite (frame_at ran.fed f)) (λ f. TakesNone rtu device (frame_at ran.fed f)) (λ f. takes_none (frame_at ran.fed f)) frames writes)

@@ -23,19 +23,19 @@ texts-preserved c =
 pub returns-in-Some : goal.returns-in-Some
 returns-in-Some c =
     let bytes = c.args.bytes.now in let place = c.texts.place in let taken = take place bytes in let now = c.texts.invariant in
-    delivers_first bytes taken _ (place + 1) (c.in-Some.frame.slave, c.in-Some.frame.pdu.items) now.quiet (c.in-Some.ensures.gives taken now.decodes)
+    delivers_first c.open_ends_grow.ensures.closes c.frames_go_on.ensures.closed bytes taken _ (place + 1) (c.in-Some.frame.slave, c.in-Some.frame.pdu.items) now.quiet (c.in-Some.ensures.gives taken now.decodes)
     (take_more bytes place 0 c.texts-test.true) (omega (arith, c.texts-test.true))
 
 pub returns-then-bytes-start-gt-MAX_FRAME : goal.returns-then-bytes-start-gt-MAX_FRAME
 returns-then-bytes-start-gt-MAX_FRAME c =
     let bytes = c.args.bytes.now in let start = c.texts.start in let now = c.texts.invariant in
     let all = take_all c.texts.place bytes (omega (arith, c.texts-test.false)) in
-    delivers_nothing bytes start (subst (λ b. frames b ≡ []) all now.quiet) (subst (λ b. drop start b ≡ open_end b) all now.begins)
+    delivers_nothing c.frames_behind_open_ends.ensures.long bytes start (subst (λ b. frames b ≡ []) all now.quiet) (subst (λ b. drop start b ≡ open_end b) all now.begins)
     (omega (arith, c.if-bytes-start-gt-MAX_FRAME.true))
 
 pub returns : goal.returns
 returns c =
     let bytes = c.args.bytes.now in let start = c.texts.start in let now = c.texts.invariant in
     let all = take_all c.texts.place bytes (omega (arith, c.texts-test.false)) in
-    delivers_none bytes start (subst (λ b. frames b ≡ []) all now.quiet) (subst (λ b. drop start b ≡ open_end b) all now.begins)
+    delivers_none c.frames_behind_open_ends.ensures.behind bytes start (subst (λ b. frames b ≡ []) all now.quiet) (subst (λ b. drop start b ≡ open_end b) all now.begins)
     (omega (arith, now.within, c.texts.auto.place-end)) (omega (arith, c.if-bytes-start-gt-MAX_FRAME.false))

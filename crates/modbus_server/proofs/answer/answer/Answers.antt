@@ -14,7 +14,7 @@ returns-in-Ok-None-clause-answers g c =
     let e : F.request_of message.1 ≡ Ok (meaning c.in-Ok.request) = c.in-Ok.ensures.value in
     let step : A.gives c.args.service.now (F.slave message.0) (meaning c.in-Ok.request) silence c.ask.new.self =
     subst (λ n. A.gives c.args.service.now n (meaning c.in-Ok.request) silence c.ask.new.self) c.slave-slave.ensures (rw c.in-Ok-None.field-0-is at c.in-Ok-None.ensures) in
-    silent F A message c.args.service.now c.ask.new.self c.args.reply.now.items (exchange F message.0 (meaning c.in-Ok.request) silence)
+    silent F A g.row.I-Fault.Denot message c.args.service.now c.ask.new.self c.args.reply.now.items (exchange F message.0 (meaning c.in-Ok.request) silence)
     (answered F A message.0 message.1 c.args.service.now c.ask.new.self (meaning c.in-Ok.request) silence e step) refl c.requires.empty
 
 pub returns-in-Ok-Some-clause-answers : goal.returns-in-Ok-Some-clause-answers

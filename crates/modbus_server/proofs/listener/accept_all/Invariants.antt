@@ -1,5 +1,5 @@
 use Rattle.std.proofs.Common.{◌≤◌, ℕ}
-use Rattle.modbus_server.specs.Listening.{AcceptsMany}
+use Rattle.modbus_server.specs.Listener.{AcceptsMany}
 use Rattle.modbus_server.proofs.Counting.{Well}
 use Rattle.modbus_server.proofs.listener.accept_all.Given as goal
 

@@ -1,5 +1,5 @@
-use Rattle.modbus_server.specs.Listening.{as_stopped}
-use Rattle.modbus_server.specs.Stopping.{never_set}
+use Rattle.modbus_server.specs.Listener.{as_stopped}
+use Rattle.modbus_server.specs.Signal.{never_set}
 use Rattle.modbus_server.proofs.Unspawned.{heard}
 use Rattle.modbus_server.proofs.listener.serve_in_scope.Goals as goal
 

@@ -2,6 +2,7 @@ use Rattle.std.proofs.Common.{inr, refl}
 use Rattle.modbus_server.proofs.Running.{ran_none}
 use Rattle.modbus_server.proofs.Completing.{completes_until}
 use Rattle.modbus_server.proofs.serving.serve_until.Goals as goal
+use Rattle.modbus_server.specs.Moment.{signalled}
 
 pub returns-in-Err-clause-ran : goal.returns-in-Err-clause-ran
 returns-in-Err-clause-ran g c = ran_none g.I.Framing.framing g.V.Answerer.answering g.X.Stop.stops g.X.Stop.looks c.args.service.now _ _ _ _ c.open.ensures.stands
@@ -11,5 +12,5 @@ returns-in-Err-clause-complete g c = λ told clean fit few no_read no_write. inr
 
 pub returns-in-Ok-clause-complete : goal.returns-in-Ok-clause-complete
 returns-in-Ok-clause-complete g c =
-    completes_until g.I.Framing.framing g.V.Answerer.answering g.X.Stop.stops g.X.Stop.looks c.args.service.now c.run.new.service _ _ _ _ _ _ _ c.run.result
+    completes_until g.I.Framing.framing g.V.Answerer.answering (signalled g.X.Stop.stops g.X.Stop.looks) _ _ _ c.run.result
     c.clean_lines_are_served.ensures c.run.ensures

@@ -13,7 +13,7 @@ returns-in-Ready-clause-turn g c =
     c.new-rationed.result.link.now _ c.poll-answer.new.link.link.now _ (search rules) (search rules)
     (is_over g.I.Framing.framing g.V.Answerer.answering meaning (record { link = c.new-rationed.result.link.now; process = c.args.process.now })
     (record { link = c.poll-answer.new.link.link.now; process = c.poll-answer.new.self }) c.args.service.now c.poll-answer.new.service
-    c.service-before.ensures.own c.service-after.ensures.own _ _ _ _ _ _ _ _ 0 0 c.in-Ready.result c.in-Ready.ensures.ran)
+    c.service-before.ensures.own c.service-after.ensures.own _ _ _ _ _ _ _ _ c.in-Ready.result c.in-Ready.ensures.ran)
 
 pub returns-in-Pending-clause-turn : goal.returns-in-Pending-clause-turn
 returns-in-Pending-clause-turn g c =
@@ -23,7 +23,7 @@ returns-in-Pending-clause-turn g c =
     c.new-rationed.result.link.now _ c.poll-answer.new.link.link.now _ (search rules) (search rules)
     (is_spent g.I.Framing.framing g.V.Answerer.answering meaning (record { link = c.new-rationed.result.link.now; process = c.args.process.now })
     (record { link = c.poll-answer.new.link.link.now; process = c.poll-answer.new.self }) c.args.service.now c.poll-answer.new.service
-    c.service-before.ensures.own c.service-after.ensures.own _ _ _ _ _ _ _ _ _ _ c.in-Pending.ensures.polled)
+    c.service-before.ensures.own c.service-after.ensures.own _ _ _ _ _ _ _ _ c.in-Pending.ensures.polled)
 
 pub returns-in-Pending-clause-rests : goal.returns-in-Pending-clause-rests
 returns-in-Pending-clause-rests g c goes_on = c.in-Pending.ensures.polled.rests refl
@@ -36,7 +36,7 @@ returns-in-Pending-2-clause-turn g c =
     c.new-rationed.result.link.now _ c.poll-answer.new.link.link.now _ (search rules) (search rules)
     (waits g.I.Framing.framing g.V.Answerer.answering meaning (record { link = c.new-rationed.result.link.now; process = c.args.process.now })
     (record { link = c.poll-answer.new.link.link.now; process = c.poll-answer.new.self }) c.args.service.now c.poll-answer.new.service
-    c.service-before.ensures.own c.service-after.ensures.own _ _ _ _ _ _ _ _ _ _ c.in-Pending-2.ensures.polled)
+    c.service-before.ensures.own c.service-after.ensures.own _ _ _ _ _ _ _ _ c.in-Pending-2.ensures.polled)
 
 pub returns-in-Pending-2-clause-rests : goal.returns-in-Pending-2-clause-rests
 returns-in-Pending-2-clause-rests g c goes_on = c.in-Pending-2.ensures.polled.rests refl

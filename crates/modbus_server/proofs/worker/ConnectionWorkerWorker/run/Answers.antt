@@ -1,5 +1,5 @@
 use Rattle.std.proofs.Common.{subst, sym}
-use Rattle.modbus_server.specs.Listening.{IsTold}
+use Rattle.modbus_server.specs.Listener.{IsTold}
 use Rattle.modbus_server.proofs.worker.ConnectionWorkerWorker.run.Goals as goal
 
 pub tell-requires : goal.tell-requires

@@ -4,10 +4,6 @@ use Rattle.modbus_server.specs.declared.error.ProcessError.{ProcessError}
 use Rattle.modbus_server.specs.declared.error.ProcessError.TheVariants as process
 use Rattle.modbus_server.specs.declared.framing.Front.{Front}
 use Rattle.modbus_server.specs.declared.framing.Front.TheVariants as front
-use Rattle.modbus_server.specs.declared.error.Answer.{Answer}
-use Rattle.modbus_server.specs.declared.error.Answer.TheVariants.{Framed, Quiet}
-use Rattle.modbus_server.specs.declared.error.AnswerError.{AnswerError}
-use Rattle.modbus_server.specs.declared.error.AnswerError.TheVariants as fault
 use Rattle.modbus_server.specs.declared.error.NextError.{NextError}
 use Rattle.modbus_server.specs.declared.error.NextError.TheVariants.{Broken, Refused, TooLong, NoMemory}
 use Rattle.modbus_server.specs.declared.error.Next.{Next}
@@ -16,7 +12,7 @@ use Rattle.modbus_service.specs.Outcome.{silence}
 use Rattle.modbus_server.specs.Framing.{Framing, Message, IsOfFraming}
 use Rattle.modbus_service.specs.Answering.{Answering}
 use Rattle.modbus_server.specs.Exchanges.{Exchange}
-use Rattle.modbus_server.specs.Serving.{Stands, NextIsRequest, ServedAfter, broken, refused, too_long, NextTakesMemory, WantingAfter}
+use Rattle.modbus_server.specs.Served.{Past, with_exchange, Stands, NextIsRequest, ServedAfter, broken, refused, too_long, NextTakesMemory, WantingAfter}
 use Rattle.modbus_server.specs.State.{State}
 
 -- what stands at the front of the held bytes: the next message, which is taken off with all bytes before it; or these are all, and the
@@ -34,30 +30,15 @@ IsFrontWithin Waits held (Ok (front.Message header pdu end)) = (0 < end) × (end
 IsFrontWithin Waits held (Ok (front.Waiting dropped)) = (dropped ≤ length held) × Waits (drop dropped held)
 IsFrontWithin Waits held (Err fault) = Unit {0}
 
--- what a connection did with a message that was answered so
-abbrev pub next_of : {E : Type 0} → Result Answer AnswerError → Result Next (NextError E)
-next_of (Ok Framed) = Ok Reply
-next_of (Ok Quiet) = Ok Silent
-next_of (Err (fault.Refused reason)) = Err (Refused reason)
-next_of (Err (fault.TooLong size)) = Err (TooLong size)
-next_of (Err fault.NoMemory) = Err NoMemory
-
 -- What it stands for then, after these exchanges. An error comes right after them.
-abbrev pub TakesAs : (F : Framing) → {S E : Type 0} → Answering S → (E → ProcessError) → List ℕ → List ℕ → List ℕ → S → S → List ℕ → List ℕ → List (Exchange F) → Result Next (NextError E) → Type 0
-TakesAs F A told bytes cuts held opening now written waiting exchanges (Ok Reply) =
-    (x : Exchange F) × Stands F A bytes cuts held opening now written waiting (exchanges ++ x ∷ []) × (x.outcome ≢ silence)
-TakesAs F A told bytes cuts held opening now written waiting exchanges (Ok Silent) =
-    (x : Exchange F) × Stands F A bytes cuts held opening now written [] (exchanges ++ x ∷ []) × (x.outcome ≡ silence)
-TakesAs F A told bytes cuts held opening now written waiting exchanges (Ok Waiting) =
-    (s : Stands F A bytes cuts held opening now written [] exchanges) × F.IsAll bytes cuts held s.taken
-TakesAs F A told bytes cuts held opening now written waiting exchanges (Err (Broken fault)) =
-    ServedAfter F A bytes cuts opening now written exchanges (broken (told fault))
-TakesAs F A told bytes cuts held opening now written waiting exchanges (Err (Refused reason)) =
-    ServedAfter F A bytes cuts opening now written exchanges (refused reason)
-TakesAs F A told bytes cuts held opening now written waiting exchanges (Err (TooLong size)) =
-    ServedAfter F A bytes cuts opening now written exchanges (too_long size)
-TakesAs F A told bytes cuts held opening now written waiting exchanges (Err NoMemory) =
-    WantingAfter F A bytes cuts opening now written exchanges × NextIsRequest F bytes cuts exchanges
+abbrev pub TakesAs : (F : Framing) → {S E : Type 0} → Answering S → (E → ProcessError) → Past F S → List ℕ → S → List ℕ → Result Next (NextError E) → Type 0
+TakesAs F A told behind held now waiting (Ok Reply) = (x : Exchange F) × Stands F A (with_exchange behind x) held now waiting × (x.outcome ≢ silence)
+TakesAs F A told behind held now waiting (Ok Silent) = (x : Exchange F) × Stands F A (with_exchange behind x) held now [] × (x.outcome ≡ silence)
+TakesAs F A told behind held now waiting (Ok Waiting) = (s : Stands F A behind held now []) × F.IsAll behind.bytes behind.cuts held s.taken
+TakesAs F A told behind held now waiting (Err (Broken fault)) = ServedAfter F A behind now (broken (told fault))
+TakesAs F A told behind held now waiting (Err (Refused reason)) = ServedAfter F A behind now (refused reason)
+TakesAs F A told behind held now waiting (Err (TooLong size)) = ServedAfter F A behind now (too_long size)
+TakesAs F A told behind held now waiting (Err NoMemory) = WantingAfter F A behind now × NextIsRequest F behind.bytes behind.cuts behind.exchanges
 
 -- what is held and what waits then
 abbrev pub KeepsAs : {S E : Type 0} → (List ℕ → Type 0) → List ℕ → List ℕ → List ℕ → S → S → Result Next (NextError E) → Type 0
@@ -68,9 +49,8 @@ KeepsAs Waits old new waiting before after (Err error) = Unit {0}
 
 -- What `next` promises.
 pub record Took (F : Framing) {S E : Type 0} (A : Answering S) (told : E → ProcessError) (old new : State) (before after : S) (result : Result Next (NextError E)) : Type 0 where
-  -- for all bytes, cuts, opening state and written bytes for which the connection stands
-  pub stands : (bytes cuts written : List ℕ) (opening : S) (exchanges : List (Exchange F)) → Stands F A bytes cuts old.held opening before written [] exchanges
-      → TakesAs F A told bytes cuts new.held opening after written new.waiting exchanges result
+  -- for all that the connection may have behind it
+  pub stands : (behind : Past F S) → Stands F A behind old.held before [] → TakesAs F A told behind new.held after new.waiting result
   pub keeps : KeepsAs F.Waits old.held new.held new.waiting before after result
   -- memory is wanting only for the next message
   pub memory : result ≡ Err NoMemory → (bytes cuts : List ℕ) (taken : List (Message F)) → F.StandsFor bytes cuts old.held taken

@@ -2,7 +2,7 @@
 use Rattle.std.specs.Prelude.{◌≡◌, ℕ, zero, suc, ◌+◌, ◌<◌, ◌≤◌, List, [], length, Bool, true, false, Result, Ok, Err}
 use Rattle.modbus_frame.specs.declared.server.Terminated.{Terminated}
 use Rattle.modbus_frame.specs.declared.server.Terminated.TheVariants.{Finished, Aborted}
-use Rattle.modbus_link.specs.Outside.{Input, Output, Rose}
+use Rattle.modbus_link.specs.Outside.{Rose}
 use Rattle.modbus_link.specs.Passing.{Passes}
 use Rattle.modbus_link.specs.Reads.{totals, HaveRooms, some_turns, Spends}
 use Rattle.modbus_service.specs.Answering.{Answering}
@@ -10,8 +10,9 @@ use Rattle.modbus_server.specs.declared.error.ProcessError.{ProcessError}
 use Rattle.modbus_server.specs.declared.error.ProcessError.TheVariants.{NoMemory}
 use Rattle.modbus_server.specs.Framing.{Framing}
 use Rattle.modbus_server.specs.Exchanges.{Exchange}
-use Rattle.modbus_server.specs.Serving.{Stands}
-use Rattle.modbus_server.specs.Stepping.{Ran}
+use Rattle.modbus_server.specs.Served.{past, Stands}
+use Rattle.modbus_server.specs.Moment.{Moment, Watched, SignalMeaning}
+use Rattle.modbus_server.specs.Step.{Ran}
 
 -- so many looks at a signal, one after another, said that it is not set
 abbrev pub StaysUnset : {X : Type 0} → (X → Bool → X → Type 0) → X → ℕ → X → Type 0
@@ -25,41 +26,40 @@ IsSetAfter {X} looks old count new = (now : X) × StaysUnset looks old count now
 -- What a call promises that was stopped between two steps. The service answered the first messages of the bytes that were fed, and
 -- their replies were written whole. There was a step for each read that gave bytes and for each of these messages, with a look before
 -- each and one more, the first that said that the signal is set.
-pub record Stopped (F : Framing) {S X : Type 0} (A : Answering S) (stops : X → ℕ) (looks : X → Bool → X → Type 0)
-    (before after : S) (from to : Input) (sunk sinks : Output) (turns : ℕ) (start end : X) : Type 0 where
+pub record Stopped (F : Framing) {S X : Type 0} (A : Answering S) (signal : SignalMeaning X) (turns : ℕ) (before after : Watched S X) : Type 0 where
   pub fed : List ℕ
   pub made : List (ℕ × ℕ)
   pub sent : List ℕ
-  pub passes : Passes from to sunk sinks fed made sent
+  pub passes : Passes before.moment.outside after.moment.outside fed made sent
   pub held : List ℕ
   pub exchanges : List (Exchange F)
-  pub stands : Stands F A fed (totals made) held before after sent [] exchanges
+  pub stands : Stands F A (past fed (totals made) before.moment.service sent exchanges) held after.moment.service []
   pub rooms : HaveRooms F.HasRoom fed 0 made
   pub spends : Spends some_turns (length made) turns
-  pub rose : Rose (stops start) (stops end)
-  pub looked : IsSetAfter looks start (length made + length exchanges) end
+  pub rose : Rose (signal.stops before.signal) (signal.stops after.signal)
+  pub looked : IsSetAfter signal.looks before.signal (length made + length exchanges) after.signal
 
 -- How often a call looked that was not stopped: before each read that gave bytes, each request that was answered, and the step at which
 -- it ended. An error does not tell how many requests these were, and without memory there may have been no step.
-abbrev pub LooksEach : (F : Framing) {S : Type 0} (A : Answering S) (before after : S) (from to : Input) (sunk sinks : Output) (turns : ℕ) (result : Result (Unit {0}) ProcessError)
-    → Ran F A before after from to sunk sinks turns result → ℕ → Type 0
-LooksEach F A before after from to sunk sinks turns (Ok done) ran count = count ≡ length ran.made + length ran.served.exchanges + 1
-LooksEach F A before after from to sunk sinks turns (Err NoMemory) ran count = length ran.made ≤ count
-LooksEach F A before after from to sunk sinks turns (Err _) ran count = length ran.made < count
+abbrev pub LooksEach : {F : Framing} {S : Type 0} {A : Answering S} {turns : ℕ} {before after : Moment S} (result : Result (Unit {0}) ProcessError)
+    → Ran F A turns before after result → ℕ → Type 0
+LooksEach (Ok done) ran count = count ≡ length ran.made + length ran.served.exchanges + 1
+LooksEach (Err NoMemory) ran count = length ran.made ≤ count
+LooksEach (Err _) ran count = length ran.made < count
 
 -- What a call promises that was not stopped: all that a call to the end promises. Each look said that the signal is not set.
-pub record Unstopped (F : Framing) {S X : Type 0} (A : Answering S) (looks : X → Bool → X → Type 0)
-    (before after : S) (from to : Input) (sunk sinks : Output) (turns : ℕ) (start end : X) (result : Result (Unit {0}) ProcessError) : Type 0 where
-  pub ran : Ran F A before after from to sunk sinks turns result
+pub record Unstopped (F : Framing) {S X : Type 0} (A : Answering S) (signal : SignalMeaning X) (turns : ℕ) (before after : Watched S X)
+    (result : Result (Unit {0}) ProcessError) : Type 0 where
+  pub ran : Ran F A turns before.moment after.moment result
   pub count : ℕ
-  pub each : LooksEach F A before after from to sunk sinks turns result ran count
-  pub looked : StaysUnset looks start count end
+  pub each : LooksEach result ran count
+  pub looked : StaysUnset signal.looks before.signal count after.signal
 
 -- what a call promises that may be stopped
-abbrev pub RanUntil : (F : Framing) → {S X : Type 0} → Answering S → (X → ℕ) → (X → Bool → X → Type 0) → S → S → Input → Input → Output → Output → ℕ → X → X → Result Terminated ProcessError → Type 0
-RanUntil F A stops looks before after from to sunk sinks turns start end (Ok Aborted) = Stopped F A stops looks before after from to sunk sinks turns start end
-RanUntil F A stops looks before after from to sunk sinks turns start end (Ok Finished) = Unstopped F A looks before after from to sunk sinks turns start end (Ok tt)
-RanUntil F A stops looks before after from to sunk sinks turns start end (Err error) = Unstopped F A looks before after from to sunk sinks turns start end (Err error)
+abbrev pub RanUntil : (F : Framing) → {S X : Type 0} → Answering S → SignalMeaning X → ℕ → Watched S X → Watched S X → Result Terminated ProcessError → Type 0
+RanUntil F A signal turns before after (Ok Aborted) = Stopped F A signal turns before after
+RanUntil F A signal turns before after (Ok Finished) = Unstopped F A signal turns before after (Ok tt)
+RanUntil F A signal turns before after (Err error) = Unstopped F A signal turns before after (Err error)
 
 -- what a look at a signal says that is never set
 abbrev pub never_set : Unit {0} → Bool → Unit {0} → Type 0

@@ -1,5 +1,7 @@
 -- What a connection stands for over everything that it was fed, and how a run of it ends.
-use Rattle.std.specs.Prelude.{◌≡◌, ◌≢◌, ◌⊎◌, ℕ, ◌<◌, List, [], ◌∷◌, ◌++◌, map, All, Result, Ok, Err}
+use Rattle.std.specs.Prelude.{◌≡◌, ◌≢◌, ◌⊎◌, ℕ, ◌<◌, List, [], ◌∷◌, ◌++◌, map, length, All, Result, Ok, Err}
+use Rattle.modbus_link.specs.Outside.{shifted}
+use Rattle.modbus_link.specs.Reads.{totals}
 use Rattle.modbus_frame.specs.Meaning.{Asked}
 use Rattle.modbus_frame.specs.declared.fault.Reason.{Reason}
 use Rattle.modbus_pdu.specs.Limits.{max_pdu}
@@ -14,18 +16,38 @@ use Rattle.modbus_server.specs.Answer.{WantsFor}
 abbrev pub IsEndOf : List ℕ → List ℕ → Type 0
 IsEndOf rest whole = (front : List ℕ) × (whole ≡ front ++ rest)
 
--- A connection that holds these bytes was fed all those in these pieces. The messages that it took are requests, which the service
--- answered in these exchanges with replies that fit. What was written, and then what waits, is the output of the run, and what waits
--- is of the last reply alone.
-pub record Stands (F : Framing) {S : Type 0} (A : Answering S) (bytes cuts held : List ℕ)
-    (opening now : S) (written waiting : List ℕ) (exchanges : List (Exchange F)) : Type 0 where
+-- What a connection has behind it: all bytes that it was fed and the totals after each piece of them, the service as it was at first,
+-- what was written, and the exchanges.
+pub record Past (F : Framing) (S : Type 0) : Type 0 where
+  pub bytes : List ℕ
+  pub cuts : List ℕ
+  pub opening : S
+  pub written : List ℕ
+  pub exchanges : List (Exchange F)
+
+abbrev pub past : {F : Framing} {S : Type 0} → List ℕ → List ℕ → S → List ℕ → List (Exchange F) → Past F S
+past bytes cuts opening written exchanges = record { bytes = bytes; cuts = cuts; opening = opening; written = written; exchanges = exchanges }
+
+-- it was fed more in these reads, and more was written
+abbrev pub gone_on : {F : Framing} {S : Type 0} → Past F S → List ℕ → List (ℕ × ℕ) → List ℕ → Past F S
+gone_on behind fed made sent =
+    past (behind.bytes ++ fed) (behind.cuts ++ totals (shifted (length behind.bytes) made)) behind.opening (behind.written ++ sent) behind.exchanges
+
+-- one more message was answered
+abbrev pub with_exchange : {F : Framing} {S : Type 0} → Past F S → Exchange F → Past F S
+with_exchange behind x = past behind.bytes behind.cuts behind.opening behind.written (behind.exchanges ++ x ∷ [])
+
+-- A connection that has this behind it and holds these bytes. The messages that it took are requests, which the service answered in its
+-- exchanges with replies that fit. What was written, and then what waits, is the output of the run, and what waits is of the last reply
+-- alone.
+pub record Stands (F : Framing) {S : Type 0} (A : Answering S) (behind : Past F S) (held : List ℕ) (now : S) (waiting : List ℕ) : Type 0 where
   pub taken : List (Message F)
-  pub stands : F.StandsFor bytes cuts held taken
-  pub asked : map (asked_of F) taken ≡ map (asks F) exchanges
-  pub run : Run F A opening exchanges now
-  pub fit : All (ReplyFits F) exchanges
-  pub wrote : written ++ waiting ≡ output F exchanges
-  pub late : IsEndOf waiting (last_reply F exchanges)
+  pub stands : F.StandsFor behind.bytes behind.cuts held taken
+  pub asked : map (asked_of F) taken ≡ map (asks F) behind.exchanges
+  pub run : Run F A behind.opening behind.exchanges now
+  pub fit : All (ReplyFits F) behind.exchanges
+  pub wrote : behind.written ++ waiting ≡ output F behind.exchanges
+  pub late : IsEndOf waiting (last_reply F behind.exchanges)
 
 -- all messages of these bytes were answered in these exchanges
 abbrev pub AreAllAnswered : (F : Framing) → List ℕ → List ℕ → List (Exchange F) → Type 0
@@ -73,29 +95,24 @@ pub record Served (F : Framing) {S : Type 0} (A : Answering S) (bytes cuts : Lis
   pub halts : Halts F A bytes cuts before ends now halt
 
 -- such a run, whose exchanges are these
-abbrev pub ServedAfter : (F : Framing) → {S : Type 0} → Answering S → List ℕ → List ℕ → S → S → List ℕ → List (Exchange F) → Halt → Type 0
-ServedAfter F A bytes cuts opening now written exchanges halt =
-    (served : Served F A bytes cuts opening now written halt) × (served.exchanges ≡ exchanges)
+abbrev pub ServedAfter : (F : Framing) → {S : Type 0} → Answering S → Past F S → S → Halt → Type 0
+ServedAfter F A behind now halt =
+    (served : Served F A behind.bytes behind.cuts behind.opening now behind.written halt) × (served.exchanges ≡ behind.exchanges)
 
--- the exchange whose response is too long, where a call stops at one
-abbrev pub asked_last : (F : Framing) {S : Type 0} (A : Answering S) (bytes cuts : List ℕ) (before : List (Message F)) (ends now : S) (halt : Halt)
-    → Halts F A bytes cuts before ends now halt → List (Exchange F)
-asked_last F A bytes cuts before ends now (remaining left) h = []
-asked_last F A bytes cuts before ends now (broken fault) h = []
-asked_last F A bytes cuts before ends now (refused reason) h = []
-asked_last F A bytes cuts before ends now (too_long size) h = h.2 ∷ []
-
--- all exchanges of the run of a call
-abbrev pub all_asked : (F : Framing) {S : Type 0} (A : Answering S) (bytes cuts : List ℕ) (opening now : S) (written : List ℕ) (halt : Halt)
+-- all exchanges of the run of a call, with that whose response is too long, where it stops at one
+abbrev pub all_asked : {F : Framing} {S : Type 0} {A : Answering S} {bytes cuts : List ℕ} {opening now : S} {written : List ℕ} (halt : Halt)
     → Served F A bytes cuts opening now written halt → List (Exchange F)
-all_asked F A bytes cuts opening now written halt s = s.exchanges ++ asked_last F A bytes cuts s.before s.ends now halt s.halts
+all_asked (remaining left) s = s.exchanges
+all_asked (broken fault) s = s.exchanges
+all_asked (refused reason) s = s.exchanges
+all_asked (too_long size) s = s.exchanges ++ s.halts.2 ∷ []
 
 -- The sink failed: the service answered the first messages, all of the output was written but a rest of the last reply.
 pub record Unwritten (F : Framing) {S : Type 0} (A : Answering S) (bytes cuts : List ℕ) (opening now : S) (written : List ℕ) : Type 0 where
   pub held : List ℕ
   pub waiting : List ℕ
   pub exchanges : List (Exchange F)
-  pub stood : Stands F A bytes cuts held opening now written waiting exchanges
+  pub stood : Stands F A (past bytes cuts opening written exchanges) held now waiting
 
 -- Right after these exchanges nothing fails: the next message is a request, or these are all messages, or nothing was fed.
 abbrev pub NothingFails : (F : Framing) → List ℕ → List ℕ → List (Exchange F) → Type 0
@@ -116,13 +133,13 @@ pub record Wanting (F : Framing) {S : Type 0} (A : Answering S) (bytes cuts : Li
   pub held : List ℕ
   pub exchanges : List (Exchange F)
   pub ends : S
-  pub stood : Stands F A bytes cuts held opening ends written [] exchanges
+  pub stood : Stands F A (past bytes cuts opening written exchanges) held ends []
   pub cause : WantsMemory F A bytes cuts held stood.taken ends now
 
 -- such a want after these exchanges
-abbrev pub WantingAfter : (F : Framing) → {S : Type 0} → Answering S → List ℕ → List ℕ → S → S → List ℕ → List (Exchange F) → Type 0
-WantingAfter F A bytes cuts opening now written exchanges =
-    (wanting : Wanting F A bytes cuts opening now written) × (wanting.exchanges ≡ exchanges)
+abbrev pub WantingAfter : (F : Framing) → {S : Type 0} → Answering S → Past F S → S → Type 0
+WantingAfter F A behind now =
+    (wanting : Wanting F A behind.bytes behind.cuts behind.opening now behind.written) × (wanting.exchanges ≡ behind.exchanges)
 
 -- how a call ended, over all that was fed and written
 abbrev pub EndsAs : (F : Framing) → {S : Type 0} → Answering S → List ℕ → List ℕ → S → S → List ℕ → Result (Unit {0}) ProcessError → Type 0

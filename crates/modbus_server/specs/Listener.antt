@@ -8,7 +8,7 @@ use Rattle.modbus_link.specs.Outside.{Rose}
 use Rattle.modbus_server.specs.declared.error.ProcessError.{ProcessError}
 use Rattle.modbus_server.specs.declared.error.ServeError.{ServeError}
 use Rattle.modbus_server.specs.declared.error.ServeError.TheVariants.{AcceptFault, Connect, SpawnFault, NoMemory}
-use Rattle.modbus_server.specs.Stopping.{never_set}
+use Rattle.modbus_server.specs.Signal.{never_set}
 
 -- what a worker of one connection has
 pub record WorkerState (L V H X : Type 0) : Type 0 where
