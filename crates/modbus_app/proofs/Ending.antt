@@ -14,8 +14,8 @@ use Rattle.modbus_app.specs.declared.words.Form.{Form}
 use Rattle.modbus_app.specs.declared.words.Task.{Task}
 use Rattle.modbus_app.specs.declared.words.Task.TheVariants.{Serve, Make, Listen, Forward, Plan}
 use Rattle.modbus_app.specs.Make.{SumsUp, summary}
-use Rattle.modbus_app.specs.Device.{EndsServing, Serves, messages_of, opening}
-use Rattle.modbus_app.specs.Ending.{Ends, Makes, TellsResult}
+use Rattle.modbus_app.specs.Device.{EndsServing, ServesStreams, messages_of, device_of}
+use Rattle.modbus_app.specs.Ends.{EndsProgram, MakesRequests, TellsResult}
 use Rattle.modbus_app.specs.Status.{ending_of, Reports, line_of}
 use Rattle.modbus_server.specs.Moment.{moment}
 
@@ -31,12 +31,12 @@ count_or other (Some Plan) = other
 pub same_count : (a b : ℕ) (found : Option Task) → Some (Make a) ≡ found → found ≡ Some (Make b) → a ≡ b
 same_count a b found e f = ap (count_or a) (e ∙ f)
 
-module _ (form : Form) (opened now : Tables) (start : opened ≡ opening form) (from to : Input) (sunk sinks : Output) where
-  serves : (result : Result (Unit {0}) ProcessError) → Ran (messages_of form.mode) device (2 ^ 64 - 1) (moment opened from sunk) (moment now to sinks) result → Serves form from to sunk sinks result
+module _ (form : Form) (opened now : Tables) (start : opened ≡ device_of form) (from to : Input) (sunk sinks : Output) where
+  serves : (result : Result (Unit {0}) ProcessError) → Ran (messages_of form.mode) device (2 ^ 64 - 1) (moment opened from sunk) (moment now to sinks) result → ServesStreams form from to sunk sinks result
   serves result ran = record { now = now; ran = subst (λ t. Ran (messages_of form.mode) device (2 ^ 64 - 1) (moment t from sunk) (moment now to sinks) result) start ran }
 
   pub ends : (said told : Output) (status : ℕ) (result : Result (Unit {0}) ProcessError) → Ran (messages_of form.mode) device (2 ^ 64 - 1) (moment opened from sunk) (moment now to sinks) result
-      → ending_of result ≡ Some status → TellsResult said told result → Ends form from to sunk sinks said told status
+      → ending_of result ≡ Some status → TellsResult said told result → EndsProgram form from to sunk sinks said told status
   ends said told status result ran is tells = record { result = result; is = is; served = inl (serves result ran); tells = tells }
 
   -- where all was served, all that was left was read, and what was appended is the output
@@ -57,11 +57,11 @@ module _ (form : Form) (opened now : Tables) (start : opened ≡ opening form) (
       )
 
 -- no device, where memory was refused
-pub unserved : (form : Form) (from : Input) (sunk said told : Output) → Reports said told (line_of NoMemory) → Ends form from from sunk sunk said told 11
+pub unserved : (form : Form) (from : Input) (sunk said told : Output) → Reports said told (line_of NoMemory) → EndsProgram form from from sunk sunk said told 11
 unserved form from sunk said told reports = record { result = Err NoMemory; is = refl; served = inr (refl, refl); tells = reports }
 
 -- with status 0 the summary was appended
-pub made_whole : (count : ℕ) (from to : Input) (sunk sinks said told : Output) (status : ℕ) → Makes count from to sunk sinks said told status → status ≡ 0 → IsTrue sunk.told → bytes_appended sunk sinks ≡ summary count
+pub made_whole : (count : ℕ) (from to : Input) (sunk sinks said told : Output) (status : ℕ) → MakesRequests count from to sunk sinks said told status → status ≡ 0 → IsTrue sunk.told → bytes_appended sunk sinks ≡ summary count
 made_whole count from to sunk sinks said told status m done is_told = by_result m.result m.is m.sums
   where
     by_result : (result : Result (Unit {0}) ProcessError) → ending_of result ≡ Some status → SumsUp count sunk sinks result → bytes_appended sunk sinks ≡ summary count
@@ -71,7 +71,7 @@ made_whole count from to sunk sinks said told status m done is_told = by_result 
     by_result (Err other) is sums = absurd sums
 
 -- where the sink had no fault, the status is 0 or that of refused memory
-pub made_unless : (count : ℕ) (from to : Input) (sunk sinks said told : Output) (status : ℕ) → Makes count from to sunk sinks said told status → (Rose sunk.faults sinks.faults → ⊥) → (status ≡ 0) ⊎ (status ≡ 11)
+pub made_unless : (count : ℕ) (from to : Input) (sunk sinks said told : Output) (status : ℕ) → MakesRequests count from to sunk sinks said told status → (Rose sunk.faults sinks.faults → ⊥) → (status ≡ 0) ⊎ (status ≡ 11)
 made_unless count from to sunk sinks said told status m calm = by_result m.result m.is m.sums
   where
     by_result : (result : Result (Unit {0}) ProcessError) → ending_of result ≡ Some status → SumsUp count sunk sinks result → (status ≡ 0) ⊎ (status ≡ 11)

@@ -1,6 +1,5 @@
 pub mod Fitting
 pub mod Ending
-pub mod Digits
 pub mod ServingLinks
 pub mod SingleWrites
 pub mod Making

@@ -19,7 +19,7 @@ use Rattle.modbus_pdu.specs.RequestOf.{request_of}
 use Rattle.modbus_pdu.specs.RequestPdu.{request_pdu}
 use Rattle.modbus_rtu.specs.Checksum.{crc}
 use Rattle.modbus_rtu.specs.Frame.{frame}
-use Rattle.modbus_rtu.specs.Framed.{IsModelledAsk, IsFramedAsk, message_of, stream_of}
+use Rattle.modbus_rtu.specs.WholeReading.{IsModelledAsk, IsFramedAsk, message_of, stream_of}
 use Rattle.modbus_rtu.specs.Leftmost.{IsLeftmost}
 use Rattle.modbus_rtu.specs.Place.{frames_below}
 use Rattle.modbus_rtu.specs.Quiet.{IsQuietLine}
@@ -27,25 +27,25 @@ use Rattle.modbus_rtu.specs.Stands.{HasCrowd, IsTakenNext, IsUsedUp, frame_at}
 use Rattle.modbus_service.specs.Outcome.{Outcome, silence, reply, exception, code_of, reply_pdu}
 use Rattle.modbus_server.specs.declared.error.ProcessError.{ProcessError}
 use Rattle.modbus_server.specs.declared.error.ProcessError.TheVariants.{ReadFault, WriteFault, TooManyRetries, BytesRemaining, InvalidRequest, ResponseTooLong, TurnLimit, InvalidLength, InvalidProtocol, NoMemory}
-use Rattle.modbus_server.specs.Exchanges.{Exchange, Run, ReplyFits, output, reply_of, framed, asked_of, asks}
+use Rattle.modbus_server.specs.Exchanges.{Exchange, Run, ReplyFits, output, reply_of, framed_outcome, asked_of, asks}
 use Rattle.modbus_server.specs.Rtu.{rtu}
 use Rattle.modbus_server.specs.Served.{Served, remaining}
 use Rattle.modbus_server.specs.Step.{Ran}
 use Rattle.modbus_store.specs.Tables.{Tables}
 use Rattle.modbus_store.specs.Step.{device, store_step}
-use Rattle.modbus_app.specs.Make.{next_number, made_kind, request_by, number_at, requests_made, made_for, line_made, made_tables, answered, replies_made}
+use Rattle.modbus_app.specs.Make.{next_number, made_kind, request_by, number_at, requests_made, made_slave, line_made, made_tables, exchanges_made, replies_made}
 use Rattle.modbus_app.proofs.Fitting.{never_long}
 use Rattle.modbus_server.specs.Moment.{moment}
 
 -- a request for the one slave, and its message
 abbrev for_slave : Asked → ℕ × Asked
-for_slave request = (made_for, request)
+for_slave request = (made_slave, request)
 
 abbrev message_for : Asked → ℕ × List ℕ
-message_for request = (made_for, request_pdu request)
+message_for request = (made_slave, request_pdu request)
 
 abbrev question_for : Asked → ℕ × Result Asked Reason
-question_for request = (made_for, Ok request)
+question_for request = (made_slave, Ok request)
 
 either : (P : Asked → Type 0) (b : Bool) (r s : Asked) → P r → P s → P (if b then r else s)
 either P true r s p q = p
@@ -115,19 +115,19 @@ pub first_number : number_at 0 ≡ 1
 unfolding number_at
 first_number = refl
 
-pub line_more : (count : ℕ) → line_made (count + 1) ≡ line_made count ++ frame made_for (request_pdu (request_by (number_at (count + 1))))
+pub line_more : (count : ℕ) → line_made (count + 1) ≡ line_made count ++ frame made_slave (request_pdu (request_by (number_at (count + 1))))
 unfolding requests_made
 line_more count =
-    let g : Asked → List ℕ = λ request. frame made_for (request_pdu request) in
+    let g : Asked → List ℕ = λ request. frame made_slave (request_pdu request) in
     let f : ℕ → Asked = λ k. request_by (number_at k) in
     ap (flat_map g) (map-range_with_len_more f 1 count (count + 1) (omega arith))
     ∙ flat_map-append g (map f (range_with_len 1 count)) (f (count + 1) ∷ [])
     ∙ ap (λ last. flat_map g (map f (range_with_len 1 count)) ++ last) (append-nil (g (f (count + 1))))
 
 -- the requests as a line
-stream_is : (requests : List Asked) → stream_of (map message_of (map for_slave requests)) ≡ flat_map (λ request. frame made_for (request_pdu request)) requests
+stream_is : (requests : List Asked) → stream_of (map message_of (map for_slave requests)) ≡ flat_map (λ request. frame made_slave (request_pdu request)) requests
 stream_is [] = refl
-stream_is (request ∷ requests) = ap (λ rest. frame made_for (request_pdu request) ++ rest) (stream_is requests)
+stream_is (request ∷ requests) = ap (λ rest. frame made_slave (request_pdu request) ++ rest) (stream_is requests)
 
 messages_are : (requests : List Asked) → map message_of (map for_slave requests) ≡ map message_for requests
 messages_are [] = refl
@@ -152,10 +152,10 @@ length-frame : (slave : ℕ) (pdu : List ℕ) → length (frame slave pdu) ≡ l
 unfolding frame
 length-frame slave pdu = omega (arith, length-append (slave ∷ pdu) (crc (slave ∷ pdu) % 256 ∷ crc (slave ∷ pdu) / 256 ∷ []))
 
-length-line : (requests : List Asked) → AllByRecursion IsPlain requests → length (flat_map (λ request. frame made_for (request_pdu request)) requests) ≡ 8 * length requests
+length-line : (requests : List Asked) → AllByRecursion IsPlain requests → length (flat_map (λ request. frame made_slave (request_pdu request)) requests) ≡ 8 * length requests
 length-line [] all = refl
 length-line (request ∷ requests) all =
-    omega (arith, length-append (frame made_for (request_pdu request)) (flat_map (λ request. frame made_for (request_pdu request)) requests), length-frame made_for (request_pdu request), all.0.size, length-line requests all.1)
+    omega (arith, length-append (frame made_slave (request_pdu request)) (flat_map (λ request. frame made_slave (request_pdu request)) requests), length-frame made_slave (request_pdu request), all.0.size, length-line requests all.1)
 
 abbrev ok : Asked → Result Asked Reason
 ok request = Ok request
@@ -167,29 +167,29 @@ abbrev exchange : ℕ → Asked → Outcome → Exchange rtu
 exchange header request outcome = record { header = header; request = request; outcome = outcome }
 
 -- a run over these questions has the one outcome of each
-run_is : (tables end : Tables) (requests : List Asked) (xs : List (Exchange rtu)) → Run rtu device tables xs end → map (asks rtu) xs ≡ map question_for requests → xs ≡ answered tables requests
-unfolding answered
+run_is : (tables end : Tables) (requests : List Asked) (xs : List (Exchange rtu)) → Run rtu device tables xs end → map (asks rtu) xs ≡ map question_for requests → xs ≡ exchanges_made tables requests
+unfolding exchanges_made
 run_is tables end [] [] run e = refl
 run_is tables end [] (x ∷ xs) run e = cc
 run_is tables end (request ∷ requests) [] run e = cc
 run_is tables end (request ∷ requests) (x ∷ xs) (next, step, rest) e =
     let asked : asks rtu x ≡ question_for request = cc in
-    let header : x.header ≡ made_for = ap (λ (q : ℕ × Result Asked Reason). q.0) asked in
+    let header : x.header ≡ made_slave = ap (λ (q : ℕ × Result Asked Reason). q.0) asked in
     let is : x.request ≡ request = same_ok (ap (λ (q : ℕ × Result Asked Reason). q.1) asked) in
-    let same : store_step tables made_for request ≡ (x.outcome, next) = ap (λ s. store_step tables s request) (sym header) ∙ ap (store_step tables x.header) (sym is) ∙ step in
-    let outcome : x.outcome ≡ (store_step tables made_for request).0 = ap (λ (s : Outcome × Tables). s.0) (sym same) in
-    let after : next ≡ (store_step tables made_for request).1 = ap (λ (s : Outcome × Tables). s.1) (sym same) in
+    let same : store_step tables made_slave request ≡ (x.outcome, next) = ap (λ s. store_step tables s request) (sym header) ∙ ap (store_step tables x.header) (sym is) ∙ step in
+    let outcome : x.outcome ≡ (store_step tables made_slave request).0 = ap (λ (s : Outcome × Tables). s.0) (sym same) in
+    let after : next ≡ (store_step tables made_slave request).1 = ap (λ (s : Outcome × Tables). s.1) (sym same) in
     let others : map (asks rtu) xs ≡ map question_for requests = cc in
-    let later : xs ≡ answered next requests = run_is next end requests xs rest others in
-    let first : x ≡ exchange made_for request (store_step tables made_for request).0 =
-    ap (λ h. exchange h x.request x.outcome) header ∙ ap (λ r. exchange made_for r x.outcome) is ∙ ap (exchange made_for request) outcome in
-    ap (λ y. y ∷ xs) first ∙ ap (λ ys. exchange made_for request (store_step tables made_for request).0 ∷ ys) (later ∙ ap (λ t. answered t requests) after)
+    let later : xs ≡ exchanges_made next requests = run_is next end requests xs rest others in
+    let first : x ≡ exchange made_slave request (store_step tables made_slave request).0 =
+    ap (λ h. exchange h x.request x.outcome) header ∙ ap (λ r. exchange made_slave r x.outcome) is ∙ ap (exchange made_slave request) outcome in
+    ap (λ y. y ∷ xs) first ∙ ap (λ ys. exchange made_slave request (store_step tables made_slave request).0 ∷ ys) (later ∙ ap (λ t. exchanges_made t requests) after)
 
 -- each reply has at most 256 bytes
 reply_short : (x : Exchange rtu) → ReplyFits rtu x → length (reply_of rtu x) ≤ 256
 reply_short x fits = by_outcome x.outcome fits
   where
-    by_outcome : (outcome : Outcome) → length (reply_pdu (code_of x.request) outcome) ≤ MAX_PDU → length (framed rtu x.header (code_of x.request) outcome) ≤ 256
+    by_outcome : (outcome : Outcome) → length (reply_pdu (code_of x.request) outcome) ≤ MAX_PDU → length (framed_outcome rtu x.header (code_of x.request) outcome) ≤ 256
     by_outcome silence fits = omega arith
     by_outcome (reply response) fits = omega (arith, length-frame x.header (reply_pdu (code_of x.request) (reply response)))
     by_outcome (exception code) fits = omega (arith, length-frame x.header (reply_pdu (code_of x.request) (exception code)))
@@ -375,12 +375,12 @@ module _ (laws : Laws) (count : ℕ) (most : count ≤ 1000000) (opening now : T
     questions : map (asks rtu) served.exchanges ≡ map question_for requests
     questions = sym served.asked ∙ ap (map (asked_of rtu)) all_taken ∙ all_back requests plain
 
-    replies : bytes_appended sunk sinks ≡ output rtu (answered opening requests)
+    replies : bytes_appended sunk sinks ≡ output rtu (exchanges_made opening requests)
     replies = ran.passes.wrote refl ∙ served.wrote ∙ ap (output rtu) (run_is opening served.ends requests served.exchanges served.run questions)
 
     -- all replies were appended
     pub served_all : opening ≡ made_tables → sinks.bytes ≡ replies_made count
-    served_all zeros = ran.passes.sink.content refl ∙ ap (λ b. b ++ bytes_appended sunk sinks) empty ∙ replies ∙ ap (λ t. output rtu (answered t requests)) zeros
+    served_all zeros = ran.passes.sink.content refl ∙ ap (λ b. b ++ bytes_appended sunk sinks) empty ∙ replies ∙ ap (λ t. output rtu (exchanges_made t requests)) zeros
 
     pub served_short : length sinks.bytes ≤ 256 * count
     served_short =

@@ -5,7 +5,7 @@ use Rattle.modbus_frame.specs.declared.server.Terminated.{Terminated}
 use Rattle.modbus_link.specs.declared.outside.Failed.{Failed}
 use Rattle.modbus_server.specs.declared.error.ServeError.{ServeError}
 use Rattle.modbus_server.specs.declared.error.ServeError.TheVariants.{AcceptFault, Connect, SpawnFault, NoMemory}
-use Rattle.modbus_server.specs.Listener.{Parts, WorkerState, Listener, Connected, StartedFor, AcceptsOne, AcceptsMany, Accepts, Counts, Serves, NeverRejects, unsignalled}
+use Rattle.modbus_server.specs.Listener.{Parts, WorkerState, Listener, ConnectsByHook, StartedFor, AcceptsOne, AcceptsMany, Accepts, Counts, Serves, NeverRejects, unsignalled}
 use Rattle.modbus_server.specs.Signal.{never_set}
 use Rattle.modbus_store.specs.declared.table.PassesOut.{PassesOut}
 use Rattle.modbus_store.specs.Passes.{Pass}
@@ -25,7 +25,7 @@ module _ {A C P K V H : Type 0} (parts : Parts A C P K K V PassesOut H) (pass_of
   abbrev by_pass : Listener A C P → Listener A Pass P
   by_pass it = record { acceptor = it.acceptor; hook = pass it.hook; spawner = it.spawner }
 
-  connected : (old new : Listener A C P) (answer : Result (Option (V × K)) PassesOut) → Connected parts old new answer → Connected seen (by_pass old) (by_pass new) answer
+  connected : (old new : Listener A C P) (answer : Result (Option (V × K)) PassesOut) → ConnectsByHook parts old new answer → ConnectsByHook seen (by_pass old) (by_pass new) answer
   connected old new answer c = record {
     link = c.link;
     address = c.address;
@@ -82,7 +82,7 @@ module _ {A P K V H : Type 0} (pass_of : V → Pass) (accepted : A → Result (K
   both : (a b c : Pass) → IsSplit a b → IsSplit b c → IsSplit a c
   both a b c e f = f ∙ ap (λ (p : Pass). record p { drawn = c.drawn }) e
 
-  split_once : (old new : Listener A Pass P) (answer : Result (Option (V × K)) PassesOut) → Connected parts old new answer → IsSplit old.hook new.hook
+  split_once : (old new : Listener A Pass P) (answer : Result (Option (V × K)) PassesOut) → ConnectsByHook parts old new answer → IsSplit old.hook new.hook
   split_once old new answer c = splits old.hook new.hook c.link answer c.answered
 
   split_one : (old new : Listener A Pass P) (result : Result (Unit {0}) (ServeError PassesOut)) → AcceptsOne parts on_error old new result → IsSplit old.hook new.hook
@@ -112,7 +112,7 @@ module _ {A P K V H : Type 0} (pass_of : V → Pass) (accepted : A → Result (K
 -- what each call of the hook leaves as it was, the accept loop leaves as it was
 module _ {A C P K V H : Type 0} (parts : Parts A C P K K V PassesOut H) (name : C → ℕ)
     (stays : (old new : C) (link : K) (address : SocketAddr) (answer : Result (Option (V × K)) PassesOut) → parts.connects old link address answer new → name new ≡ name old) (on_error : H) where
-  stays_once : (old new : Listener A C P) (answer : Result (Option (V × K)) PassesOut) → Connected parts old new answer → name new.hook ≡ name old.hook
+  stays_once : (old new : Listener A C P) (answer : Result (Option (V × K)) PassesOut) → ConnectsByHook parts old new answer → name new.hook ≡ name old.hook
   stays_once old new answer c = stays old.hook new.hook c.link c.address answer c.answered
 
   stays_one : (old new : Listener A C P) (result : Result (Unit {0}) (ServeError PassesOut)) → AcceptsOne parts on_error old new result → name new.hook ≡ name old.hook

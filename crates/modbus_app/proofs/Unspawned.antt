@@ -5,7 +5,7 @@ use Rattle.modbus_link.specs.declared.outside.Failed.{Failed}
 use Rattle.modbus_link.specs.Outside.{Output, Rose}
 use Rattle.modbus_server.specs.declared.error.ServeError.{ServeError}
 use Rattle.modbus_server.specs.declared.error.ServeError.TheVariants.{AcceptFault, Connect, SpawnFault, NoMemory}
-use Rattle.modbus_server.specs.Listener.{Parts, Listener, Connected, StartedFor, AcceptsOne, AcceptsMany, Accepts, Counts, WorkerState, unspawned, without_spawner}
+use Rattle.modbus_server.specs.Listener.{Parts, Listener, ConnectsByHook, StartedFor, AcceptsOne, AcceptsMany, Accepts, Counts, WorkerState, unspawned, without_spawner}
 use Rattle.modbus_server.specs.Signal.{never_set}
 use Rattle.modbus_store.specs.declared.table.PassesOut.{PassesOut}
 use Rattle.modbus_store.specs.Passes.{Pass}
@@ -24,7 +24,7 @@ module _ {A P K V H : Type 0} (pass_of : V → Pass) (accepted : A → Result (K
   abbrev front : Listener A Pass P → Listener A Pass (Unit {0})
   front it = without_spawner it.acceptor it.hook
 
-  connected : (old new : Listener A Pass P) (answer : Result (Option (V × K)) PassesOut) → Connected parts old new answer → Connected told (front old) (front new) answer
+  connected : (old new : Listener A Pass P) (answer : Result (Option (V × K)) PassesOut) → ConnectsByHook parts old new answer → ConnectsByHook told (front old) (front new) answer
   connected old new answer c = record { link = c.link; address = c.address; accepted = c.accepted; answered = c.answered }
 
   started : (answer : Option (V × K)) (old new : P) → StartedFor parts on_error answer old new → StartedFor told on_error answer tt tt

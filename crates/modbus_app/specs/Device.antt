@@ -48,8 +48,8 @@ broadcasts_of Ascii = true
 broadcasts_of Tcp = false
 
 -- four tables of the form's size
-abbrev pub opening : Form → Tables
-opening form = if form.seeded then seeded_tables form.size (broadcasts_of form.mode)
+abbrev pub device_of : Form → Tables
+device_of form = if form.seeded then seeded_tables form.size (broadcasts_of form.mode)
     else zeros_of (record { coils = form.size; discrete_inputs = form.size; holding_registers = form.size; input_registers = form.size }) (broadcasts_of form.mode)
 
 -- the mode of a connection to a listener
@@ -60,7 +60,7 @@ mode_of framing.Tcp = Tcp
 -- the device that all connections to a listener share, as it begins: no record of its calls is kept
 abbrev pub shared_opening : Framing → Opening
 shared_opening by = record {
-  tables = opening (record { mode = mode_of by; size = default_size; seeded = false });
+  tables = device_of (record { mode = mode_of by; size = default_size; seeded = false });
   recorded = false;
 }
 
@@ -72,9 +72,9 @@ messages_of Tcp = tcp
 
 -- how serving the device ended, over all that was read and written; its tables are then those after one run over the requests
 abbrev pub EndsServing : Form → List ℕ → List ℕ → List ℕ → Result (Unit {0}) ProcessError → Type 0
-EndsServing form bytes cuts written result = (now : Tables) × EndsAs (messages_of form.mode) device bytes cuts (opening form) now written result
+EndsServing form bytes cuts written result = (now : Tables) × EndsAs (messages_of form.mode) device bytes cuts (device_of form) now written result
 
 -- serving the device, over a source and a sink, with no limit of turns but that of a counter of 64 bits
-pub record Serves (form : Form) (from to : Input) (sunk sinks : Output) (result : Result (Unit {0}) ProcessError) : Type 0 where
+pub record ServesStreams (form : Form) (from to : Input) (sunk sinks : Output) (result : Result (Unit {0}) ProcessError) : Type 0 where
   pub now : Tables
-  pub ran : Ran (messages_of form.mode) device (2 ^ 64 - 1) (moment (opening form) from sunk) (moment now to sinks) result
+  pub ran : Ran (messages_of form.mode) device (2 ^ 64 - 1) (moment (device_of form) from sunk) (moment now to sinks) result

@@ -4,12 +4,12 @@ use Rattle.std.specs.declared.net.SocketAddr.{SocketAddr}
 use Rattle.modbus_link.specs.declared.outside.Failed.{Failed}
 use Rattle.modbus_link.specs.Line.{LinkMeaning}
 use Rattle.modbus_link.specs.Outside.{Output, Outside}
-use Rattle.modbus_client.specs.Connecting.{ConnectorMeaning}
+use Rattle.modbus_client.specs.Connects.{ConnectorMeaning}
 use Rattle.modbus_client.specs.Rtu.{rtu_heading}
-use Rattle.modbus_client.specs.State.{attached}
-use Rattle.modbus_gateway.specs.Forwarding.{LineState}
+use Rattle.modbus_client.specs.State.{attached_client}
+use Rattle.modbus_gateway.specs.Forwards.{LineState}
 use Rattle.modbus_gateway.specs.Forwarded.{Forwarded}
-use Rattle.modbus_app.specs.Ending.{EndsBy}
+use Rattle.modbus_app.specs.Ends.{EndsBy}
 use Rattle.modbus_app.specs.Status.{connect_line, Reports}
 use Rattle.modbus_server.specs.Moment.{moment}
 
@@ -17,7 +17,7 @@ use Rattle.modbus_server.specs.Moment.{moment}
 -- was told, and nothing was read or written.
 abbrev pub ForwardsBy : {L : Type 0} → LinkMeaning L → Result L Failed → Outside → Outside → Output × Output → ℕ → Type 0
 ForwardsBy {L} M (Ok link) old new said status =
-    (end : LineState L) × EndsBy (Forwarded M (2 ^ 64 - 1) (moment (attached rtu_heading link 0) old.input old.output) (moment end new.input new.output)) said.0 said.1 status
+    (end : LineState L) × EndsBy (Forwarded M (2 ^ 64 - 1) (moment (attached_client rtu_heading link 0) old.input old.output) (moment end new.input new.output)) said.0 said.1 status
 ForwardsBy M (Err failed) old new said status = (status ≡ 16) × (new ≡ old) × Reports said.0 said.1 connect_line
 
 -- One connection was made to this address, with no limit of time, and what it gave was forwarded to. A connector fails only where its count of

@@ -1,14 +1,13 @@
-pub mod Number
 pub mod Plan
 pub mod Words
 pub mod Device
 pub mod Status
 pub mod Make
-pub mod Ending
+pub mod Ends
 pub mod Gateway
 pub mod Listen
 pub mod Memory
-pub mod Watched
+pub mod Watches
 pub mod Patient
-pub mod Turning
+pub mod TurnsAway
 pub mod Port

@@ -13,7 +13,7 @@ use Rattle.modbus_server.specs.declared.error.ProcessError.TheVariants.{WriteFau
 use Rattle.modbus_store.specs.Tables.{Tables}
 use Rattle.modbus_store.specs.Step.{store_step}
 use Rattle.modbus_app.specs.declared.words.Mode.TheVariants.{Rtu}
-use Rattle.modbus_app.specs.Device.{opening}
+use Rattle.modbus_app.specs.Device.{device_of}
 use Rattle.modbus_app.specs.Words.{default_size}
 
 -- The numbers of a linear congruential generator: the first is 1, and each is made of the one before.
@@ -40,27 +40,27 @@ unfoldable pub requests_made : ℕ → List Asked
 requests_made count = map (λ k. request_by (number_at k)) (range_with_len 1 count)
 
 -- whom they are for
-abbrev pub made_for : ℕ
-made_for = 1
+abbrev pub made_slave : ℕ
+made_slave = 1
 
 -- their frames, one after another
 abbrev pub line_made : ℕ → List ℕ
-line_made count = flat_map (λ request. frame made_for (request_pdu request)) (requests_made count)
+line_made count = flat_map (λ request. frame made_slave (request_pdu request)) (requests_made count)
 
 -- a store that begins so is asked one request after another, all for that slave
-unfoldable pub answered : Tables → List Asked → List (Exchange rtu)
-answered tables [] = []
-answered tables (request ∷ requests) =
-    let step = store_step tables made_for request in
-    record { header = made_for; request = request; outcome = step.0 } ∷ answered step.1 requests
+unfoldable pub exchanges_made : Tables → List Asked → List (Exchange rtu)
+exchanges_made tables [] = []
+exchanges_made tables (request ∷ requests) =
+    let step = store_step tables made_slave request in
+    record { header = made_slave; request = request; outcome = step.0 } ∷ exchanges_made step.1 requests
 
 -- the device of the word `rtu`, as it begins
 abbrev pub made_tables : Tables
-made_tables = opening (record { mode = Rtu; size = default_size; seeded = false })
+made_tables = device_of (record { mode = Rtu; size = default_size; seeded = false })
 
 -- the frames of all replies
 abbrev pub replies_made : ℕ → List ℕ
-replies_made count = output rtu (answered made_tables (requests_made count))
+replies_made count = output rtu (exchanges_made made_tables (requests_made count))
 
 -- how many requests were made, how many bytes their replies have, and the sum of these bytes, each on a line
 abbrev pub summary_of : ℕ → ℕ → ℕ → List ℕ

@@ -1,5 +1,6 @@
 -- Requests for which a store takes no memory.
 use Rattle.std.specs.Prelude.{◌≡◌, ℕ, List, Ok}
+use Rattle.modbus_pdu.specs.SlavePdu.{SlavePdu}
 use Rattle.modbus_frame.specs.Meaning.{Asked}
 use Rattle.modbus_frame.specs.Meaning.Asked.{WriteSingleCoil, WriteSingleRegister, MaskWriteRegister}
 use Rattle.modbus_pdu.specs.RequestOf.{request_of}
@@ -12,5 +13,5 @@ WritesOne (MaskWriteRegister address and_mask or_mask) = Unit {0}
 WritesOne _ = ⊥
 
 -- a frame whose PDU, where it is a request, writes one entry
-abbrev pub IsSingleWrite : ℕ × List ℕ → Type 0
+abbrev pub IsSingleWrite : SlavePdu → Type 0
 IsSingleWrite message = (request : Asked) → request_of message.1 ≡ Ok request → WritesOne request

@@ -17,15 +17,15 @@ pub record Patience (A G K : Type 0) : Type 1 where
 
 -- one accept that gives the caller nothing: its peer was turned away, as there was no room, and all retries are left again; or it failed
 -- and was followed by a wait, and one retry fewer is left
-abbrev pub GoesOn : {A G K : Type 0} → Patience A G K → ℕ → Pair A G → ℕ → Pair A G → ℕ → Type 0
-GoesOn {K = K} by retries old left new now =
+abbrev pub AcceptsNone : {A G K : Type 0} → Patience A G K → ℕ → Pair A G → ℕ → Pair A G → ℕ → Type 0
+AcceptsNone {K = K} by retries old left new now =
     ((accepted : K × SocketAddr) × by.accepts old.acceptor (Ok accepted) new.acceptor × by.admits old.keeper false new.keeper × (now ≡ retries))
     ⊎ ((failed : Failed) × by.accepts old.acceptor (Err failed) new.acceptor × by.waits old.keeper new.keeper × (left ≡ now + 1))
 
 -- so many of these, one after another, and how many retries are left then
 abbrev pub GoesOnFor : {A G K : Type 0} → Patience A G K → ℕ → ℕ → Pair A G → Pair A G → ℕ → Type 0
 GoesOnFor by retries zero old new now = (new ≡ old) × (now ≡ retries)
-GoesOnFor {A} {G} by retries (suc count) old new now = (last : Pair A G) × (left : ℕ) × GoesOnFor by retries count old last left × GoesOn by retries last left new now
+GoesOnFor {A} {G} by retries (suc count) old new now = (last : Pair A G) × (left : ℕ) × GoesOnFor by retries count old last left × AcceptsNone by retries last left new now
 
 -- A link is given where there was room for it. A fault is told once it came again after as many waits as there are retries, with no link
 -- between, or after as many accepts as a counter of 64 bits counts.

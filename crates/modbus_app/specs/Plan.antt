@@ -10,7 +10,7 @@ use Rattle.modbus_poll.specs.declared.item.Item.{Item}
 use Rattle.modbus_poll.specs.declared.read.Read.{Read}
 use Rattle.modbus_poll.specs.Items.{addresses}
 use Rattle.modbus_poll.specs.Plans.{IsPlan, Follow}
-use Rattle.modbus_app.specs.Number.{number_within}
+use Rattle.modbus_poll.specs.Notation.{number_within}
 
 -- the byte between an address and a width
 abbrev pub colon : ℕ

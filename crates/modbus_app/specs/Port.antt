@@ -8,16 +8,16 @@ use Rattle.modbus_link.specs.Listens.{Tally, tally_at_start}
 use Rattle.modbus_link.specs.Memory.{faults_after}
 use Rattle.modbus_link.specs.Outside.{Output, Outside, untold_input, untold_output}
 use Rattle.modbus_link.specs.Tcp.{TcpState, tcp_at_start}
-use Rattle.modbus_client.specs.Connecting.{ConnectorMeaning, connector_of}
+use Rattle.modbus_client.specs.Connects.{ConnectorMeaning, connector_of}
 use Rattle.modbus_server.specs.declared.error.ProcessError.TheVariants.{NoMemory}
-use Rattle.modbus_store.specs.Passes.{Shared, Pass, opened}
+use Rattle.modbus_store.specs.Passes.{Shared, Pass, first_pass}
 use Rattle.modbus_app.specs.declared.words.Framing.{Framing}
 use Rattle.modbus_app.specs.Device.{shared_opening}
 use Rattle.modbus_app.specs.Gateway.{ForwardsTo}
 use Rattle.modbus_app.specs.Listen.{Accepting, ListenedOver}
 use Rattle.modbus_app.specs.Patient.{PatientState, IsPatient}
 use Rattle.modbus_app.specs.Status.{line_of, bind_line, Reports}
-use Rattle.modbus_app.specs.Watched.{AcceptsWatched}
+use Rattle.modbus_app.specs.Watches.{AcceptsWatched}
 
 -- what accepts the links of a port: watched links over TCP, patiently; nothing is said of what keeps it going
 abbrev pub Port : Type 0
@@ -39,7 +39,7 @@ port_at_start = record {
 
 -- such a port, and the first pass of a shared store
 abbrev pub begun : Shared → Port × Pass
-begun store = (port_at_start, opened store.table store.opening)
+begun store = (port_at_start, first_pass store.table store.opening)
 
 -- the services of a shared store are told by their passes
 abbrev pub own_pass : Pass → Pass
@@ -54,20 +54,20 @@ pub record ServesDevice {H : Type 0} (framing : Framing) (on_error : H) (said to
   pub listened : ListenedOver own_pass port_accepting on_error (begun store) after said told status
 
 -- memory was wanting, and its line was told
-abbrev pub IsWanting : Output → Output → ℕ → Type 0
-IsWanting said told status = (status ≡ 11) × Reports said told (line_of NoMemory)
+abbrev pub WantsMemoryForPort : Output → Output → ℕ → Type 0
+WantsMemoryForPort said told status = (status ≡ 11) × Reports said told (line_of NoMemory)
 
 -- the system refused a listener, as it may when out of memory, and the line of the status was told
-abbrev pub IsRefused : Output → Output → ℕ → Type 0
-IsRefused said told status = IsWanting said told status ⊎ ((status ≡ 15) × Reports said told bind_line)
+abbrev pub RefusesPort : Output → Output → ℕ → Type 0
+RefusesPort said told status = WantsMemoryForPort said told status ⊎ ((status ≡ 15) × Reports said told bind_line)
 
 -- a listener of a port ended: memory was wanting for the device, or it served its links
 abbrev pub ServesPort : {H : Type 0} → Framing → H → Output → Output → ℕ → Type 0
-ServesPort framing on_error said told status = IsWanting said told status ⊎ ServesDevice framing on_error said told status
+ServesPort framing on_error said told status = WantsMemoryForPort said told status ⊎ ServesDevice framing on_error said told status
 
 -- a program that listens ended: the system refused the listener, or it served
 abbrev pub ListensAt : {H : Type 0} → Framing → H → Output → Output → ℕ → Type 0
-ListensAt framing on_error said told status = IsRefused said told status ⊎ ServesPort framing on_error said told status
+ListensAt framing on_error said told status = RefusesPort said told status ⊎ ServesPort framing on_error said told status
 
 -- the address of this port of this machine, which no other reaches (RFC 1122, section 3.2.1.3)
 pub record IsLoopback (port : ℕ) (address : SocketAddr) : Type 0 where

@@ -8,7 +8,7 @@ use Rattle.modbus_app.specs.declared.words.Mode.{Mode}
 use Rattle.modbus_app.specs.declared.words.Mode.TheVariants as mode
 use Rattle.modbus_app.specs.declared.words.Task.{Task}
 use Rattle.modbus_app.specs.declared.words.Task.TheVariants.{Serve, Make, Listen, Forward, Plan}
-use Rattle.modbus_app.specs.Number.{number_within}
+use Rattle.modbus_poll.specs.Notation.{number_within}
 use Rattle.modbus_app.specs.Plan.{are_items}
 
 -- the most entries of a table: one for each address
@@ -36,13 +36,13 @@ abbrev pub port_named : List ℕ → Option ℕ
 port_named text = number_within 5 0 65535 text
 
 -- a task, where its number is there
-abbrev pub served : Mode → Option ℕ → Bool → Option Task
-served m (Some size) seeded = Some (Serve (record { mode = m; size = size; seeded = seeded }))
-served m None seeded = None
+abbrev pub serve_task : Mode → Option ℕ → Bool → Option Task
+serve_task m (Some size) seeded = Some (Serve (record { mode = m; size = size; seeded = seeded }))
+serve_task m None seeded = None
 
-abbrev pub made : Option ℕ → Option Task
-made (Some count) = Some (Make count)
-made None = None
+abbrev pub make_task : Option ℕ → Option Task
+make_task (Some count) = Some (Make count)
+make_task None = None
 
 abbrev pub listened_to : Framing → Option ℕ → Option Task
 listened_to framing (Some port) = Some (Listen framing port)
@@ -53,46 +53,46 @@ forwarded_to (Some port) = Some (Forward port)
 forwarded_to None = None
 
 -- `plan` and any number of items
-abbrev pub planned : List (List ℕ) → Option Task
-planned words = if are_items words then Some Plan else None
+abbrev pub plan_task : List (List ℕ) → Option Task
+plan_task words = if are_items words then Some Plan else None
 
 -- `rtu`, `rtu size`, `rtu size seeded`, `tcp`, `tcp size`, `ascii`, `ascii size`, `make n`, `listen-rtu port`, `listen-tcp port` or `gateway port`
 abbrev pub form_of : List (List ℕ) → Option Task
 form_of (word ∷ []) =
-    if bytes_eq word (codes "rtu") then served mode.Rtu (Some default_size) false else
-    if bytes_eq word (codes "ascii") then served mode.Ascii (Some default_size) false else
-    if bytes_eq word (codes "tcp") then served mode.Tcp (Some default_size) false else
+    if bytes_eq word (codes "rtu") then serve_task mode.Rtu (Some default_size) false else
+    if bytes_eq word (codes "ascii") then serve_task mode.Ascii (Some default_size) false else
+    if bytes_eq word (codes "tcp") then serve_task mode.Tcp (Some default_size) false else
     None
 form_of (word ∷ argument ∷ []) =
-    if bytes_eq word (codes "rtu") then served mode.Rtu (size_named argument) false else
-    if bytes_eq word (codes "ascii") then served mode.Ascii (size_named argument) false else
-    if bytes_eq word (codes "tcp") then served mode.Tcp (size_named argument) false else
-    if bytes_eq word (codes "make") then made (count_named argument) else
+    if bytes_eq word (codes "rtu") then serve_task mode.Rtu (size_named argument) false else
+    if bytes_eq word (codes "ascii") then serve_task mode.Ascii (size_named argument) false else
+    if bytes_eq word (codes "tcp") then serve_task mode.Tcp (size_named argument) false else
+    if bytes_eq word (codes "make") then make_task (count_named argument) else
     if bytes_eq word (codes "listen-rtu") then listened_to Rtu (port_named argument) else
     if bytes_eq word (codes "listen-tcp") then listened_to Tcp (port_named argument) else
     if bytes_eq word (codes "gateway") then forwarded_to (port_named argument) else
     None
 form_of (word ∷ size ∷ last ∷ []) =
-    if bytes_eq word (codes "rtu") && bytes_eq last (codes "seeded") then served mode.Rtu (size_named size) true else None
+    if bytes_eq word (codes "rtu") && bytes_eq last (codes "seeded") then serve_task mode.Rtu (size_named size) true else None
 form_of _ = None
 
 -- what the words ask for
 abbrev pub task_of : List (List ℕ) → Option Task
 task_of [] = None
-task_of (word ∷ words) = if bytes_eq word (codes "plan") then planned words else form_of (word ∷ words)
+task_of (word ∷ words) = if bytes_eq word (codes "plan") then plan_task words else form_of (word ∷ words)
 
-abbrev pub asked : List (String Global) → Option Task
-asked words = task_of (map string_bytes words)
+abbrev pub task_asked : List (String Global) → Option Task
+task_asked words = task_of (map string_bytes words)
 
 -- what is asked of a listener
-abbrev pub listened : Option Task → Option (Framing × ℕ)
-listened (Some (Listen framing port)) = Some (framing, port)
-listened _ = None
+abbrev pub listener_asked : Option Task → Option (Framing × ℕ)
+listener_asked (Some (Listen framing port)) = Some (framing, port)
+listener_asked _ = None
 
 -- the port of the line that is forwarded to
-abbrev pub forwarded : Option Task → Option ℕ
-forwarded (Some (Forward port)) = Some port
-forwarded _ = None
+abbrev pub port_forwarded : Option Task → Option ℕ
+port_forwarded (Some (Forward port)) = Some port
+port_forwarded _ = None
 
 -- the words ask for nothing that is done over the standard streams
 abbrev pub IsUsage : Option Task → Type 0

@@ -1,8 +1,8 @@
 //! The device that the program serves.
 ghost use Rattle.std.specs.Prelude.{◌≡◌, ◌≤◌, IfOk};
-ghost use Rattle.modbus_store.specs.Passes.{opened};
+ghost use Rattle.modbus_store.specs.Passes.{first_pass};
 ghost use Rattle.modbus_app.specs.Words.{most_entries};
-ghost use Rattle.modbus_app.specs.Device.{entries_by, third, odd, same, down, seeded_tables, broadcasts_of, opening, mode_of, shared_opening};
+ghost use Rattle.modbus_app.specs.Device.{entries_by, third, odd, same, down, seeded_tables, broadcasts_of, device_of, mode_of, shared_opening};
 
 use crate::words::{DEFAULT_SIZE, Form, Framing, Mode};
 use modbus_frame::{Coil, Word};
@@ -94,7 +94,7 @@ fn has_broadcasts(mode: Mode) -> bool
 /// The device of a form, as it begins.
 pub fn open(alloc: Global, form: Form) -> Result<RegisterStore, StoreError>
     requires { form.size ≤ most_entries }
-    ensures { IfOk result (λ store. store ≡ opening form) }
+    ensures { IfOk result (λ store. store ≡ device_of form) }
 {
     let broadcast = has_broadcasts(form.mode);
     if form.seeded {
@@ -123,7 +123,7 @@ fn mode_of(framing: Framing) -> Mode
 /// grow.
 pub fn open_shared(alloc: Global, framing: Framing) -> Result<(StoreTable, StorePass), StoreError>
     ensures table { IfOk result (λ r. r.0.opening ≡ shared_opening framing) }
-    ensures pass { IfOk result (λ r. r.1 ≡ opened r.0.table r.0.opening) }
+    ensures pass { IfOk result (λ r. r.1 ≡ first_pass r.0.table r.0.opening) }
 {
     let form = Form {
         mode: mode_of(framing),

@@ -5,8 +5,8 @@ ghost use Rattle.modbus_link.specs.Outside.{outside, Rose};
 ghost use Rattle.modbus_server.specs.Complete.{IsCleanLine};
 ghost use Rattle.modbus_server.specs.Tcp.{tcp};
 ghost use Rattle.modbus_gateway.specs.Forwarded.{Forwarded};
-ghost use Rattle.modbus_client.specs.Connecting.{connector_of};
-ghost use Rattle.modbus_app.specs.Ending.{EndsBy};
+ghost use Rattle.modbus_client.specs.Connects.{connector_of};
+ghost use Rattle.modbus_app.specs.Ends.{EndsBy};
 ghost use Rattle.modbus_app.specs.Gateway.{ForwardsTo};
 ghost use Rattle.modbus_server.specs.Moment.{moment};
 

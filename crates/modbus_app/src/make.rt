@@ -6,7 +6,7 @@ ghost use Rattle.modbus_link.specs.Memory.{source_at_start};
 ghost use Rattle.modbus_pdu.specs.RequestPdu.{request_pdu};
 ghost use Rattle.modbus_rtu.specs.Frame.{frame};
 ghost use Rattle.modbus_app.specs.Words.{most_requests};
-ghost use Rattle.modbus_app.specs.Make.{next_number, request_by, line_made, made_for, replies_made, summary_of, SumsUp};
+ghost use Rattle.modbus_app.specs.Make.{next_number, request_by, line_made, made_slave, replies_made, summary_of, SumsUp};
 
 use crate::device::open;
 use crate::words::{DEFAULT_SIZE, Form, Mode};
@@ -65,7 +65,7 @@ fn push_frame(
     frames: &mut BytesMut,
 ) -> Result<(), AllocError>
     ensures { OnOk result (frames.new.items
-        ≡ frames.old.items ++ frame made_for (request_pdu (request_by x))) }
+        ≡ frames.old.items ++ frame made_slave (request_pdu (request_by x))) }
 {
     modbus_pdu::requests_have_sizes();
     let request = rtu::RequestAdu {

@@ -5,11 +5,10 @@ ghost use Rattle.arrayvec.specs.ArrayString.{array_string_len};
 ghost use Rattle.modbus_poll.specs.Items.{is_readable};
 ghost use Rattle.modbus_app.specs.Plan.{colon, item_of, item_split, item_named, items_named, read_line, count_line, plan_text, ArePlanned, IsPlanText, TellsPlan};
 
-use crate::number::number_within;
 use arrayvec::ArrayString;
 use itoa::Buffer;
 use modbus_link::{Sink, write_all};
-use modbus_poll::{Item, Kind, Plan, PlanError, Read, plan_reads};
+use modbus_poll::{Item, Kind, Plan, PlanError, Read, number_within, plan_reads};
 use modbus_server::ProcessError;
 use std::alloc::{AllocError, Global};
 

@@ -3,7 +3,7 @@ ghost use Rattle.std.specs.Prelude.{◌≡◌};
 ghost use Rattle.modbus_server.specs.declared.error.ProcessError.TheVariants.{NoMemory};
 ghost use Rattle.modbus_app.specs.Device.{shared_opening};
 ghost use Rattle.modbus_app.specs.Listen.{accepting, ListenedOver};
-ghost use Rattle.modbus_app.specs.Port.{IsLoopback, IsRefused, ServesPort, ListensAt, ForwardsToPort};
+ghost use Rattle.modbus_app.specs.Port.{IsLoopback, RefusesPort, ServesPort, ListensAt, ForwardsToPort};
 ghost use Rattle.modbus_app.specs.Status.{line_of, Reports};
 ghost use Rattle.modbus_link.specs.Outside.{outside};
 
@@ -300,7 +300,7 @@ fn no_memory<E: Sink>(errors: &mut E) -> u8
 
 /// Reports that the system refuses a listener, as it may when out of memory, and answers the status: 15, or 11 where it is out of memory.
 pub fn refused<E: Sink>(error: Error, errors: &mut E) -> u8
-    ensures { IsRefused (E.output errors.old) (E.output errors.new) result }
+    ensures { RefusesPort (E.output errors.old) (E.output errors.new) result }
 {
     if error.kind() == ErrorKind::OutOfMemory {
         return no_memory(errors);

@@ -6,12 +6,12 @@ ghost use Rattle.modbus_server.specs.declared.error.ProcessError.TheVariants.{Re
 ghost use Rattle.modbus_server.specs.Complete.{IsCleanLine};
 ghost use Rattle.modbus_server.specs.Step.{Ran};
 ghost use Rattle.modbus_store.specs.Step.{device};
-ghost use Rattle.modbus_app.specs.Words.{asked, most_entries, most_requests, IsUsage};
+ghost use Rattle.modbus_app.specs.Words.{task_asked, most_entries, most_requests, IsUsage};
 ghost use Rattle.modbus_app.specs.declared.words.Form.{Form};
 ghost use Rattle.modbus_app.specs.declared.words.Task.TheVariants.{Serve, Make, Plan};
 ghost use Rattle.modbus_app.specs.Device.{EndsServing, messages_of};
 ghost use Rattle.modbus_app.specs.Make.{summary};
-ghost use Rattle.modbus_app.specs.Ending.{IsUsageFault, Ends, Makes, Plans};
+ghost use Rattle.modbus_app.specs.Ends.{IsUsageFault, EndsProgram, MakesRequests, PlansReads};
 ghost use Rattle.modbus_app.specs.Plan.{items_named};
 ghost use Rattle.modbus_server.specs.Moment.{moment};
 
@@ -68,7 +68,7 @@ fn serve_form<S: Source, K: Sink, E: Sink>(
         (totals (cuts_made (S.input source.old) (S.input source.new)))
         (bytes_appended (K.output sink.old) (K.output sink.new)) (Ok tt)
         × ((S.input source.new).left ≡ []) }
-    ensures ends { Ends form (S.input source.old) (S.input source.new) (K.output sink.old)
+    ensures ends { EndsProgram form (S.input source.old) (S.input source.new) (K.output sink.old)
         (K.output sink.new) (E.output errors.old) (E.output errors.new) result }
     ensures complete { IsTrue (S.input source.old).told
         → IsCleanLine (messages_of form.mode) (S.input source.old).left
@@ -94,7 +94,7 @@ fn serve_form<S: Source, K: Sink, E: Sink>(
 fn sum_up<K: Sink, E: Sink>(alloc: Global, count: u32, sink: &mut K, errors: &mut E) -> u8
     requires { count ≤ most_requests }
     ensures not_usage { result ≢ 2 }
-    ensures makes { (input : Input) → Makes count input input (K.output sink.old)
+    ensures makes { (input : Input) → MakesRequests count input input (K.output sink.old)
         (K.output sink.new) (E.output errors.old) (E.output errors.new) result }
 {
     match make(alloc, count, sink) {
@@ -109,7 +109,7 @@ fn sum_up<K: Sink, E: Sink>(alloc: Global, count: u32, sink: &mut K, errors: &mu
 /// Appends the plan for the items that words name to the sink, and answers the status, which it tells.
 fn plan<K: Sink, E: Sink>(alloc: Global, words: &[String], sink: &mut K, errors: &mut E) -> u8
     ensures not_usage { result ≢ 2 }
-    ensures plans { (input : Input) → Plans (items_named (map string_bytes words.now)) input input
+    ensures plans { (input : Input) → PlansReads (items_named (map string_bytes words.now)) input input
         (K.output sink.old) (K.output sink.new) (E.output errors.old) (E.output errors.new) result }
 {
     match tell_plan(alloc, words, sink) {
@@ -155,15 +155,15 @@ pub fn run<S: Source, K: Sink, E: Sink>(
     sink: &mut K,
     errors: &mut E,
 ) -> u8
-    ensures usage { (result ≡ 2) ↔ IsUsage (asked words.now) }
-    ensures refused { IsUsage (asked words.now)
+    ensures usage { (result ≡ 2) ↔ IsUsage (task_asked words.now) }
+    ensures refused { IsUsage (task_asked words.now)
         → IsUsageFault (S.input source.old) (S.input source.new) (K.output sink.old)
         (K.output sink.new) (E.output errors.old) (E.output errors.new) }
 
     // Status 0: the input ended with no uncovered offset open, with no `:` open, or with nothing left after its ADUs. What was appended is exactly the
     // replies of one run of the device to the leftmost frames, or to the ADUs, of the whole input in order, each framed for its request's
     // slave or under its header.
-    ensures ok { (form : Form) → asked words.now ≡ Some (Serve form) → result ≡ 0
+    ensures ok { (form : Form) → task_asked words.now ≡ Some (Serve form) → result ≡ 0
         → IsTrue (S.input source.old).told → IsTrue (K.output sink.old).told
         → EndsServing form (S.input source.old).left
         (totals (cuts_made (S.input source.old) (S.input source.new)))
@@ -171,12 +171,12 @@ pub fn run<S: Source, K: Sink, E: Sink>(
         × ((S.input source.new).left ≡ []) }
 
     // Each status is that of an answer of the server, with its cause, what was answered before it, and its text.
-    ensures ends { (form : Form) → asked words.now ≡ Some (Serve form)
-        → Ends form (S.input source.old) (S.input source.new) (K.output sink.old)
+    ensures ends { (form : Form) → task_asked words.now ≡ Some (Serve form)
+        → EndsProgram form (S.input source.old) (S.input source.new) (K.output sink.old)
         (K.output sink.new) (E.output errors.old) (E.output errors.new) result }
 
     // A clean line is served to its end.
-    ensures complete { (form : Form) → asked words.now ≡ Some (Serve form)
+    ensures complete { (form : Form) → task_asked words.now ≡ Some (Serve form)
         → IsTrue (S.input source.old).told
         → IsCleanLine (messages_of form.mode) (S.input source.old).left
         → length (S.input source.old).left < 2 ^ 64 - 1
@@ -186,20 +186,20 @@ pub fn run<S: Source, K: Sink, E: Sink>(
 
     // Of `make`, with status 0, the summary of so many requests was appended, and else a front of it; nothing was read, and there is no
     // fault but one of the sink.
-    ensures made { (count : ℕ) → asked words.now ≡ Some (Make count) → result ≡ 0
+    ensures made { (count : ℕ) → task_asked words.now ≡ Some (Make count) → result ≡ 0
         → IsTrue (K.output sink.old).told
         → bytes_appended (K.output sink.old) (K.output sink.new) ≡ summary count }
-    ensures makes { (count : ℕ) → asked words.now ≡ Some (Make count)
-        → Makes count (S.input source.old) (S.input source.new) (K.output sink.old)
+    ensures makes { (count : ℕ) → task_asked words.now ≡ Some (Make count)
+        → MakesRequests count (S.input source.old) (S.input source.new) (K.output sink.old)
         (K.output sink.new) (E.output errors.old) (E.output errors.new) result }
-    ensures made_unless { (count : ℕ) → asked words.now ≡ Some (Make count)
+    ensures made_unless { (count : ℕ) → task_asked words.now ≡ Some (Make count)
         → (Rose (K.output sink.old).faults (K.output sink.new).faults → ⊥)
         → (result ≡ 0) ⊎ (result ≡ 11) }
 
     // Of `plan`, the reads of the plan for the items were told, each on a line, and how many they are; nothing was read, and there is no
     // fault but one of the sink.
-    ensures plans { asked words.now ≡ Some Plan
-        → Plans (items_named (map string_bytes words.now)) (S.input source.old) (S.input source.new)
+    ensures plans { task_asked words.now ≡ Some Plan
+        → PlansReads (items_named (map string_bytes words.now)) (S.input source.old) (S.input source.new)
         (K.output sink.old) (K.output sink.new) (E.output errors.old) (E.output errors.new) result }
 {
     match read_words(words) {

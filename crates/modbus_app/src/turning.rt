@@ -1,6 +1,6 @@
 //! A spawner that turns away the links that no worker can be started for.
 ghost use Rattle.std.specs.Prelude.{◌≡◌};
-ghost use Rattle.modbus_app.specs.Turning.{TurningState, StartsOrTurns};
+ghost use Rattle.modbus_app.specs.TurnsAway.{TurningState, StartsOrTurns};
 
 use crate::status::report;
 use modbus_link::{Failed, Sink, Spawner, Worker};
@@ -22,7 +22,7 @@ pub struct TurningSpawner<P, N> {
 
 /// What a contract knows of it is the spawner below, and its counts.
 impl<P, N> Model for TurningSpawner<P, N> {
-    ghost use Rattle.modbus_app.specs.Turning.{TurningState};
+    ghost use Rattle.modbus_app.specs.TurnsAway.{TurningState};
 
     ghost Value = { TurningState P };
 

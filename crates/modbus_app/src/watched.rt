@@ -2,7 +2,7 @@
 ghost use Rattle.std.specs.Prelude.{◌≡◌, ◌<◌, ◌≤◌, length, IfOk, OnErr};
 ghost use Rattle.std.specs.Io.{ReadsAtMost, WritesAtMost};
 ghost use Rattle.modbus_link.specs.Outside.{Rose, untold_input, untold_output};
-ghost use Rattle.modbus_app.specs.Watched.{IsWatched, AcceptsWatched};
+ghost use Rattle.modbus_app.specs.Watches.{IsWatched, AcceptsWatched};
 
 use modbus_link::{Acceptor, Ends, Failed, Link, Sink, Source, TcpAcceptor, TcpLink};
 use std::marker::Model;

@@ -1,10 +1,10 @@
 //! The words of the command line.
 ghost use Rattle.std.specs.Prelude.{◌≡◌, ◌≤◌, ◌∷◌, [], map, IfSome, string_bytes};
 ghost use Rattle.modbus_app.specs.Plan.{are_items};
-ghost use Rattle.modbus_app.specs.Words.{size_named, count_named, port_named, served, made, listened_to, forwarded_to, planned, form_of, asked, listened, forwarded, most_entries, most_requests, IsWithinLimits};
+ghost use Rattle.modbus_app.specs.Words.{size_named, count_named, port_named, serve_task, make_task, listened_to, forwarded_to, plan_task, form_of, task_asked, listener_asked, port_forwarded, most_entries, most_requests, IsWithinLimits};
 
-use crate::number::number_within;
 use crate::plan::item_of_word;
+use modbus_poll::number_within;
 
 /// The size of a table that a word shows: one to five digits, of a value from 1 to 65536.
 fn table_size(word: &str) -> Option<u32>
@@ -84,7 +84,7 @@ pub const DEFAULT_SIZE: u32 = 1024;
 /// Serving in a mode, where there is a size.
 fn serve(mode: Mode, size: Option<u32>, seeded: bool) -> Option<Task>
     requires { IfSome size (λ size. size ≤ most_entries) }
-    ensures exact { result ≡ served mode size seeded }
+    ensures exact { result ≡ serve_task mode size seeded }
     ensures limits { IfSome result IsWithinLimits }
 {
     match size {
@@ -96,7 +96,7 @@ fn serve(mode: Mode, size: Option<u32>, seeded: bool) -> Option<Task>
 /// Making requests, where there is a count.
 fn make(count: Option<u32>) -> Option<Task>
     requires { IfSome count (λ count. count ≤ most_requests) }
-    ensures exact { result ≡ made count }
+    ensures exact { result ≡ make_task count }
     ensures limits { IfSome result IsWithinLimits }
 {
     match count {
@@ -140,7 +140,7 @@ fn are_items(words: &[String]) -> bool
 
 /// Planning, where each of these words names an item.
 fn plan(words: &[String]) -> Option<Task>
-    ensures exact { result ≡ planned (map string_bytes words.now) }
+    ensures exact { result ≡ plan_task (map string_bytes words.now) }
     ensures limits { IfSome result IsWithinLimits }
 {
     if are_items(words) {
@@ -221,7 +221,7 @@ fn other_words(words: &[String]) -> Option<Task>
 /// requests, `listen-rtu port` or `listen-tcp port` to listen, `gateway port` to forward, `plan` with any number of items `address:width` to plan reads; `None` where
 /// they are no such form. It takes no memory.
 pub fn read_words(words: &[String]) -> Option<Task>
-    ensures exact { result ≡ asked words.now }
+    ensures exact { result ≡ task_asked words.now }
     ensures limits { IfSome result IsWithinLimits }
 {
     match words {
@@ -233,7 +233,7 @@ pub fn read_words(words: &[String]) -> Option<Task>
 /// What the words ask to listen for: the framing and the port of `listen-rtu port` or `listen-tcp port`; `None` where they are no such
 /// form. It takes no memory.
 pub fn listening(words: &[String]) -> Option<(Framing, u16)>
-    ensures { result ≡ listened (asked words.now) }
+    ensures { result ≡ listener_asked (task_asked words.now) }
 {
     match read_words(words) {
         Some(Task::Listen(framing, port)) => Some((framing, port)),
@@ -243,7 +243,7 @@ pub fn listening(words: &[String]) -> Option<(Framing, u16)>
 
 /// What the words ask to forward to: the port of `gateway port`; `None` where they are no such form. It takes no memory.
 pub fn forwarding(words: &[String]) -> Option<u16>
-    ensures { result ≡ forwarded (asked words.now) }
+    ensures { result ≡ port_forwarded (task_asked words.now) }
 {
     match read_words(words) {
         Some(Task::Forward(port)) => Some(port),

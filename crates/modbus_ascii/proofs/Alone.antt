@@ -8,11 +8,11 @@ use Rattle.modbus_pdu.specs.Laws.{IsByte}
 use Rattle.modbus_ascii.specs.Limits.{colon, carriage_return, line_feed, shortest_body}
 use Rattle.modbus_ascii.specs.Checksum.{lrc}
 use Rattle.modbus_ascii.specs.Text.{begins_end, from_end, is_open, open_end}
-use Rattle.modbus_ascii.specs.Frames.{is_digit, digit_value, frame_of, frames}
+use Rattle.modbus_ascii.specs.Frames.{is_hex_digit, digit_value, frame_of, frames}
 use Rattle.modbus_ascii.specs.Decoder.{Reading, digits_of, AreDigits, made_frame, ended}
 use Rattle.modbus_ascii.specs.declared.decoder.Phase.TheVariants.{Digits}
-use Rattle.modbus_ascii.specs.Encoding.{digit, text_of, body, frame}
-use Rattle.modbus_ascii.specs.Framed.{IsFramed, stream_of}
+use Rattle.modbus_ascii.specs.Encoder.{digit, text_of, body, frame}
+use Rattle.modbus_ascii.specs.WholeReading.{IsFramed, stream_of}
 use Rattle.modbus_ascii.specs.Stands.{kept_of}
 use Rattle.modbus_ascii.proofs.Ends.{opened, given, open_end-more, frames-more}
 use Rattle.modbus_ascii.proofs.Digits.{frame_of-digits}
@@ -20,14 +20,14 @@ use Rattle.modbus_ascii.proofs.Decoding.{opened-ended, given-ended, given-quiet,
 use Rattle.modbus_ascii.proofs.Going.{length-kept, frames-closed}
 use Rattle.modbus_ascii.proofs.Holding.{open_end-colon, all-open-quiet}
 
-digit-is : (n : ℕ) → n < 16 → is_digit (digit n) ≡ true
+digit-is : (n : ℕ) → n < 16 → is_hex_digit (digit n) ≡ true
 digit-is n h = grind arith
 
 digit-means : (n : ℕ) → n < 16 → digit_value (digit n) ≡ n
 digit-means n h = grind arith
 
 -- the text of bytes is digits, which are theirs
-text-digits : (bytes : List ℕ) → AllByRecursion IsByte bytes → list_all is_digit (text_of bytes) ≡ true
+text-digits : (bytes : List ℕ) → AllByRecursion IsByte bytes → list_all is_hex_digit (text_of bytes) ≡ true
 unfolding text_of
 text-digits [] all = refl
 text-digits (b ∷ bytes) all =
@@ -44,15 +44,15 @@ text-values (b ∷ bytes) all =
     rw (high, low) (ap (λ r. b / 16 ∷ b % 16 ∷ r) (text-values bytes all.1))
 
 -- digits have no end
-no-end : (c : ℕ) (text : List ℕ) → is_digit c ≡ true → begins_end (c ∷ text) ≡ false
+no-end : (c : ℕ) (text : List ℕ) → is_hex_digit c ≡ true → begins_end (c ∷ text) ≡ false
 no-end c [] d = grind arith
 no-end c (x ∷ text) d = grind arith
 
-digits-open : (text : List ℕ) → list_all is_digit text ≡ true → is_open text ≡ true
+digits-open : (text : List ℕ) → list_all is_hex_digit text ≡ true → is_open text ≡ true
 unfolding from_end
 digits-open [] d = refl
 digits-open (c ∷ text) d =
-    let each = and_parts (is_digit c) (list_all is_digit text) d in
+    let each = and_parts (is_hex_digit c) (list_all is_hex_digit text) d in
     rw (no-end c text each.0) (digits-open text each.1)
 
 -- ---- one frame

@@ -4,7 +4,7 @@ use Rattle.std.specs.List.{AllByRecursion}
 use Rattle.modbus_frame.specs.Meaning.{Asked, ReadCoils, ReadDiscreteInputs, WriteSingleCoil, WriteMultipleCoils, ReadInputRegisters, ReadHoldingRegisters, WriteSingleRegister, WriteMultipleRegisters, ReportServerId, MaskWriteRegister, ReadWriteMultipleRegisters, ReadFifoQueue, ReadDeviceIdentification, Custom}
 use Rattle.modbus_pdu.specs.Laws.{request_size}
 use Rattle.modbus_pdu.specs.RequestPdu.{request_pdu}
-use Rattle.modbus_ascii.specs.Framed.{IsFramed, IsFramedAsk, message_of}
+use Rattle.modbus_ascii.specs.WholeReading.{IsFramed, IsFramedAsk, message_of}
 
 some-size : (r : Asked) → 0 < request_size r
 some-size (ReadCoils address quantity) = omega arith

@@ -5,9 +5,9 @@ use Rattle.std.proofs.Math.Seq.{take-length}
 use Rattle.modbus_ascii.specs.declared.scan.Scan.{Scan}
 use Rattle.modbus_ascii.specs.Limits.{colon, max_frame, most_open, most_held}
 use Rattle.modbus_ascii.specs.Text.{open_end}
-use Rattle.modbus_ascii.specs.Frames.{frames, parts}
-use Rattle.modbus_ascii.specs.Decoder.{Reading, IsRoomy, Keeps, Decodes, ended}
-use Rattle.modbus_ascii.specs.Stands.{held_open, opening, whole, StandsFor, IsNextFrame, AreAllFrames, AreOnlyFrames, IsStillOpen}
+use Rattle.modbus_ascii.specs.Frames.{frames, slave_and_pdu}
+use Rattle.modbus_ascii.specs.Decoder.{Reading, IsRoomy, KeepsBytes, DecodesText, ended}
+use Rattle.modbus_ascii.specs.Stands.{held_open, after_last_end, whole, StandsFor, IsNextFrame, AreAllFrames, AreOnlyFrames, IsStillOpen}
 use Rattle.modbus_ascii.specs.Scan.{HasSeen, Scans}
 use Rattle.circular_buffer.specs.Buffer.{Buffer, buffer, keep_last}
 use Rattle.modbus_ascii.proofs.Going.{frames-front}
@@ -18,39 +18,39 @@ use Rattle.modbus_ascii.proofs.Scanning.{colon-quiet, nothing-quiet, decodes-lik
 pub fed-all : (held : List ℕ) (scan : Scan) → Scans held scan → scan.fed ≡ length held → HasSeen (whole held) scan
 fed-all held scan s all =
     let same : take scan.fed held ≡ held = ap (λ n. take n held) all ∙ take-length held in
-    let P : List ℕ → Type 0 = λ h. HasSeen (opening held ++ h) scan in
+    let P : List ℕ → Type 0 = λ h. HasSeen (after_last_end held ++ h) scan in
     subst P same s.1
 
-opening-quiet : (held : List ℕ) → frames (opening held) ≡ []
+opening-quiet : (held : List ℕ) → frames (after_last_end held) ≡ []
 opening-quiet held = by_kind (opening-kind held)
   where
-    by_kind : Opening held → frames (opening held) ≡ []
+    by_kind : Opening held → frames (after_last_end held) ≡ []
     by_kind (inl (none, rest)) = ap frames none ∙ nothing-quiet
     by_kind (inr (one, long, first)) = ap frames one ∙ colon-quiet
 
 -- ---- what stands at the front
 
-found-frame : (seen : List ℕ) (scan : Scan) → HasSeen seen scan → scan.found ≡ true → frames seen ≡ parts scan.decoder.bytes ∷ []
+found-frame : (seen : List ℕ) (scan : Scan) → HasSeen seen scan → scan.found ≡ true → frames seen ≡ slave_and_pdu scan.decoder.bytes ∷ []
 found-frame seen scan s is = s.found ∙ ap (λ f. ended f scan.decoder) is
 
 found-none : (seen : List ℕ) (scan : Scan) → HasSeen seen scan → scan.found ≡ false → frames seen ≡ []
 found-none seen scan s is = s.found ∙ ap (λ f. ended f scan.decoder) is
 
 pub front-frame : (bytes cuts held : List ℕ) (taken : List (ℕ × List ℕ)) (scan : Scan) (slave : ℕ) (pdu : List ℕ) → Scans held scan → scan.found ≡ true
-    → slave ≡ (parts scan.decoder.bytes).0 → pdu ≡ (parts scan.decoder.bytes).1 → StandsFor bytes cuts held taken
+    → slave ≡ (slave_and_pdu scan.decoder.bytes).0 → pdu ≡ (slave_and_pdu scan.decoder.bytes).1 → StandsFor bytes cuts held taken
     → StandsFor bytes cuts (drop scan.fed held) (taken ++ (slave, pdu) ∷ []) × IsNextFrame bytes cuts taken (slave, pdu)
 front-frame bytes cuts held taken scan slave pdu s is a b stood =
-    let seen = opening held ++ take scan.fed held in
+    let seen = after_last_end held ++ take scan.fed held in
     let P : ℕ → Type 0 = λ n. StandsFor bytes cuts (drop scan.fed held) (taken ++ (n, pdu) ∷ []) × IsNextFrame bytes cuts taken (n, pdu) in
-    let Q : List ℕ → Type 0 = λ l. StandsFor bytes cuts (drop scan.fed held) (taken ++ ((parts scan.decoder.bytes).0, l) ∷ []) × IsNextFrame bytes cuts taken ((parts scan.decoder.bytes).0, l) in
-    subst P (sym a) (subst Q (sym b) (stands-frame bytes cuts held taken scan.fed (parts scan.decoder.bytes) stood s.0 (found-frame seen scan s.1 is) (s.1.closed is)))
+    let Q : List ℕ → Type 0 = λ l. StandsFor bytes cuts (drop scan.fed held) (taken ++ ((slave_and_pdu scan.decoder.bytes).0, l) ∷ []) × IsNextFrame bytes cuts taken ((slave_and_pdu scan.decoder.bytes).0, l) in
+    subst P (sym a) (subst Q (sym b) (stands-frame bytes cuts held taken scan.fed (slave_and_pdu scan.decoder.bytes) stood s.0 (found-frame seen scan s.1 is) (s.1.closed is)))
 
 pub front-some : (held : List ℕ) (scan : Scan) → Scans held scan → scan.found ≡ true → 0 < scan.fed
-front-some held scan s is = by_fed scan.fed (found-frame (opening held ++ take scan.fed held) scan s.1 is)
+front-some held scan s is = by_fed scan.fed (found-frame (after_last_end held ++ take scan.fed held) scan s.1 is)
   where
-    by_fed : (k : ℕ) → frames (opening held ++ take k held) ≡ parts scan.decoder.bytes ∷ [] → 0 < k
+    by_fed : (k : ℕ) → frames (after_last_end held ++ take k held) ≡ slave_and_pdu scan.decoder.bytes ∷ [] → 0 < k
     by_fed zero e =
-        let none : frames (opening held ++ []) ≡ [] = ap frames (append-nil (opening held)) ∙ opening-quiet held in
+        let none : frames (after_last_end held ++ []) ≡ [] = ap frames (append-nil (after_last_end held)) ∙ opening-quiet held in
         absurd (omega (arith, ap length (sym e ∙ none)))
     by_fed (suc k) e = omega arith
 
@@ -79,8 +79,8 @@ pub scan-begin : (held : List ℕ) (within : Bool) (scan : Scan) → within ≡ 
     → HasSeen (if within then colon ∷ [] else []) scan → scan.fed ≡ 0 → Scans held scan
 scan-begin held within scan is s none =
     let P : List ℕ → Type 0 = λ l. HasSeen l scan in
-    let begun : HasSeen (opening held) scan = subst P (ap (λ w. if w then colon ∷ [] else []) is) s in
-    let nothing : opening held ++ take scan.fed held ≡ opening held = ap (λ n. opening held ++ take n held) none ∙ append-nil (opening held) in
+    let begun : HasSeen (after_last_end held) scan = subst P (ap (λ w. if w then colon ∷ [] else []) is) s in
+    let nothing : after_last_end held ++ take scan.fed held ≡ after_last_end held = ap (λ n. after_last_end held ++ take n held) none ∙ append-nil (after_last_end held) in
     (omega (arith, none), subst P (sym nothing) begun)
 
 -- behind a frame that was taken off
@@ -90,9 +90,9 @@ unfolding open_end
 scan-behind seen left within scan now s is test out decoder count fed found =
     let closed = s.closed is in
     let empty : open_end seen ≡ open_end [] = closed ∙ sym nothing-end in
-    let P : List ℕ → Type 0 = λ l. Keeps scan.decoder l in
-    let Q : Reading → Type 0 = λ r. Decodes [] r in
-    let reads : Decodes [] now.decoder = subst Q (sym decoder) (subst P empty s.decodes) in
+    let P : List ℕ → Type 0 = λ l. KeepsBytes scan.decoder l in
+    let Q : Reading → Type 0 = λ r. DecodesText [] r in
+    let reads : DecodesText [] now.decoder = subst Q (sym decoder) (subst P empty s.decodes) in
     let zero_ : now.«open» ≡ length (held_open []) = count ∙ s.«open» ∙ ap (λ l. length (drop (length l - most_open) l)) empty in
     let begun : HasSeen [] now = record {
       decodes = reads;
@@ -100,9 +100,9 @@ scan-behind seen left within scan now s is test out decoder count fed found =
       found = nothing-quiet ∙ sym (ap (λ f. ended f now.decoder) found);
       closed = λ e. absurd (false-true (sym found ∙ e));
     } in
-    let no_opening : [] ≡ opening left = sym (ap (λ w. if w then colon ∷ [] else []) (sym test ∙ out)) in
+    let no_opening : [] ≡ after_last_end left = sym (ap (λ w. if w then colon ∷ [] else []) (sym test ∙ out)) in
     let R : List ℕ → Type 0 = λ l. HasSeen l now in
-    let nothing : opening left ++ take now.fed left ≡ opening left = ap (λ n. opening left ++ take n left) fed ∙ append-nil (opening left) in
+    let nothing : after_last_end left ++ take now.fed left ≡ after_last_end left = ap (λ n. after_last_end left ++ take n left) fed ∙ append-nil (after_last_end left) in
     (omega (arith, fed), subst R (no_opening ∙ sym nothing) begun)
   where
     nothing-end : open_end [] ≡ []
@@ -120,9 +120,9 @@ scan-left held scan now left s room all is within decoder count fed found =
     let rest = drop (length held - left) held in
     let same : rest ≡ drop (length held - length (held_open (whole held))) held = ap (λ n. drop (length held - n) held) (is ∙ seen.«open») in
     let st = left-stays held in
-    let P : List ℕ → Type 0 = λ l. Decodes (whole l) now.decoder in
-    let Q : Reading → Type 0 = λ r. Decodes (whole (drop (length held - length (held_open (whole held))) held)) r in
-    let reads : Decodes (whole rest) now.decoder =
+    let P : List ℕ → Type 0 = λ l. DecodesText (whole l) now.decoder in
+    let Q : Reading → Type 0 = λ r. DecodesText (whole (drop (length held - length (held_open (whole held))) held)) r in
+    let reads : DecodesText (whole rest) now.decoder =
     subst P (sym same) (subst Q (sym decoder) (decodes-like (whole held) (whole (drop (length held - length (held_open (whole held))) held)) scan.decoder room (sym st.like) seen.decodes)) in
     let size : length rest ≡ left = omega (arith, length-drop (length held - left) held) in
     let many : now.«open» ≡ length (held_open (whole rest)) =
@@ -136,7 +136,7 @@ scan-left held scan now left s room all is within decoder count fed found =
       closed = λ e. absurd (false-true (sym found ∙ e));
     } in
     let whole_ : take now.fed rest ≡ rest = ap (λ n. take n rest) (fed ∙ sym size) ∙ take-length rest in
-    let T : List ℕ → Type 0 = λ l. HasSeen (opening rest ++ l) now in
+    let T : List ℕ → Type 0 = λ l. HasSeen (after_last_end rest ++ l) now in
     ((omega (arith, fed, size), subst T (sym whole_) has), fed ∙ sym size)
   where
     false-true : false ≡ true → ⊥
@@ -145,8 +145,8 @@ scan-left held scan now left s room all is within decoder count fed found =
 -- in front of bytes that were read
 pub scan-read : (held piece : List ℕ) (scan : Scan) → Scans held scan → IsStillOpen held → length piece ≤ max_frame → Scans (held ++ piece) scan
 scan-read held piece scan s still few =
-    let same : opening held ++ take scan.fed held ≡ opening (held ++ piece) ++ take scan.fed (held ++ piece) =
-    ap (λ o. o ++ take scan.fed held) (sym (opening-more held piece still few)) ∙ ap (λ t. opening (held ++ piece) ++ t) (sym (take-append-le scan.fed held piece s.0)) in
+    let same : after_last_end held ++ take scan.fed held ≡ after_last_end (held ++ piece) ++ take scan.fed (held ++ piece) =
+    ap (λ o. o ++ take scan.fed held) (sym (opening-more held piece still few)) ∙ ap (λ t. after_last_end (held ++ piece) ++ t) (sym (take-append-le scan.fed held piece s.0)) in
     let P : List ℕ → Type 0 = λ l. HasSeen l scan in
     (omega (arith, s.0, length-append held piece), subst P same s.1)
 

@@ -3,7 +3,7 @@ use Rattle.std.proofs.Common.{◌≡◌, ℕ, suc, ◌==◌, Bool, true, false, 
 use Rattle.std.proofs.lemmas.Bool.{eqb-true}
 use Rattle.modbus_ascii.specs.Limits.{colon, carriage_return, line_feed}
 use Rattle.modbus_ascii.specs.Text.{begins_end, text, from_end, is_open, open_end, last}
-use Rattle.modbus_ascii.specs.Frames.{frame_of, delivered, frames}
+use Rattle.modbus_ascii.specs.Frames.{frame_of, frames_delivered, frames}
 
 -- the bytes but the last
 abbrev pub but_last : List ℕ → List ℕ
@@ -100,8 +100,8 @@ text-delivered (x ∷ y ∷ ys) b e h = step (begins_end (x ∷ y ∷ ys)) (λ o
     step false ih e = ap (λ t. x ∷ t) (ih e)
 
 -- what a `:` delivers with a byte more
-pub delivered-ended : (xs : List ℕ) (b : ℕ) → is_open xs ≡ false → delivered (xs ++ b ∷ []) ≡ delivered xs
-unfolding delivered
+pub delivered-ended : (xs : List ℕ) (b : ℕ) → is_open xs ≡ false → frames_delivered (xs ++ b ∷ []) ≡ frames_delivered xs
+unfolding frames_delivered
 delivered-ended xs b e =
     let rest = ended-more xs b e in
     let same = ended-text xs b e in
@@ -112,8 +112,8 @@ delivered-ended xs b e =
     first_of [] e = cc
     first_of (y ∷ ys) e = refl
 
-pub delivered-open : (xs : List ℕ) (b : ℕ) → is_open xs ≡ true → delivered (xs ++ b ∷ []) ≡ now_delivered xs b
-unfolding delivered
+pub delivered-open : (xs : List ℕ) (b : ℕ) → is_open xs ≡ true → frames_delivered (xs ++ b ∷ []) ≡ now_delivered xs b
+unfolding frames_delivered
 delivered-open xs b e =
     rw (ends-delivered xs b e) (by_mark (last xs == carriage_return && b == line_feed) (text-delivered xs b e))
   where
@@ -121,8 +121,8 @@ delivered-open xs b e =
     by_mark true h = ap frame_of (h refl)
     by_mark false h = refl
 
-pub delivered-none : (xs : List ℕ) → is_open xs ≡ true → delivered xs ≡ []
-unfolding delivered from_end
+pub delivered-none : (xs : List ℕ) → is_open xs ≡ true → frames_delivered xs ≡ []
+unfolding frames_delivered from_end
 delivered-none xs e = by_rest (from_end xs) e
   where
     by_rest : (ys : List ℕ) → (length ys == 0) ≡ true → (if slice_index ys 0 == carriage_return then frame_of (text xs) else []) ≡ []
@@ -208,10 +208,10 @@ open_end-more (x ∷ xs) b =
     by_marks false false = rw (suc-zero (length xs)) refl
 
 pub frames-more : (bytes : List ℕ) (b : ℕ) → frames (bytes ++ b ∷ []) ≡ frames bytes ++ given (open_end bytes) b
-unfolding frames open_end delivered from_end
+unfolding frames open_end frames_delivered from_end
 frames-more [] b = by_mark (b == colon)
   where
-    by_mark : (c : Bool) → (if c then delivered [] else []) ++ [] ≡ []
+    by_mark : (c : Bool) → (if c then frames_delivered [] else []) ++ [] ≡ []
     by_mark true = refl
     by_mark false = refl
 frames-more (x ∷ xs) b =
@@ -219,7 +219,7 @@ frames-more (x ∷ xs) b =
       | inr other ↦ rw other (frames-more xs b)
       | inl mark ↦
           elim (truth (is_open xs)) [
-            | inr ended ↦ rw (mark, ended, delivered-ended xs b ended, frames-more xs b) (sym (append_assoc (delivered xs) (frames xs) (given (open_end xs) b)))
+            | inr ended ↦ rw (mark, ended, delivered-ended xs b ended, frames-more xs b) (sym (append_assoc (frames_delivered xs) (frames xs) (given (open_end xs) b)))
             | inl open_ ↦
                 let rest : frames (xs ++ b ∷ []) ≡ [] = frames-more xs b ∙ rw (open-quiet xs open_, open-none xs open_) refl in
                 rw (mark, open_, delivered-open xs b open_, rest, delivered-none xs open_, open-quiet xs open_) (behind xs (eqb-true x colon mark))

@@ -3,9 +3,9 @@ use Rattle.std.proofs.Common.{◌≡◌, ℕ, ◌+◌, ◌*◌, ◌/◌, ◌%◌
 use Rattle.std.proofs.lemmas.Grind.{flat_map-append}
 use Rattle.modbus_frame.specs.declared.fault.EncodeError.{EncodeError}
 use Rattle.modbus_frame.specs.declared.fault.EncodeError.TheVariants.{NoMemory}
-use Rattle.modbus_pdu.specs.Coding.{Encodes}
+use Rattle.modbus_pdu.specs.Encodes.{Encodes}
 use Rattle.modbus_ascii.specs.Checksum.{lrc}
-use Rattle.modbus_ascii.specs.Encoding.{digit, text_of, body, frame}
+use Rattle.modbus_ascii.specs.Encoder.{digit, text_of, body, frame}
 use Rattle.modbus_ascii.specs.Limits.{carriage_return, line_feed, colon, max_frame}
 
 pub text_of-append : (xs ys : List ℕ) → text_of (xs ++ ys) ≡ text_of xs ++ text_of ys

@@ -5,8 +5,8 @@ use Rattle.std.proofs.lemmas.List.{take-append-drop, take-append-le}
 use Rattle.std.proofs.Math.Seq.{drop-append-add, take-add}
 use Rattle.modbus_ascii.specs.Limits.{colon, max_frame, most_open}
 use Rattle.modbus_ascii.specs.Text.{is_open, open_end}
-use Rattle.modbus_ascii.specs.Frames.{delivered, frames}
-use Rattle.modbus_ascii.specs.Stands.{kept_of, held_open, opening, whole, StandsFor, IsNextFrame, AreAllFrames, IsStillOpen}
+use Rattle.modbus_ascii.specs.Frames.{frames_delivered, frames}
+use Rattle.modbus_ascii.specs.Stands.{kept_of, held_open, after_last_end, whole, StandsFor, IsNextFrame, AreAllFrames, IsStillOpen}
 use Rattle.modbus_ascii.proofs.Ends.{open-quiet, no-colon, delivered-none}
 use Rattle.modbus_ascii.proofs.Going.{Like, length-kept, short-kept, going, frames-front, frames-closed}
 
@@ -55,7 +55,7 @@ all-open-quiet bytes e = by_kind (open_end-kind bytes)
     by_kind (inl none) = ap frames (sym e ∙ none)
     by_kind (inr (text, is, h)) =
         let same : frames bytes ≡ frames (colon ∷ text) = ap frames (sym e ∙ is) in
-        let quiet : delivered text ++ frames text ≡ [] = rw (delivered-none text h, open-quiet text h) refl in
+        let quiet : frames_delivered text ++ frames text ≡ [] = rw (delivered-none text h, open-quiet text h) refl in
         same ∙ quiet
 
 -- a front of bytes that deliver nothing delivers nothing
@@ -77,8 +77,8 @@ last-of front back n h =
 -- whether what is held begins within a text that is too long
 abbrev pub Opening : List ℕ → Type 0
 Opening held =
-    ((opening held ≡ []) × ((length held ≤ max_frame) ⊎ (slice_index held 0 ≡ colon)))
-    ⊎ ((opening held ≡ colon ∷ []) × (max_frame < length held) × ((slice_index held 0 == colon) ≡ false))
+    ((after_last_end held ≡ []) × ((length held ≤ max_frame) ⊎ (slice_index held 0 ≡ colon)))
+    ⊎ ((after_last_end held ≡ colon ∷ []) × (max_frame < length held) × ((slice_index held 0 == colon) ≡ false))
 
 pub opening-kind : (held : List ℕ) → Opening held
 opening-kind held = by_tests (nat_lt max_frame (length held)) (slice_index held 0 == colon) above below (eqb-true (slice_index held 0) colon) (λ e. e)
@@ -97,8 +97,8 @@ opening-kind held = by_tests (nat_lt max_frame (length held)) (slice_index held 
     by_tests true false a b f g = inr (refl, a refl, refl)
     by_tests false first a b f g = inl (refl, inl (b refl))
 
-length-whole : (held : List ℕ) → length (whole held) ≡ length (opening held) + length held
-length-whole held = length-append (opening held) held
+length-whole : (held : List ℕ) → length (whole held) ≡ length (after_last_end held) + length held
+length-whole held = length-append (after_last_end held) held
 
 -- what is held of the open end lies in what is held
 pub open-within : (held : List ℕ) → length (held_open (whole held)) ≤ length held
@@ -120,7 +120,7 @@ held-last held =
     let n = length (held_open (whole held)) in
     let back = open_end-last (whole held) in
     let small : n ≤ length now = omega (arith, length-kept now) in
-    let first : drop (length (whole held) - n) (whole held) ≡ drop (length held - n) held = last-of (opening held) held n (open-within held) in
+    let first : drop (length (whole held) - n) (whole held) ≡ drop (length held - n) held = last-of (after_last_end held) held n (open-within held) in
     let second : drop (length (back.0 ++ now) - n) (back.0 ++ now) ≡ drop (length now - n) now = last-of back.0 now n small in
     let moved : drop (length (whole held) - n) (whole held) ≡ drop (length (back.0 ++ now) - n) (back.0 ++ now) = ap (λ w. drop (length w - n) w) back.1 in
     let count : length now - n ≡ length now - most_open = omega (arith, length-kept now) in
@@ -138,7 +138,7 @@ unfolding open_end
 stays-short now (inl none) short = rw none (record { still = (refl, omega arith); like = refl })
 stays-short now (inr (text, is, h)) short =
     let open_ : open_end (colon ∷ text) ≡ colon ∷ text = open_end-colon text h in
-    let no_opening : opening (colon ∷ text) ≡ [] = never (nat_lt max_frame (length (colon ∷ text))) in
+    let no_opening : after_last_end (colon ∷ text) ≡ [] = never (nat_lt max_frame (length (colon ∷ text))) in
     let small : length (colon ∷ text) ≤ most_open = rw is at short in
     rw is (record { still = (rw no_opening open_, small); like = rw (no_opening, open_) refl })
   where
@@ -151,14 +151,14 @@ stays-long : (now : List ℕ) → OpenKind now → most_open < length now → St
 stays-long now (inl none) long = absurd (omega (arith, ap length none))
 stays-long now (inr (text, is, h)) long = by_count (length now - most_open - 1) (omega arith)
   where
-    begins : (left : List ℕ) → is_open left ≡ true → length left ≡ most_open → opening left ≡ colon ∷ []
+    begins : (left : List ℕ) → is_open left ≡ true → length left ≡ most_open → after_last_end left ≡ colon ∷ []
     begins [] h size = absurd (omega (arith, size))
     begins (x ∷ left) h size =
         let other = (no-colon x left h).0 in
         let above : nat_lt max_frame (length (x ∷ left)) ≡ true = rw size refl in
         rw (above, other) refl
 
-    stays : (left : List ℕ) → kept_of now ≡ left → is_open left ≡ true → length left ≡ most_open → opening left ≡ colon ∷ [] → Stays now (kept_of now)
+    stays : (left : List ℕ) → kept_of now ≡ left → is_open left ≡ true → length left ≡ most_open → after_last_end left ≡ colon ∷ [] → Stays now (kept_of now)
     stays left same open_ many begun =
         let all : open_end (colon ∷ left) ≡ colon ∷ left = open_end-colon left open_ in
         let one : length (colon ∷ left) - most_open ≡ 1 = omega arith in
@@ -190,11 +190,11 @@ left-stays held =
 pub still-quiet : (held : List ℕ) → IsStillOpen held → frames (whole held) ≡ []
 still-quiet held still = all-open-quiet (whole held) still.0
 
-whole-parts : (held : List ℕ) (k : ℕ) → whole held ≡ (opening held ++ take k held) ++ drop k held
-whole-parts held k = sym (append_assoc (opening held) (take k held) (drop k held) ∙ ap (λ h. opening held ++ h) (take-append-drop k held))
+whole-parts : (held : List ℕ) (k : ℕ) → whole held ≡ (after_last_end held ++ take k held) ++ drop k held
+whole-parts held k = sym (append_assoc (after_last_end held) (take k held) (drop k held) ∙ ap (λ h. after_last_end held ++ h) (take-append-drop k held))
 
-pub take-quiet : (held : List ℕ) (k : ℕ) → frames (whole held) ≡ [] → frames (opening held ++ take k held) ≡ []
-take-quiet held k e = front-quiet (opening held ++ take k held) (drop k held) (sym (ap frames (whole-parts held k)) ∙ e)
+pub take-quiet : (held : List ℕ) (k : ℕ) → frames (whole held) ≡ [] → frames (after_last_end held ++ take k held) ≡ []
+take-quiet held k e = front-quiet (after_last_end held ++ take k held) (drop k held) (sym (ap frames (whole-parts held k)) ∙ e)
 
 -- ---- frames are taken off, bytes of no use are dropped, others are read
 
@@ -222,38 +222,38 @@ some-frame : (x : ℕ × List ℕ) (l : List (ℕ × List ℕ)) → x ∷ l ≡ 
 some-frame x l e = cc
 
 -- a frame that ends late enough leaves no more than a read gives
-pub late-frame : (held : List ℕ) (k : ℕ) (frame : ℕ × List ℕ) → frames (opening held ++ take (length held - max_frame) held) ≡ []
-    → frames (opening held ++ take k held) ≡ frame ∷ [] → k ≤ length held → length (drop k held) ≤ max_frame
+pub late-frame : (held : List ℕ) (k : ℕ) (frame : ℕ × List ℕ) → frames (after_last_end held ++ take (length held - max_frame) held) ≡ []
+    → frames (after_last_end held ++ take k held) ≡ frame ∷ [] → k ≤ length held → length (drop k held) ≤ max_frame
 late-frame held k frame late one within =
     elim (cases_lt k (length held - max_frame)) [
       | inl early ↦
           let j = length held - max_frame in
           let count : j ≡ k + (j - k) = omega arith in
           let parts : take j held ≡ take k held ++ take (j - k) (drop k held) = ap (λ n. take n held) count ∙ take-add k (j - k) held in
-          let quiet : frames ((opening held ++ take k held) ++ take (j - k) (drop k held)) ≡ [] =
-          ap frames (append_assoc (opening held) (take k held) (take (j - k) (drop k held)) ∙ ap (λ h. opening held ++ h) (sym parts)) ∙ late in
-          absurd (some-frame frame [] (sym one ∙ front-quiet (opening held ++ take k held) (take (j - k) (drop k held)) quiet))
+          let quiet : frames ((after_last_end held ++ take k held) ++ take (j - k) (drop k held)) ≡ [] =
+          ap frames (append_assoc (after_last_end held) (take k held) (take (j - k) (drop k held)) ∙ ap (λ h. after_last_end held ++ h) (sym parts)) ∙ late in
+          absurd (some-frame frame [] (sym one ∙ front-quiet (after_last_end held ++ take k held) (take (j - k) (drop k held)) quiet))
       | inr enough ↦ omega (arith, length-drop k held)
     ]
 
 -- bytes that are no more than a read gives begin outside of a text that is too long
-opening-short : (held : List ℕ) → length held ≤ max_frame → opening held ≡ []
+opening-short : (held : List ℕ) → length held ≤ max_frame → after_last_end held ≡ []
 opening-short held short = by_kind (opening-kind held)
   where
-    by_kind : Opening held → opening held ≡ []
+    by_kind : Opening held → after_last_end held ≡ []
     by_kind (inl (none, rest)) = none
     by_kind (inr (one, long, first)) = absurd (omega (arith, long, short))
 
 -- a frame is taken off with all bytes before it
 pub stands-frame : (bytes cuts held : List ℕ) (taken : List (ℕ × List ℕ)) (k : ℕ) (frame : ℕ × List ℕ) → StandsFor bytes cuts held taken → k ≤ length held
-    → frames (opening held ++ take k held) ≡ frame ∷ [] → open_end (opening held ++ take k held) ≡ []
+    → frames (after_last_end held ++ take k held) ≡ frame ∷ [] → open_end (after_last_end held ++ take k held) ≡ []
     → StandsFor bytes cuts (drop k held) (taken ++ frame ∷ []) × IsNextFrame bytes cuts taken frame
 unfolding frames
 stands-frame bytes cuts held taken k frame s within one closed =
     let rest = drop k held in
     let short : length rest ≤ max_frame = late-frame held k frame s.late one within in
-    let none : opening rest ≡ [] = opening-short rest short in
-    let split = frames-closed (opening held ++ take k held) rest closed in
+    let none : after_last_end rest ≡ [] = opening-short rest short in
+    let split = frames-closed (after_last_end held ++ take k held) rest closed in
     let parts = whole-parts held k in
     let delivers : frames (whole held) ≡ (frame ∷ []) ++ frames rest = ap frames parts ∙ split.0 ∙ ap (λ f. f ++ frames rest) one in
     let more : frames bytes ≡ (taken ++ frame ∷ []) ++ frames rest = s.next ∙ ap (λ f. taken ++ f) delivers ∙ sym (append_assoc taken (frame ∷ []) (frames rest)) in
@@ -269,11 +269,11 @@ clash : (x : ℕ) → (x == colon) ≡ false → x ≡ colon → ⊥
 clash x other first = cc (other, ap (λ y. y == colon) first)
 
 -- what is read behind bytes that are all open doesn't change where they begin
-pub opening-more : (held piece : List ℕ) → IsStillOpen held → length piece ≤ max_frame → opening (held ++ piece) ≡ opening held
+pub opening-more : (held piece : List ℕ) → IsStillOpen held → length piece ≤ max_frame → after_last_end (held ++ piece) ≡ after_last_end held
 opening-more [] piece still few = opening-short piece few
 opening-more (x ∷ held) piece still few = by_kind (opening-kind (x ∷ held)) (opening-kind (x ∷ (held ++ piece))) (open_end-kind (whole (x ∷ held)))
   where
-    by_kind : Opening (x ∷ held) → Opening (x ∷ (held ++ piece)) → OpenKind (open_end (whole (x ∷ held))) → opening (x ∷ (held ++ piece)) ≡ opening (x ∷ held)
+    by_kind : Opening (x ∷ held) → Opening (x ∷ (held ++ piece)) → OpenKind (open_end (whole (x ∷ held))) → after_last_end (x ∷ (held ++ piece)) ≡ after_last_end (x ∷ held)
     by_kind (inl (none, a)) (inl (nothing, b)) kind = nothing ∙ sym none
     by_kind (inr (one, long, a)) (inr (begun, longer, b)) kind = begun ∙ sym one
     by_kind (inr (one, long, a)) (inl (nothing, inr first)) kind = absurd (clash x a first)
@@ -290,7 +290,7 @@ pub stands-read : (bytes cuts cuts' held piece : List ℕ) (taken : List (ℕ ×
     → StandsFor (bytes ++ piece) cuts' (held ++ piece) taken
 stands-read bytes cuts cuts' held piece taken s still few =
     let same = opening-more held piece still few in
-    let more : whole (held ++ piece) ≡ whole held ++ piece = ap (λ o. o ++ (held ++ piece)) same ∙ sym (append_assoc (opening held) held piece) in
+    let more : whole (held ++ piece) ≡ whole held ++ piece = ap (λ o. o ++ (held ++ piece)) same ∙ sym (append_assoc (after_last_end held) held piece) in
     let quiet = still-quiet held still in
     let g = going piece bytes (whole held) s.now in
     let before : frames bytes ≡ taken = s.next ∙ ap (λ f. taken ++ f) quiet ∙ append-nil taken in

@@ -8,8 +8,8 @@ use Rattle.modbus_ascii.specs.declared.decoder.Phase.{Phase}
 use Rattle.modbus_ascii.specs.declared.decoder.Phase.TheVariants.{Closed, Digits, Returned, Skipped, SkippedReturn}
 use Rattle.modbus_ascii.specs.Limits.{colon, carriage_return, line_feed, max_body, most_open, longest_text}
 use Rattle.modbus_ascii.specs.Text.{from_end, open_end, last}
-use Rattle.modbus_ascii.specs.Frames.{frame_of, delivered, frames, parts}
-use Rattle.modbus_ascii.specs.Decoder.{Reading, AreDigits, KeepsAs, Keeps, Decodes, ended}
+use Rattle.modbus_ascii.specs.Frames.{frame_of, frames_delivered, frames, slave_and_pdu}
+use Rattle.modbus_ascii.specs.Decoder.{Reading, AreDigits, KeepsInPhase, KeepsBytes, DecodesText, ended}
 use Rattle.modbus_ascii.specs.Stands.{kept_of, held_open}
 use Rattle.modbus_ascii.proofs.Ends.{but_last, opened, given, open_end-more, frames-more}
 use Rattle.modbus_ascii.proofs.Digits.{length-text, useless-long}
@@ -40,7 +40,7 @@ returned (y ∷ ys) many mark = (but_last (y ∷ ys), before-last y ys ∙ ap (�
 
 -- a decoder keeps the same of two open ends of which the same is held
 keeps-like : (phase : Phase) (bytes : List ℕ) (half : Option ℕ) (a b : List ℕ) → HasRoom bytes half → most_open ≤ length a → most_open ≤ length b → last a ≡ last b
-    → OpenKind b → KeepsAs phase bytes half a → KeepsAs phase bytes half b
+    → OpenKind b → KeepsInPhase phase bytes half a → KeepsInPhase phase bytes half b
 keeps-like phase bytes half a b room long longer same (inl none) k = absurd (omega (arith, ap length none))
 keeps-like Closed bytes half a b room long longer same kind k = absurd (omega (arith, ap length k))
 keeps-like Digits bytes half a b room long longer same kind (text, is, d) = absurd (omega (arith, digits-short bytes half text room d, ap length is))
@@ -55,11 +55,11 @@ keeps-like SkippedReturn bytes half a b room long longer same (inr (text, is, h)
     (back.0, is ∙ ap (λ t. colon ∷ t) back.1, useless-long back.0 (omega (arith, back.2, many)))
 
 -- what a decoder was fed may be seen as other bytes of which the same is open
-pub decodes-like : (seen other : List ℕ) (reading : Reading) → HasRoom reading.bytes reading.half → Like (open_end seen) (open_end other) → Decodes seen reading → Decodes other reading
+pub decodes-like : (seen other : List ℕ) (reading : Reading) → HasRoom reading.bytes reading.half → Like (open_end seen) (open_end other) → DecodesText seen reading → DecodesText other reading
 decodes-like seen other reading room e k = by_cases (like-cases (open_end seen) (open_end other) e)
   where
-    by_cases : (open_end seen ≡ open_end other) ⊎ ((most_open ≤ length (open_end seen)) × (most_open ≤ length (open_end other))) → Decodes other reading
-    by_cases (inl same) = let P : List ℕ → Type 0 = λ now. Keeps reading now in subst P same k
+    by_cases : (open_end seen ≡ open_end other) ⊎ ((most_open ≤ length (open_end seen)) × (most_open ≤ length (open_end other))) → DecodesText other reading
+    by_cases (inl same) = let P : List ℕ → Type 0 = λ now. KeepsBytes reading now in subst P same k
     by_cases (inr (long, longer)) =
         keeps-like reading.phase reading.bytes reading.half (open_end seen) (open_end other) room long longer
         (like-last (open_end seen) (open_end other) e (omega (arith, long))) (open_end-kind other) k
@@ -120,7 +120,7 @@ unfolding open_end from_end
 colon-open = refl
 
 pub colon-quiet : frames (colon ∷ []) ≡ []
-unfolding frames delivered from_end
+unfolding frames frames_delivered from_end
 colon-quiet = refl
 
 pub nothing-open : length (held_open []) ≡ 0
@@ -139,7 +139,7 @@ found-more seen b found was old new none before more =
     more ∙ ap (λ f. f ++ ended found new) quiet
 
 pub closed-more : (seen : List ℕ) (b : ℕ) (found : Bool) (new : Reading) → frames (seen ++ b ∷ []) ≡ frames seen ++ ended found new → found ≡ true → open_end (seen ++ b ∷ []) ≡ []
-closed-more seen b found new more is = frame-closes seen b (parts new.bytes) (more ∙ ap (λ w. frames seen ++ ended w new) is)
+closed-more seen b found new more is = frame-closes seen b (slave_and_pdu new.bytes) (more ∙ ap (λ w. frames seen ++ ended w new) is)
 
 apart : (x : ℕ) (o : Option ℕ) → o ≡ Some x → o ≡ None → ⊥
 apart x o p q = cc

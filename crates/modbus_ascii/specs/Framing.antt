@@ -1,14 +1,15 @@
 -- The ASCII transmission mode as a framing (MODBUS over Serial Line V1.02, section 2.5.2).
 use Rattle.std.specs.Prelude.{◌≡◌, ℕ, List}
+use Rattle.modbus_pdu.specs.SlavePdu.{SlavePdu}
 use Rattle.modbus_pdu.specs.RequestOf.{request_of}
 use Rattle.modbus_server.specs.declared.error.ProcessError.{ProcessError}
 use Rattle.modbus_server.specs.Framing.{Framing}
-use Rattle.modbus_ascii.specs.Encoding.{frame}
+use Rattle.modbus_ascii.specs.Encoder.{frame}
 use Rattle.modbus_ascii.specs.Limits.{max_frame, most_held}
 use Rattle.modbus_ascii.specs.Stands.{StandsFor, IsNextFrame, AreAllFrames, AreOnlyFrames, IsStillOpen}
 
 -- bytes have no fault: those that deliver nothing are skipped
-abbrev pub HasFault : List ℕ → List ℕ → List (ℕ × List ℕ) → ProcessError → Type 0
+abbrev pub HasFault : List ℕ → List ℕ → List SlavePdu → ProcessError → Type 0
 HasFault bytes cuts taken fault = ⊥
 
 -- each read has the room of the longest frame

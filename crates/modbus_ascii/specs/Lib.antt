@@ -1,11 +1,11 @@
 pub mod Checksum
 pub mod Codec
-pub mod Framed
+pub mod WholeReading
 pub mod Framing
 pub mod Limits
 pub mod Scan
 pub mod Text
 pub mod Frames
 pub mod Decoder
-pub mod Encoding
+pub mod Encoder
 pub mod Stands

@@ -3,17 +3,17 @@ use Rattle.std.specs.Prelude.{◌≡◌, ℕ, ◌≤◌, true, List, [], ◌++�
 use Rattle.modbus_ascii.specs.declared.scan.Scan.{Scan}
 use Rattle.modbus_ascii.specs.Text.{open_end}
 use Rattle.modbus_ascii.specs.Frames.{frames}
-use Rattle.modbus_ascii.specs.Decoder.{Decodes, ended}
-use Rattle.modbus_ascii.specs.Stands.{held_open, opening}
+use Rattle.modbus_ascii.specs.Decoder.{DecodesText, ended}
+use Rattle.modbus_ascii.specs.Stands.{held_open, after_last_end}
 
 -- The decoder was fed these bytes, and knows how many of them are held of the `:` that is open. They deliver no frame, or one that they
 -- end with.
 pub record HasSeen (seen : List ℕ) (scan : Scan) : Type 0 where
-  pub decodes : Decodes seen scan.decoder
+  pub decodes : DecodesText seen scan.decoder
   pub «open» : scan.«open» ≡ length (held_open seen)
   pub found : frames seen ≡ ended scan.found scan.decoder
   pub closed : scan.found ≡ true → open_end seen ≡ []
 
 -- it was fed so many of the held bytes, after what stands for those before them
 abbrev pub Scans : List ℕ → Scan → Type 0
-Scans held scan = (scan.fed ≤ length held) × HasSeen (opening held ++ take scan.fed held) scan
+Scans held scan = (scan.fed ≤ length held) × HasSeen (after_last_end held ++ take scan.fed held) scan

@@ -10,9 +10,9 @@ use crate::limits::{MAX_FRAME, MOST_HELD};
 use crate::scan::Scan;
 use bytes::BytesMut;
 use circular_buffer::HeapCircularBuffer;
-use modbus_frame::{EncodeError, ExceptionResponse, PduError, Request, Response, SlaveId};
+use modbus_frame::{EncodeError, ExceptionResponse, Front, PduError, Request, Response, SlaveId};
 use modbus_pdu::decode_request;
-use modbus_server::{Framing, Front, NoFault, ProcessError};
+use modbus_server::{Framing, NoFault, ProcessError};
 use std::alloc::{AllocError, Global};
 use std::marker::Model;
 

@@ -3,17 +3,18 @@
 ghost use Rattle.std.specs.Prelude.{◌≡◌, ℕ, ◌<◌, List, [], ◌∷◌, ◌++◌, Err, length};
 ghost use Rattle.std.specs.Prelude.{IsOkAnd};
 ghost use Rattle.std.specs.Result.{ForErr};
+ghost use Rattle.modbus_pdu.specs.SlavePdu.{SlavePdu};
 ghost use Rattle.modbus_frame.specs.Codes.{function_number};
 ghost use Rattle.modbus_frame.specs.FunctionCodes.{exception_bit};
 ghost use Rattle.modbus_frame.specs.Meaning.{meaning};
-ghost use Rattle.modbus_pdu.specs.Coding.{Encodes};
+ghost use Rattle.modbus_pdu.specs.Encodes.{Encodes};
 ghost use Rattle.modbus_pdu.specs.RequestOf.{CarriesList, request_of};
 ghost use Rattle.modbus_pdu.specs.ResponseOf.{AnswerCarriesMemory, response_result_of};
 ghost use Rattle.modbus_pdu.specs.RequestPdu.{request_pdu};
 ghost use Rattle.modbus_pdu.specs.ResponsePdu.{response_result_pdu};
 ghost use Rattle.modbus_ascii.specs.Codec.{AnswersBy, error_of};
-ghost use Rattle.modbus_ascii.specs.Decoder.{Decodes};
-ghost use Rattle.modbus_ascii.specs.Encoding.{frame};
+ghost use Rattle.modbus_ascii.specs.Decoder.{DecodesText};
+ghost use Rattle.modbus_ascii.specs.Encoder.{frame};
 ghost use Rattle.modbus_ascii.specs.Frames.{frames};
 ghost use Rattle.modbus_ascii.specs.declared.codec.AsciiError.TheVariants as errors;
 
@@ -88,7 +89,7 @@ impl Model for ServerCodec {
 impl ClientCodec {
     /// A codec that was fed no byte.
     pub fn new() -> ClientCodec
-        ensures { Decodes [] result }
+        ensures { DecodesText [] result }
     {
         ClientCodec {
             decoder: AsciiDecoder::new(),
@@ -101,9 +102,9 @@ impl ClientCodec {
     /// `Invalid` with the reason, exactly where the PDU of that frame is refused, whatever memory there is. `NoMemory` where memory is
     /// refused, only for a response that carries a list or bytes. The frame is then gone.
     pub fn feed(&mut self, alloc: Global, byte: u8) -> Result<Option<rtu::ResponseAdu>, AsciiError>
-        ensures reads { (fed : List ℕ) → Decodes fed self.old
-            → Decodes (fed ++ byte ∷ []) self.new }
-        ensures gives { (fed : List ℕ) → Decodes fed self.old → (delivered : List (ℕ × List ℕ))
+        ensures reads { (fed : List ℕ) → DecodesText fed self.old
+            → DecodesText (fed ++ byte ∷ []) self.new }
+        ensures gives { (fed : List ℕ) → DecodesText fed self.old → (delivered : List SlavePdu)
             × (frames (fed ++ byte ∷ []) ≡ frames fed ++ delivered)
             × AnswersBy response_result_of
             (λ pdu. IsOkAnd (response_result_of pdu) AnswerCarriesMemory)
@@ -142,7 +143,7 @@ impl ClientCodec {
 impl ServerCodec {
     /// A codec that was fed no byte.
     pub fn new() -> ServerCodec
-        ensures { Decodes [] result }
+        ensures { DecodesText [] result }
     {
         ServerCodec {
             decoder: AsciiDecoder::new(),
@@ -159,9 +160,9 @@ impl ServerCodec {
         alloc: Global,
         byte: u8,
     ) -> Result<Option<rtu::RequestAdu<'static>>, AsciiError>
-        ensures reads { (fed : List ℕ) → Decodes fed self.old
-            → Decodes (fed ++ byte ∷ []) self.new }
-        ensures gives { (fed : List ℕ) → Decodes fed self.old → (delivered : List (ℕ × List ℕ))
+        ensures reads { (fed : List ℕ) → DecodesText fed self.old
+            → DecodesText (fed ++ byte ∷ []) self.new }
+        ensures gives { (fed : List ℕ) → DecodesText fed self.old → (delivered : List SlavePdu)
             × (frames (fed ++ byte ∷ []) ≡ frames fed ++ delivered)
             × AnswersBy request_of (λ pdu. IsOkAnd (request_of pdu) CarriesList)
             (λ adu. adu.hdr.slave_id) (λ adu. meaning adu.pdu.0) delivered result }

@@ -4,8 +4,8 @@ ghost use Rattle.modbus_ascii.specs.declared.decoder.Phase.TheVariants.{Digits};
 ghost use Rattle.modbus_ascii.specs.Limits.{colon, carriage_return, line_feed};
 ghost use Rattle.modbus_pdu.specs.Limits.{max_pdu};
 ghost use Rattle.modbus_ascii.specs.Text.{open_end};
-ghost use Rattle.modbus_ascii.specs.Frames.{is_digit, digit_value, parts, frames};
-ghost use Rattle.modbus_ascii.specs.Decoder.{Decodes, IsRoomy, ended, given_frames, made_frame};
+ghost use Rattle.modbus_ascii.specs.Frames.{is_hex_digit, digit_value, slave_and_pdu, frames};
+ghost use Rattle.modbus_ascii.specs.Decoder.{DecodesText, IsRoomy, ended, given_frames, made_frame};
 
 use crate::digit::value_of_digit;
 use crate::limits::{MAX_BODY, OVERHEAD};
@@ -78,7 +78,7 @@ impl Model for AsciiDecoder {
 impl AsciiDecoder {
     /// A decoder that was fed no byte.
     pub fn new() -> AsciiDecoder
-        ensures { Decodes [] result }
+        ensures { DecodesText [] result }
     {
         AsciiDecoder {
             phase: Phase::Closed,
@@ -90,7 +90,7 @@ impl AsciiDecoder {
 
     /// A `:` begins a text.
     fn begin(&mut self)
-        ensures { (fed : List ℕ) → Decodes (fed ++ colon ∷ []) self.new }
+        ensures { (fed : List ℕ) → DecodesText (fed ++ colon ∷ []) self.new }
     {
         self.phase = Phase::Digits;
         self.bytes.clear();
@@ -101,10 +101,10 @@ impl AsciiDecoder {
     /// A digit of this value follows digits.
     fn take_digit(&mut self, character: u8, value: u8)
         requires phase { self.old.phase ≡ Digits }
-        requires digit { is_digit character ≡ true }
+        requires digit { is_hex_digit character ≡ true }
         requires value { value ≡ digit_value character }
         requires below { value < 16 }
-        ensures { (fed : List ℕ) → Decodes fed self.old → Decodes (fed ++ character ∷ []) self.new }
+        ensures { (fed : List ℕ) → DecodesText fed self.old → DecodesText (fed ++ character ∷ []) self.new }
     {
         match self.half {
             Some(high) => {
@@ -128,7 +128,7 @@ impl AsciiDecoder {
         requires begins { character ≢ colon }
         requires returns { character ≢ carriage_return }
         requires feeds { character ≢ line_feed }
-        ensures { (fed : List ℕ) → Decodes fed self.old → Decodes (fed ++ character ∷ []) self.new }
+        ensures { (fed : List ℕ) → DecodesText fed self.old → DecodesText (fed ++ character ∷ []) self.new }
     {
         match self.phase {
             Phase::Closed => {}
@@ -142,8 +142,8 @@ impl AsciiDecoder {
 
     /// A CR follows.
     fn take_return(&mut self)
-        ensures { (fed : List ℕ) → Decodes fed self.old
-            → Decodes (fed ++ carriage_return ∷ []) self.new }
+        ensures { (fed : List ℕ) → DecodesText fed self.old
+            → DecodesText (fed ++ carriage_return ∷ []) self.new }
     {
         match self.phase {
             Phase::Closed => {}
@@ -163,9 +163,9 @@ impl AsciiDecoder {
 
     /// A LF follows: whether it ends a frame.
     fn take_feed(&mut self) -> bool
-        ensures reads { (fed : List ℕ) → Decodes fed self.old
-            → Decodes (fed ++ line_feed ∷ []) self.new }
-        ensures gives { (fed : List ℕ) → Decodes fed self.old
+        ensures reads { (fed : List ℕ) → DecodesText fed self.old
+            → DecodesText (fed ++ line_feed ∷ []) self.new }
+        ensures gives { (fed : List ℕ) → DecodesText fed self.old
             → frames (fed ++ line_feed ∷ []) ≡ frames fed ++ ended result self.new }
     {
         match self.phase {
@@ -187,9 +187,9 @@ impl AsciiDecoder {
 
     /// Takes a byte: whether it ended a frame, which `slave` and `pdu` then tell.
     pub(crate) fn take(&mut self, byte: u8) -> bool
-        ensures reads { (fed : List ℕ) → Decodes fed self.old
-            → Decodes (fed ++ byte ∷ []) self.new }
-        ensures gives { (fed : List ℕ) → Decodes fed self.old
+        ensures reads { (fed : List ℕ) → DecodesText fed self.old
+            → DecodesText (fed ++ byte ∷ []) self.new }
+        ensures gives { (fed : List ℕ) → DecodesText fed self.old
             → frames (fed ++ byte ∷ []) ≡ frames fed ++ ended result self.new }
     {
         match byte {
@@ -218,21 +218,21 @@ impl AsciiDecoder {
 
     /// Whether a `:` is open.
     pub fn is_open(&self) -> bool
-        ensures { (fed : List ℕ) → Decodes fed self.now → IsTrue result ↔ (open_end fed ≢ []) }
+        ensures { (fed : List ℕ) → DecodesText fed self.now → IsTrue result ↔ (open_end fed ≢ []) }
     {
         self.phase != Phase::Closed
     }
 
     /// The slave address of the frame that the last byte ended.
     pub(crate) fn slave(&self) -> SlaveId
-        ensures { result ≡ (parts self.now.bytes).0 }
+        ensures { result ≡ (slave_and_pdu self.now.bytes).0 }
     {
         self.bytes.first().copied().unwrap_or(0)
     }
 
     /// The PDU of the frame that the last byte ended.
     pub(crate) fn pdu(&self) -> &[u8]
-        ensures exact { result.now ≡ (parts self.now.bytes).1 }
+        ensures exact { result.now ≡ (slave_and_pdu self.now.bytes).1 }
         ensures most { length result.now ≤ max_pdu }
     {
         match self.bytes.as_slice() {
@@ -247,9 +247,9 @@ impl AsciiDecoder {
     pub fn feed(&mut self, byte: u8) -> Option<AsciiFrame>
         // For all bytes that it was fed before this one: it goes on by the byte, and gives the frame that they deliver with the byte and
         // did not deliver without it.
-        ensures reads { (fed : List ℕ) → Decodes fed self.old
-            → Decodes (fed ++ byte ∷ []) self.new }
-        ensures gives { (fed : List ℕ) → Decodes fed self.old
+        ensures reads { (fed : List ℕ) → DecodesText fed self.old
+            → DecodesText (fed ++ byte ∷ []) self.new }
+        ensures gives { (fed : List ℕ) → DecodesText fed self.old
             → frames (fed ++ byte ∷ []) ≡ frames fed ++ given_frames result }
     {
         if self.take(byte) {

@@ -1,12 +1,12 @@
 //! Hexadecimal digits (MODBUS over Serial Line V1.02, section 2.5.2).
 ghost use Rattle.std.specs.Prelude.{◌≡◌, ◌<◌, IfSome, IsSome, ◌↔◌, true};
-ghost use Rattle.modbus_ascii.specs.Encoding.{digit};
-ghost use Rattle.modbus_ascii.specs.Frames.{is_digit, digit_value};
+ghost use Rattle.modbus_ascii.specs.Encoder.{digit};
+ghost use Rattle.modbus_ascii.specs.Frames.{is_hex_digit, digit_value};
 
 /// The value of a digit, of either case.
 #[inline(always)]
 pub(crate) fn value_of_digit(character: u8) -> Option<u8>
-    ensures digit { IsSome result ↔ (is_digit character ≡ true) }
+    ensures digit { IsSome result ↔ (is_hex_digit character ≡ true) }
     ensures value { IfSome result (λ value. value ≡ digit_value character) }
     ensures below { IfSome result (λ value. value < 16) }
 {

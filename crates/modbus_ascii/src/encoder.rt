@@ -4,11 +4,11 @@ ghost use Rattle.std.specs.Result.{ForErr};
 ghost use Rattle.modbus_frame.specs.Codes.{function_number};
 ghost use Rattle.modbus_frame.specs.FunctionCodes.{exception_bit};
 ghost use Rattle.modbus_frame.specs.Meaning.{meaning};
-ghost use Rattle.modbus_pdu.specs.Coding.{Encodes, Fits};
+ghost use Rattle.modbus_pdu.specs.Encodes.{Encodes, Fits};
 ghost use Rattle.modbus_pdu.specs.RequestPdu.{request_pdu};
 ghost use Rattle.modbus_pdu.specs.ResponsePdu.{response_result_pdu};
 ghost use Rattle.modbus_ascii.specs.Checksum.{lrc as check};
-ghost use Rattle.modbus_ascii.specs.Encoding.{text_of, frame};
+ghost use Rattle.modbus_ascii.specs.Encoder.{text_of, frame};
 ghost use Rattle.modbus_ascii.specs.Limits.{colon, carriage_return, line_feed, max_body};
 
 use crate::checksum::lrc;
@@ -24,7 +24,7 @@ use modbus_pdu::{
 use std::alloc::Global;
 
 /// Appends the digits of bytes.
-#[tactic(auto, unfolding(crate::specs::Encoding::text_of))]
+#[tactic(auto, unfolding(crate::specs::Encoder::text_of))]
 fn put_text(buf: &mut BytesMut, bytes: &[u8])
     requires { 2 * length bytes.now ≤ buf.old.spare }
     ensures items { buf.new.items ≡ buf.old.items ++ text_of bytes.now }
@@ -81,7 +81,7 @@ fn frame_from(buf: &mut BytesMut, start: usize)
 /// # Errors
 /// `TooLong` with the size of the PDU in bytes, exactly where that is above `MAX_PDU`. `NoMemory` where memory is refused. The
 /// bytes of the buffer are then as they were.
-#[tactic(auto, unfolding(crate::specs::Encoding::frame))]
+#[tactic(auto, unfolding(crate::specs::Encoder::frame))]
 pub fn encode_request_frame(
     _alloc: Global,
     slave: SlaveId,
@@ -107,7 +107,7 @@ pub fn encode_request_frame(
 /// # Errors
 /// `TooLong` with the size of the PDU in bytes, exactly where that is above `MAX_PDU`. `NoMemory` where memory is refused, only
 /// where the buffer had no room for the whole frame. The bytes of the buffer are then as they were.
-#[tactic(auto, unfolding(crate::specs::Encoding::frame))]
+#[tactic(auto, unfolding(crate::specs::Encoder::frame))]
 pub fn encode_response_frame(
     _alloc: Global,
     slave: SlaveId,

@@ -1,16 +1,17 @@
 //! Laws on the frames that bytes deliver, about definitions alone. Each is proved by its contract, and its body is empty.
 ghost use Rattle.std.specs.Prelude.{◌≡◌, ◌≢◌, ℕ, ◌<◌, List, [], ◌∷◌, ◌++◌, length, map};
 ghost use Rattle.std.specs.List.{AllByRecursion};
+ghost use Rattle.modbus_pdu.specs.SlavePdu.{SlavePdu};
 ghost use Rattle.modbus_frame.specs.Meaning.{Asked};
 ghost use Rattle.modbus_ascii.specs.Frames.{frames};
-ghost use Rattle.modbus_ascii.specs.Framed.{IsFramed, IsFramedAsk, message_of, stream_of};
+ghost use Rattle.modbus_ascii.specs.WholeReading.{IsFramed, IsFramedAsk, message_of, stream_of};
 ghost use Rattle.modbus_ascii.specs.Limits.{colon, max_frame};
 ghost use Rattle.modbus_ascii.specs.Stands.{AreOnlyFrames};
 ghost use Rattle.modbus_ascii.specs.Text.{open_end};
 
 /// What bytes deliver stays, whatever follows; and where no `:` is open at their end, what follows delivers what it delivers alone.
 pub fn frames_go_on()
-    ensures front { (bytes more : List ℕ) → (later : List (ℕ × List ℕ))
+    ensures front { (bytes more : List ℕ) → (later : List SlavePdu)
         × (frames (bytes ++ more) ≡ frames bytes ++ later) }
     ensures closed { (bytes more : List ℕ) → open_end bytes ≡ []
         → frames (bytes ++ more) ≡ frames bytes ++ frames more }
@@ -22,7 +23,7 @@ pub fn open_ends_grow()
     ensures begins { (bytes : List ℕ) → open_end (bytes ++ colon ∷ []) ≡ colon ∷ [] }
     ensures joins { (bytes : List ℕ) (byte : ℕ) → byte ≢ colon → open_end (bytes ++ byte ∷ []) ≢ []
         → open_end (bytes ++ byte ∷ []) ≡ open_end bytes ++ byte ∷ [] }
-    ensures closes { (bytes : List ℕ) (byte : ℕ) (frame : ℕ × List ℕ)
+    ensures closes { (bytes : List ℕ) (byte : ℕ) (frame : SlavePdu)
         → frames (bytes ++ byte ∷ []) ≡ frames bytes ++ frame ∷ []
         → open_end (bytes ++ byte ∷ []) ≡ [] }
 {}
@@ -38,7 +39,7 @@ pub fn frames_behind_open_ends()
 
 /// Frames one after another, each of a slave address and of a PDU of 1 to 253 bytes, deliver exactly these, with no `:` open at their end.
 pub fn frames_alone()
-    ensures { (messages : List (ℕ × List ℕ)) → AllByRecursion IsFramed messages
+    ensures { (messages : List SlavePdu) → AllByRecursion IsFramed messages
         → AreOnlyFrames (stream_of messages) messages }
 {}
 

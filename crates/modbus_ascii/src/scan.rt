@@ -1,7 +1,7 @@
 //! How far the decoder of a connection is in the bytes that are held. Each of them is looked at once.
 ghost use Rattle.std.specs.Prelude.{◌≡◌, ℕ, ◌+◌, ◌<◌, false, List, [], ◌∷◌, ◌++◌, length, if◌then◌else◌};
 ghost use Rattle.modbus_ascii.specs.Limits.{colon};
-ghost use Rattle.modbus_ascii.specs.Decoder.{Decodes};
+ghost use Rattle.modbus_ascii.specs.Decoder.{DecodesText};
 ghost use Rattle.modbus_ascii.specs.Stands.{held_open};
 ghost use Rattle.modbus_ascii.specs.Scan.{HasSeen, Scans};
 
@@ -45,7 +45,7 @@ impl Scan {
     #[inline(always)]
     fn count(&self, byte: u8) -> usize
         ensures { (seen : List ℕ) → self.now.«open» ≡ length (held_open seen)
-            → Decodes (seen ++ byte ∷ []) self.now.decoder
+            → DecodesText (seen ++ byte ∷ []) self.now.decoder
             → result ≡ length (held_open (seen ++ byte ∷ [])) }
     {
         if byte == COLON {

@@ -1,16 +1,13 @@
 -- Which bursts are frames, and which message each burst is.
-use Rattle.std.proofs.Common.{◌≡◌, ◌↔◌, ℕ, ◌+◌, ◌-◌, ◌*◌, ◌/◌, ◌%◌, ◌<◌, ◌≤◌, Bool, true, false, List, [], ◌∷◌, ◌++◌, length, take, drop, slice_index, refl, sym, ap, ◌∙◌, subst, arith, length-append, length-take, length-drop, map, Result, Err}
+use Rattle.std.proofs.Common.{◌≡◌, ◌↔◌, ℕ, ◌+◌, ◌-◌, ◌*◌, ◌/◌, ◌%◌, ◌<◌, ◌≤◌, Bool, true, false, List, [], ◌∷◌, ◌++◌, length, take, drop, slice_index, refl, sym, ap, ◌∙◌, subst, arith, length-append, length-take, length-drop, map}
 use Rattle.std.specs.Prelude.{if◌then◌else◌}
 use Rattle.std.specs.List.{AllByRecursion, flat_map}
 use Rattle.std.proofs.lemmas.Grind.{common_steps}
 use Rattle.std.proofs.lemmas.List.{take_at, get_or_at}
-use Rattle.modbus_frame.specs.declared.fault.EncodeError.{EncodeError}
-use Rattle.modbus_frame.specs.declared.fault.EncodeError.TheVariants.{NoMemory}
-use Rattle.modbus_pdu.specs.Coding.{Encodes}
 use Rattle.modbus_pdu.specs.Laws.{IsByte}
 use Rattle.modbus_rtu.specs.Checksum.{crc}
 use Rattle.modbus_rtu.specs.Frame.{frame}
-use Rattle.modbus_burst.specs.Bursts.{bursts_from, is_frame, parts, frame_of, noise, message_of, messages, frames, framed, IsFramed}
+use Rattle.modbus_burst.specs.Bursts.{bursts_from, is_frame, slave_and_pdu, frame_of, noise, message_of, messages, frames, frames_in_message, IsFramed}
 
 -- a slave address, a PDU and two bytes
 abbrev shape : ℕ → List ℕ → ℕ → ℕ → List ℕ
@@ -51,7 +48,7 @@ module _ (slave : ℕ) (pdu : List ℕ) (low high : ℕ) where
       let n : length (slave ∷ pdu ++ low ∷ []) ≡ length (shape slave pdu low high) - 1 = omega (arith, size, length-append pdu (low ∷ [])) in
       ap (λ xs. slice_index xs (length (shape slave pdu low high) - 1)) join ∙ get_or_at (slave ∷ pdu ++ low ∷ []) high [] 0 (length (shape slave pdu low high) - 1) n
 
-  parts_of : parts (shape slave pdu low high) ≡ (slave, pdu)
+  parts_of : slave_and_pdu (shape slave pdu low high) ≡ (slave, pdu)
   parts_of =
       let n : length (shape slave pdu low high) - 3 ≡ length pdu = omega (arith, size) in
       ap (λ (p : List ℕ). (slave, p)) (ap (λ k. take k (pdu ++ low ∷ high ∷ [])) n ∙ take_at pdu (low ∷ high ∷ []) (length pdu) refl)
@@ -71,7 +68,7 @@ module _ (slave : ℕ) (pdu : List ℕ) (low high : ℕ) where
 
   -- a shape that is a frame is that of its parts
   shape_framed : (message : ℕ × List ℕ) → AllByRecursion IsByte (shape slave pdu low high) → is_frame (shape slave pdu low high) ≡ true
-      → parts (shape slave pdu low high) ≡ message → (shape slave pdu low high ≡ frame message.0 message.1) × IsFramed message
+      → slave_and_pdu (shape slave pdu low high) ≡ message → (shape slave pdu low high ≡ frame message.0 message.1) × IsFramed message
   shape_framed message bytes is same =
       let known = is_shape is in
       let less : low < 256 = (back-bytes pdu (low ∷ high ∷ []) bytes.1).0 in
@@ -86,14 +83,14 @@ given_frame : (b : Bool) (p m : ℕ × List ℕ) → b ≡ true → p ≡ m → 
 given_frame true p m e same = ap (λ (x : ℕ × List ℕ). x ∷ []) same
 given_frame false p m e same = cc
 
-is_of : (burst : List ℕ) (message : ℕ × List ℕ) → AllByRecursion IsByte burst → is_frame burst ≡ true → parts burst ≡ message
+is_of : (burst : List ℕ) (message : ℕ × List ℕ) → AllByRecursion IsByte burst → is_frame burst ≡ true → slave_and_pdu burst ≡ message
     → (burst ≡ frame message.0 message.1) × IsFramed message
 is_of [] message bytes is same = cc
 is_of (slave ∷ rest) message bytes is same =
     let long : 2 ≤ length rest = grind arith in
     let a = apart rest long in
     let shaped : slave ∷ rest ≡ shape slave a.0 a.1 a.2 = ap (λ xs. slave ∷ xs) a.3 in
-    let known = shape_framed slave a.0 a.1 a.2 message (subst (AllByRecursion IsByte) shaped bytes) (subst (λ b. is_frame b ≡ true) shaped is) (ap parts (sym shaped) ∙ same) in
+    let known = shape_framed slave a.0 a.1 a.2 message (subst (AllByRecursion IsByte) shaped bytes) (subst (λ b. is_frame b ≡ true) shaped is) (ap slave_and_pdu (sym shaped) ∙ same) in
     (shaped ∙ known.0, known.1)
 
 is_framed : (slave : ℕ) (pdu : List ℕ) → 0 < length pdu → length pdu ≤ 253 → frame_of (frame slave pdu) ≡ (slave, pdu) ∷ []
@@ -101,7 +98,7 @@ unfolding frame_of frame
 is_framed slave pdu some fits =
     let sum : ℕ = crc (slave ∷ pdu) in
     let same : sum ≡ sum % 256 + 256 * (sum / 256) = omega arith in
-    given_frame (is_frame (shape slave pdu (sum % 256) (sum / 256))) (parts (shape slave pdu (sum % 256) (sum / 256))) (slave, pdu)
+    given_frame (is_frame (shape slave pdu (sum % 256) (sum / 256))) (slave_and_pdu (shape slave pdu (sum % 256) (sum / 256))) (slave, pdu)
     (shape_is slave pdu (sum % 256) (sum / 256) some fits same) (parts_of slave pdu (sum % 256) (sum / 256))
 
 pub frames_are : (burst : List ℕ) (message : ℕ × List ℕ) → AllByRecursion IsByte burst
@@ -111,7 +108,7 @@ frames_are burst (slave, pdu) bytes = (forth, back)
   where
     forth : frame_of burst ≡ (slave, pdu) ∷ [] → (burst ≡ frame slave pdu) × IsFramed (slave, pdu)
     forth e =
-        let known = found_frame (is_frame burst) (parts burst) (slave, pdu) e in
+        let known = found_frame (is_frame burst) (slave_and_pdu burst) (slave, pdu) e in
         is_of burst (slave, pdu) bytes known.0 known.1
 
     back : (burst ≡ frame slave pdu) × IsFramed (slave, pdu) → frame_of burst ≡ (slave, pdu) ∷ []
@@ -120,7 +117,7 @@ frames_are burst (slave, pdu) bytes = (forth, back)
 -- the message of a burst, by its frame
 pub heard_none : (burst : List ℕ) → [] ≡ frame_of burst → noise ≡ message_of burst
 unfolding frame_of message_of
-heard_none burst e = by_frame (is_frame burst) (parts burst) e
+heard_none burst e = by_frame (is_frame burst) (slave_and_pdu burst) e
   where
     by_frame : (b : Bool) (p : ℕ × List ℕ) → [] ≡ (if b then p ∷ [] else []) → noise ≡ (if b then p else noise)
     by_frame true p e = cc
@@ -128,45 +125,35 @@ heard_none burst e = by_frame (is_frame burst) (parts burst) e
 
 pub heard_one : (burst : List ℕ) (message : ℕ × List ℕ) → message ∷ [] ≡ frame_of burst → message ≡ message_of burst
 unfolding frame_of message_of
-heard_one burst message e = by_frame (is_frame burst) (parts burst) e
+heard_one burst message e = by_frame (is_frame burst) (slave_and_pdu burst) e
   where
     by_frame : (b : Bool) (p : ℕ × List ℕ) → message ∷ [] ≡ (if b then p ∷ [] else []) → message ≡ (if b then p else noise)
     by_frame true p e = cc
     by_frame false p e = cc
 
 -- the PDU of a frame has a byte
-parts_some : (burst : List ℕ) → is_frame burst ≡ true → 0 < length (parts burst).1
+parts_some : (burst : List ℕ) → is_frame burst ≡ true → 0 < length (slave_and_pdu burst).1
 parts_some burst is =
     let long : 4 ≤ length burst = grind arith in
     omega (arith, long, length-take (length burst - 3) (drop 1 burst), length-drop 1 burst)
 
 -- a message is that of a frame, or noise
-pub framed_is : (burst : List ℕ) → framed (message_of burst) ≡ frame_of burst
+pub framed_is : (burst : List ℕ) → frames_in_message (message_of burst) ≡ frame_of burst
 unfolding frame_of message_of
-framed_is burst = by_frame (is_frame burst) (parts burst) (λ is. parts_some burst is)
+framed_is burst = by_frame (is_frame burst) (slave_and_pdu burst) (λ is. parts_some burst is)
   where
-    by_frame : (b : Bool) (p : ℕ × List ℕ) → (b ≡ true → 0 < length p.1) → framed (if b then p else noise) ≡ (if b then p ∷ [] else [])
+    by_frame : (b : Bool) (p : ℕ × List ℕ) → (b ≡ true → 0 < length p.1) → frames_in_message (if b then p else noise) ≡ (if b then p ∷ [] else [])
     by_frame true (slave, []) some = absurd (omega (arith, some refl))
     by_frame true (slave, code ∷ rest) some = refl
     by_frame false p some = refl
 
 pub noise_is : (burst : List ℕ) → (message_of burst ≡ noise) ↔ (frame_of burst ≡ [])
-noise_is burst = ((λ e. sym (framed_is burst) ∙ ap framed e), (λ e. sym (heard_none burst (sym e))))
+noise_is burst = ((λ e. sym (framed_is burst) ∙ ap frames_in_message e), (λ e. sym (heard_none burst (sym e))))
 
-all_framed : (bursts : List (List ℕ)) → flat_map framed (map message_of bursts) ≡ flat_map frame_of bursts
+all_framed : (bursts : List (List ℕ)) → flat_map frames_in_message (map message_of bursts) ≡ flat_map frame_of bursts
 all_framed [] = refl
-all_framed (burst ∷ bursts) = ap (λ front. front ++ flat_map framed (map message_of bursts)) (framed_is burst) ∙ ap (λ rest. frame_of burst ++ rest) (all_framed bursts)
+all_framed (burst ∷ bursts) = ap (λ front. front ++ flat_map frames_in_message (map message_of bursts)) (framed_is burst) ∙ ap (λ rest. frame_of burst ++ rest) (all_framed bursts)
 
-pub frames_among : (bytes cuts : List ℕ) → flat_map framed (messages bytes cuts) ≡ frames bytes cuts
+pub frames_among : (bytes cuts : List ℕ) → flat_map frames_in_message (messages bytes cuts) ≡ frames bytes cuts
 unfolding messages frames
 frames_among bytes cuts = all_framed (bursts_from 0 bytes cuts)
-
-frame_len : (slave : ℕ) (pdu : List ℕ) → length (frame slave pdu) ≡ length pdu + 3
-unfolding frame
-frame_len slave pdu = let sum = crc (slave ∷ pdu) in omega (arith, length-append pdu (sum % 256 ∷ sum / 256 ∷ []))
-
--- a reply's buffer has room for each frame
-pub frame_room : (slave spare : ℕ) (pdu old new : List ℕ) (result : Result (Unit {0}) EncodeError) → Encodes (frame slave pdu) pdu old result new
-    → (result ≡ Err NoMemory → spare < length (frame slave pdu)) → result ≡ Err NoMemory → spare < 256
-frame_room slave spare pdu old new (Err NoMemory) encodes less e = omega (arith, less e, frame_len slave pdu, encodes.cause)
-frame_room slave spare pdu old new _ encodes less e = cc

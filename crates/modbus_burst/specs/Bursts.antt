@@ -1,6 +1,7 @@
 -- The bursts of a line, and the message that each of them is (MODBUS over Serial Line V1.02, section 2.5.1.1).
 use Rattle.std.specs.Prelude.{ℕ, ◌+◌, ◌-◌, ◌*◌, ◌==◌, ◌&&◌, ◌≤◌, ◌<◌, nat_le, Bool, if◌then◌else◌, List, [], ◌∷◌, length, take, drop, slice_index, map, Option, Some, None}
 use Rattle.std.specs.List.{flat_map, AllByRecursion}
+use Rattle.modbus_pdu.specs.SlavePdu.{SlavePdu}
 use Rattle.modbus_pdu.specs.Laws.{IsByte}
 use Rattle.modbus_pdu.specs.Limits.{max_pdu}
 use Rattle.modbus_rtu.specs.Checksum.{crc}
@@ -19,41 +20,41 @@ is_frame burst =
     && crc (take (length burst - checksum) burst) == slice_index burst (length burst - 2) + 256 * slice_index burst (length burst - 1)
 
 -- the slave address and the PDU of a frame
-abbrev pub parts : List ℕ → ℕ × List ℕ
-parts burst = (slice_index burst 0, take (length burst - overhead) (drop 1 burst))
+abbrev pub slave_and_pdu : List ℕ → SlavePdu
+slave_and_pdu burst = (slice_index burst 0, take (length burst - overhead) (drop 1 burst))
 
 -- the frame that a burst is, or none
-unfoldable pub frame_of : List ℕ → List (ℕ × List ℕ)
-frame_of burst = if is_frame burst then parts burst ∷ [] else []
+unfoldable pub frame_of : List ℕ → List SlavePdu
+frame_of burst = if is_frame burst then slave_and_pdu burst ∷ [] else []
 
 -- the message of a burst that is no frame: its PDU has no byte, which that of a frame always has
-abbrev pub noise : ℕ × List ℕ
+abbrev pub noise : SlavePdu
 noise = (noise_address, [])
 
 -- The message that a burst is: the slave address and the PDU of its frame, or noise.
-unfoldable pub message_of : List ℕ → ℕ × List ℕ
-message_of burst = if is_frame burst then parts burst else noise
+unfoldable pub message_of : List ℕ → SlavePdu
+message_of burst = if is_frame burst then slave_and_pdu burst else noise
 
 -- the messages of the bursts of bytes, in order: each burst is one, whatever it is
-unfoldable pub messages : List ℕ → List ℕ → List (ℕ × List ℕ)
+unfoldable pub messages : List ℕ → List ℕ → List SlavePdu
 messages bytes cuts = map message_of (bursts_from 0 bytes cuts)
 
 -- the frames among them, in order
-unfoldable pub frames : List ℕ → List ℕ → List (ℕ × List ℕ)
+unfoldable pub frames : List ℕ → List ℕ → List SlavePdu
 frames bytes cuts = flat_map frame_of (bursts_from 0 bytes cuts)
 
 -- a message that is a frame's, or none where it is noise
-abbrev pub framed : ℕ × List ℕ → List (ℕ × List ℕ)
-framed (slave, []) = []
-framed (slave, code ∷ rest) = (slave, code ∷ rest) ∷ []
+abbrev pub frames_in_message : SlavePdu → List SlavePdu
+frames_in_message (slave, []) = []
+frames_in_message (slave, code ∷ rest) = (slave, code ∷ rest) ∷ []
 
 -- the slave address and the PDU that were found, as a list
-abbrev pub found : {P : Type 0} → (P → ℕ × List ℕ) → Option P → List (ℕ × List ℕ)
+abbrev pub found : {P : Type 0} → (P → SlavePdu) → Option P → List SlavePdu
 found parts_of None = []
 found parts_of (Some p) = parts_of p ∷ []
 
 -- a slave address and a PDU that a frame has, all of bytes
-pub record IsFramed (message : ℕ × List ℕ) : Type 0 where
+pub record IsFramed (message : SlavePdu) : Type 0 where
   pub slave : IsByte message.0
   pub bytes : AllByRecursion IsByte message.1
   pub some : 0 < length message.1

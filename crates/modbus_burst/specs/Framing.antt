@@ -1,5 +1,6 @@
 -- Bursts as a framing (MODBUS over Serial Line V1.02, section 2.5.1.1).
 use Rattle.std.specs.Prelude.{◌≡◌, ℕ, List, [], ◌∷◌, ◌++◌, Ok}
+use Rattle.modbus_pdu.specs.SlavePdu.{SlavePdu}
 use Rattle.modbus_link.specs.Reads.{AreCuts}
 use Rattle.modbus_rtu.specs.Frame.{frame}
 use Rattle.modbus_rtu.specs.Limits.{max_frame}
@@ -10,7 +11,7 @@ use Rattle.modbus_burst.specs.Bursts.{message_of, messages}
 use Rattle.modbus_burst.specs.Limits.{most_read}
 
 abbrev Messages : Type 0
-Messages = List (ℕ × List ℕ)
+Messages = List SlavePdu
 
 -- the message of the burst that is held, if one is: a burst that was read has a byte at least
 abbrev pub waiting_of : List ℕ → Messages
@@ -23,7 +24,7 @@ pub record StandsFor (bytes cuts held : List ℕ) (taken : Messages) : Type 0 wh
   pub next : messages bytes cuts ≡ taken ++ waiting_of held
 
 -- this message is the next
-pub record IsNextBurst (bytes cuts : List ℕ) (taken : Messages) (message : ℕ × List ℕ) : Type 0 where
+pub record IsNextBurst (bytes cuts : List ℕ) (taken : Messages) (message : SlavePdu) : Type 0 where
   pub are_cuts : AreCuts bytes cuts
   pub later : Messages
   pub next : messages bytes cuts ≡ (taken ++ message ∷ []) ++ later

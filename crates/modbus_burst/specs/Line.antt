@@ -1,5 +1,6 @@
 -- What a server of bursts promises of the bursts that it read.
 use Rattle.std.specs.Prelude.{◌≡◌, ◌⊎◌, ℕ, ◌<◌, List, [], map, length, IsTrue, Result, Ok, Err}
+use Rattle.modbus_pdu.specs.SlavePdu.{SlavePdu}
 use Rattle.modbus_link.specs.Outside.{Input, Output, Rose, bytes_read, cuts_made, bytes_appended}
 use Rattle.modbus_link.specs.Reads.{totals}
 use Rattle.modbus_service.specs.Answering.{Answering}
@@ -11,7 +12,7 @@ use Rattle.modbus_burst.specs.Bursts.{messages}
 use Rattle.modbus_burst.specs.Framing.{bursts}
 
 -- the messages of the bursts that were read, where each read is a burst
-abbrev pub messages_read : Input → Input → List (ℕ × List ℕ)
+abbrev pub messages_read : Input → Input → List SlavePdu
 messages_read from to = messages (bytes_read from to) (totals (cuts_made from to))
 
 -- The input ended, and one run of the service was asked each burst that was read, in order, as its message asks; what was appended is

@@ -6,9 +6,9 @@ ghost use Rattle.modbus_burst.specs.Limits.{most_read};
 
 use crate::frame::message_in;
 use bytes::BytesMut;
-use modbus_frame::{EncodeError, ExceptionResponse, PduError, Request, Response, SlaveId};
+use modbus_frame::{EncodeError, ExceptionResponse, Front, PduError, Request, Response, SlaveId};
 use modbus_rtu::{MAX_FRAME, encode_response_frame};
-use modbus_server::{Framing, Front, NoFault, ProcessError};
+use modbus_server::{Framing, NoFault, ProcessError};
 use modbus_standard::decode_any;
 use std::alloc::{AllocError, Global};
 use std::marker::Model;

@@ -1,17 +1,18 @@
 //! Laws on the bursts of a line, about definitions alone. Each is proved by its contract, and its body is empty.
 ghost use Rattle.std.specs.Prelude.{◌≡◌, ◌↔◌, ℕ, ◌<◌, List, [], ◌∷◌, ◌++◌, length};
 ghost use Rattle.std.specs.List.{AllByRecursion, flat_map};
+ghost use Rattle.modbus_pdu.specs.SlavePdu.{SlavePdu};
 ghost use Rattle.modbus_link.specs.Reads.{AreCuts};
 ghost use Rattle.modbus_pdu.specs.Laws.{IsByte};
 ghost use Rattle.modbus_rtu.specs.Frame.{frame};
-ghost use Rattle.modbus_burst.specs.Bursts.{frame_of, message_of, noise, messages, frames, framed, IsFramed};
+ghost use Rattle.modbus_burst.specs.Bursts.{frame_of, message_of, noise, messages, frames, frames_in_message, IsFramed};
 
 /// A burst of bytes is a frame exactly where it is that of a slave address and of a PDU of 1 to 253 bytes. Its message is then these, and
 /// noise exactly where it is no frame.
 pub fn bursts_that_are_frames()
-    ensures frames { (burst : List ℕ) (message : ℕ × List ℕ) → AllByRecursion IsByte burst
+    ensures frames { (burst : List ℕ) (message : SlavePdu) → AllByRecursion IsByte burst
         → (frame_of burst ≡ message ∷ []) ↔ ((burst ≡ frame message.0 message.1) × IsFramed message) }
-    ensures messages { (burst : List ℕ) (message : ℕ × List ℕ)
+    ensures messages { (burst : List ℕ) (message : SlavePdu)
         → frame_of burst ≡ message ∷ [] → message_of burst ≡ message }
     ensures noise { (burst : List ℕ) → (message_of burst ≡ noise) ↔ (frame_of burst ≡ []) }
 {}
@@ -29,5 +30,5 @@ pub fn bursts_go_on()
 
 /// The messages of a line without the noise are the frames among its bursts, in order.
 pub fn frames_among_messages()
-    ensures { (bytes cuts : List ℕ) → flat_map framed (messages bytes cuts) ≡ frames bytes cuts }
+    ensures { (bytes cuts : List ℕ) → flat_map frames_in_message (messages bytes cuts) ≡ frames bytes cuts }
 {}

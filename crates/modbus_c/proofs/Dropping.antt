@@ -9,7 +9,7 @@ use Rattle.modbus_tcp.specs.Adu.{adu_of, IsAdu, stream_of}
 use Rattle.modbus_frame.specs.declared.fault.TransportError.TheVariants.{InvalidProtocol}
 use Rattle.modbus_tcp.specs.Stream.{BeginsWith, foreign, IsRest}
 use Rattle.modbus_client.specs.Protocol.{reply, broken}
-use Rattle.modbus_client.specs.Tcp.{header_seen, IsOfAnother, Drops, EndsOfAnother, FindsOwnAdu}
+use Rattle.modbus_client.specs.Tcp.{header_seen, IsOfAnother, DropsAdus, EndsOfAnother, FindsOwnAdu}
 
 abbrev Adus : Type 0
 Adus = List (Header × List ℕ)
@@ -23,17 +23,17 @@ further : (bytes held : List ℕ) (start more next : ℕ) → held ≡ drop star
 further bytes held start more next same sum = grind (arith, common_steps, drop-drop, same, sum)
 
 module _ (asked : HeaderSeen) where
-  pub drops_none : (bytes : List ℕ) → Drops asked bytes [] bytes
+  pub drops_none : (bytes : List ℕ) → DropsAdus asked bytes [] bytes
   drops_none bytes = record { joined = refl; whole = All-nil IsAdu; others = All-nil (IsOfAnother asked) }
 
-  drops_one : (bytes left : List ℕ) (message : Header × List ℕ) → BeginsWith bytes message left → IsOfAnother asked message → Drops asked bytes (message ∷ []) left
+  drops_one : (bytes left : List ℕ) (message : Header × List ℕ) → BeginsWith bytes message left → IsOfAnother asked message → DropsAdus asked bytes (message ∷ []) left
   drops_one bytes left message begins other = record {
     joined = begins.joined ∙ ap (λ adu. adu ++ left) (sym (append-nil (adu_of message.0 message.1)));
     whole = All-cons IsAdu message [] begins.whole (All-nil IsAdu);
     others = All-cons (IsOfAnother asked) message [] other (All-nil (IsOfAnother asked));
   }
 
-  drops_both : (bytes held left : List ℕ) (adus more : Adus) → Drops asked bytes adus held → Drops asked held more left → Drops asked bytes (adus ++ more) left
+  drops_both : (bytes held left : List ℕ) (adus more : Adus) → DropsAdus asked bytes adus held → DropsAdus asked held more left → DropsAdus asked bytes (adus ++ more) left
   drops_both bytes held left adus more a b =
       let bytes_of : Header × List ℕ → List ℕ = λ m. adu_of m.0 m.1 in record {
         joined = a.joined ∙ ap (λ rest. stream_of adus ++ rest) b.joined ∙ sym (append_assoc (stream_of adus) (stream_of more) left)
@@ -43,16 +43,16 @@ module _ (asked : HeaderSeen) where
       }
 
   -- the next ADU is of another too
-  pub drops_next : (bytes held : List ℕ) (start end next : ℕ) (adus : Adus) → held ≡ drop start bytes → Drops asked bytes adus (drop start bytes)
-      → EndsOfAnother asked held (Some end) → next ≡ start + end → (all : Adus) × Drops asked bytes all (drop next bytes)
+  pub drops_next : (bytes held : List ℕ) (start end next : ℕ) (adus : Adus) → held ≡ drop start bytes → DropsAdus asked bytes adus (drop start bytes)
+      → EndsOfAnother asked held (Some end) → next ≡ start + end → (all : Adus) × DropsAdus asked bytes all (drop next bytes)
   drops_next bytes held start end next adus same d (some, within, message, begins, other) sum =
-      let one : Drops asked held (message ∷ []) (drop end held) = drops_one held (drop end held) message begins other in
+      let one : DropsAdus asked held (message ∷ []) (drop end held) = drops_one held (drop end held) message begins other in
       let here = further bytes held start end next same sum in
-      (adus ++ message ∷ [], drops_both bytes (drop start bytes) (drop next bytes) adus (message ∷ []) d (subst (λ left. Drops asked (drop start bytes) (message ∷ []) left) here (subst (λ b. Drops asked b (message ∷ []) (drop end held)) same one)))
+      (adus ++ message ∷ [], drops_both bytes (drop start bytes) (drop next bytes) adus (message ∷ []) d (subst (λ left. DropsAdus asked (drop start bytes) (message ∷ []) left) here (subst (λ b. DropsAdus asked b (message ∷ []) (drop end held)) same one)))
 
   -- the ADU behind them is the reply
   pub own_adu : (bytes held pdu : List ℕ) (start end used : ℕ) (header : Header) (seen : HeaderSeen) (adus : Adus) → held ≡ drop start bytes
-      → Drops asked bytes adus (drop start bytes) → EndsOfAnother asked (drop start bytes) None → BeginsWith held (header, pdu) (drop end held) → used ≡ start + end
+      → DropsAdus asked bytes adus (drop start bytes) → EndsOfAnother asked (drop start bytes) None → BeginsWith held (header, pdu) (drop end held) → used ≡ start + end
       → seen ≡ header_seen header → FindsOwnAdu asked bytes [] (reply (drop used bytes) seen pdu)
   own_adu bytes held pdu start end used header seen adus same d all begins sum is =
       let here : BeginsWith (drop start bytes) (header, pdu) (drop used bytes) =
@@ -65,7 +65,7 @@ module _ (asked : HeaderSeen) where
       }
 
   -- a header behind them is of another protocol
-  pub foreign_behind : (bytes held : List ℕ) (start used protocol : ℕ) (adus : Adus) → held ≡ drop start bytes → Drops asked bytes adus (drop start bytes)
+  pub foreign_behind : (bytes held : List ℕ) (start used protocol : ℕ) (adus : Adus) → held ≡ drop start bytes → DropsAdus asked bytes adus (drop start bytes)
       → IsRest held (foreign protocol) → used ≡ start + 7 → FindsOwnAdu asked bytes [] (broken (drop used bytes) (InvalidProtocol protocol))
   foreign_behind bytes held start used protocol adus same d rest sum = record {
     dropped = adus;

@@ -3,12 +3,12 @@ use Rattle.std.proofs.Common.{◌≡◌, ℕ, List, ◌∷◌, ◌++◌, length,
 use Rattle.std.proofs.Math.Seq.{take-append_seam, drop-append-add}
 use Rattle.std.proofs.lemmas.List.{drop-drop}
 use Rattle.std.proofs.lemmas.Grind.{common_steps}
-use Rattle.modbus_store.specs.Tables.{written}
+use Rattle.modbus_store.specs.Tables.{with_entries}
 use Rattle.modbus_rtu.specs.Frame.{frame}
-use Rattle.modbus_c.specs.Laid.{laid, checksum_bytes}
+use Rattle.modbus_c.specs.Layout.{laid, checksum_bytes}
 
 -- what is written right behind a front makes a longer front
-pub laid_more : {A : Type 0} (front more list : List A) (place : ℕ) → place ≡ length front → written place more (laid front list) ≡ laid (front ++ more) list
+pub laid_more : {A : Type 0} (front more list : List A) (place : ℕ) → place ≡ length front → with_entries place more (laid front list) ≡ laid (front ++ more) list
 laid_more front more list place e = grind (arith, common_steps, e, take-append_seam, drop-append-add, drop-drop, length-append)
 
 -- the front that was written
@@ -17,8 +17,8 @@ front_of_laid front list n e = grind (arith, common_steps, e, take-append_seam)
 
 -- a slave address and a PDU, and behind them the checksum of both, are a frame
 pub framed : (slave : ℕ) (pdu old mid new : List ℕ) (end : ℕ) → end ≡ length (slave ∷ pdu) → mid ≡ laid (slave ∷ pdu) old
-    → new ≡ written end (checksum_bytes (take end mid)) mid → new ≡ laid (frame slave pdu) old
+    → new ≡ with_entries end (checksum_bytes (take end mid)) mid → new ≡ laid (frame slave pdu) old
 unfolding frame
 framed slave pdu old mid new end n m w =
     let e : take end mid ≡ slave ∷ pdu = ap (take end) m ∙ front_of_laid (slave ∷ pdu) old end n in
-    w ∙ (λ i. written end (checksum_bytes (e i)) (m i)) ∙ laid_more (slave ∷ pdu) (checksum_bytes (slave ∷ pdu)) old end n
+    w ∙ (λ i. with_entries end (checksum_bytes (e i)) (m i)) ∙ laid_more (slave ∷ pdu) (checksum_bytes (slave ∷ pdu)) old end n

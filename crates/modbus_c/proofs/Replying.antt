@@ -8,12 +8,12 @@ use Rattle.modbus_frame.specs.declared.fault.EncodeError.{EncodeError}
 use Rattle.modbus_frame.specs.declared.fault.EncodeError.TheVariants as error
 use Rattle.modbus_frame.specs.declared.response.Response.{Response}
 use Rattle.modbus_frame.specs.declared.tcp.Header.{Header}
-use Rattle.modbus_pdu.specs.Coding.{Encodes, Fits}
+use Rattle.modbus_pdu.specs.Encodes.{Encodes, Fits}
 use Rattle.modbus_pdu.specs.RequestOf.{request_of}
 use Rattle.modbus_pdu.specs.ResponsePdu.{response_pdu}
 use Rattle.modbus_pdu.specs.Limits.{max_pdu}
 use Rattle.modbus_ascii.specs.Checksum.{lrc}
-use Rattle.modbus_ascii.specs.Encoding.{text_of, frame as text}
+use Rattle.modbus_ascii.specs.Encoder.{text_of, frame as text}
 use Rattle.modbus_ascii.specs.Limits.{carriage_return, line_feed}
 use Rattle.modbus_rtu.specs.Checksum.{crc}
 use Rattle.modbus_rtu.specs.Frame.{frame}
@@ -21,7 +21,7 @@ use Rattle.modbus_service.specs.Outcome.{Outcome, silence, reply, exception, rep
 use Rattle.modbus_store.specs.Step.{store_step}
 use Rattle.modbus_store.specs.Tables.{Tables}
 use Rattle.modbus_tcp.specs.Adu.{adu_of}
-use Rattle.modbus_c.specs.Serving.{Replies}
+use Rattle.modbus_c.specs.Serves.{Replies}
 
 replied : (old : Tables) (slave : ℕ) (pdu : List ℕ) (request : Asked) (outcome : Outcome) (new : Tables)
     → request_of pdu ≡ Ok request → store_step old slave request ≡ (outcome, new) → Replies old slave pdu (reply_pdu (code_of request) outcome) new

@@ -5,7 +5,7 @@ use Rattle.modbus_store.specs.Tables.{Tables}
 use Rattle.modbus_c.specs.declared.serve.Served.{Served}
 use Rattle.modbus_c.specs.declared.serve.Served.TheVariants.{Answered, Silent, Refused, Waiting, NoMemory}
 use Rattle.modbus_c.specs.Served.{flat_frame}
-use Rattle.modbus_c.specs.Serving.{ServesFrame}
+use Rattle.modbus_c.specs.Serves.{ServesFrame}
 
 pub used_within : (old : Tables) (input room output : List ℕ) (done : Result Served Crowd) (new : Tables) → ServesFrame old input room done output new → (flat_frame done).used ≤ length input
 used_within old input room output (Ok (Answered used written)) new h = h.3.2

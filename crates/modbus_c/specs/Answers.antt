@@ -25,15 +25,15 @@ response_in r words coils =
     else None
 
 -- a response as what a server answers
-abbrev pub answered : Option Response → Option (Result Response ExceptionResponse)
-answered None = None
-answered (Some answer) = Some (Ok answer)
+abbrev pub answer_given : Option Response → Option (Result Response ExceptionResponse)
+answer_given None = None
+answer_given (Some answer) = Some (Ok answer)
 
 -- the same, or the exception of a function below the exception bit
 abbrev pub answer_in : ModbusResponse → List ℕ → List Bool → Option (Result Response ExceptionResponse)
 answer_in r words coils =
     if r.exception then (if nat_lt r.function number.exception_bit then Some (Err (record { function = function_of r.function; exception = exception_of r.code })) else None)
-    else answered (response_in r words coils)
+    else answer_given (response_in r words coils)
 
 -- the list that the function takes has fewer items than the struct counts
 unfoldable pub MissesItems : ModbusResponse → List ℕ → List Bool → Type 0

@@ -28,13 +28,13 @@ abbrev pub heading : ℕ → ℕ → Header
 heading transaction unit = record { transaction_id = transaction; unit_id = unit }
 
 -- what is compared of the header of the request
-abbrev pub asked_by : ModbusCall → HeaderSeen
-asked_by call = record { transaction_id = if call.tcp then Some call.transaction_id else None; slave_id = call.slave }
+abbrev pub header_asked : ModbusCall → HeaderSeen
+header_asked call = record { transaction_id = if call.tcp then Some call.transaction_id else None; slave_id = call.slave }
 
 -- a call of this framing that asked this under this header, and holds no byte yet
 pub record IsOpened (tcp : Bool) (asked : HeaderSeen) (request : Asked) (call : ModbusCall) : Type 0 where
   pub framing : call.tcp ≡ tcp
-  pub under : asked_by call ≡ asked
+  pub under : header_asked call ≡ asked
   pub function : function_of call.function ≡ function_asked request
   pub empty : held call.inbox ≡ []
 
@@ -44,26 +44,26 @@ IsNextResponse bytes found = IsNextBy (judged_by response_head) bytes found
 
 -- The next frame of a response is the reply, and the bytes behind it are left; or the search waits at an offset, and the bytes from there
 -- on are left; or no frame stands at the first twenty offsets, which are gone.
-abbrev pub FindsNext : List ℕ → Found → Type 0
-FindsNext bytes (waiting left) = (dropped : ℕ) × IsNextResponse bytes (next.Waiting dropped) × (left ≡ drop dropped bytes)
-FindsNext bytes (reply left seen pdu) = (start n : ℕ) × IsNextResponse bytes (next.Frame start n)
+abbrev pub FindsNextMessage : List ℕ → Found → Type 0
+FindsNextMessage bytes (waiting left) = (dropped : ℕ) × IsNextResponse bytes (next.Waiting dropped) × (left ≡ drop dropped bytes)
+FindsNextMessage bytes (reply left seen pdu) = (start n : ℕ) × IsNextResponse bytes (next.Frame start n)
     × (seen ≡ slave_seen (slice_index bytes start)) × (pdu ≡ take n (drop (start + 1) bytes)) × (left ≡ drop (start + (n + overhead)) bytes)
-FindsNext bytes (broken left told) = IsNextResponse bytes next.TooManyRetries × (told ≡ fault.TooManyRetries) × (left ≡ drop max_retries bytes)
+FindsNextMessage bytes (broken left told) = IsNextResponse bytes next.TooManyRetries × (told ≡ fault.TooManyRetries) × (left ≡ drop max_retries bytes)
 
 -- Modbus TCP: the first ADU of the transaction and the unit that were asked is the reply, and those before it are dropped. A serial line:
 -- the next frame.
-abbrev pub FindsBy : Bool → HeaderSeen → List ℕ → Found → Type 0
-FindsBy true asked bytes found = FindsOwnAdu asked bytes [] found
-FindsBy false asked bytes found = FindsNext bytes found
+abbrev pub FindsMessageBy : Bool → HeaderSeen → List ℕ → Found → Type 0
+FindsMessageBy true asked bytes found = FindsOwnAdu asked bytes [] found
+FindsMessageBy false asked bytes found = FindsNextMessage bytes found
 
 -- so the search stands in the bytes that a call holds
-abbrev pub Finds : ModbusCall → Found → Type 0
-Finds call found = FindsBy call.tcp (asked_by call) (held call.inbox) found
+abbrev pub FindsMessage : ModbusCall → Found → Type 0
+FindsMessage call found = FindsMessageBy call.tcp (header_asked call) (held call.inbox) found
 
 -- the call finds a message under this header, whose PDU is this answer, and holds those bytes behind it
 pub record FindsAnswer (call : ModbusCall) (seen : HeaderSeen) (answer : Result Response ExceptionResponse) (left : List ℕ) : Type 0 where
   pub pdu : List ℕ
-  pub finds : Finds call (reply left seen pdu)
+  pub finds : FindsMessage call (reply left seen pdu)
   pub reads : response_result_of pdu ≡ Ok answer
 
 -- the function of an answer

@@ -3,8 +3,9 @@ use Rattle.std.specs.Prelude.{◌+◌, ◌<◌, ◌^◌, ⊤, length, Result, Ok
 use Rattle.modbus_rtu.specs.declared.search.Next.{Next}
 use Rattle.modbus_rtu.specs.declared.search.Next.TheVariants.{Frame, Waiting, TooManyRetries}
 use Rattle.modbus_rtu.specs.Limits.{overhead, max_retries}
-use Rattle.modbus_tcp.specs.declared.stream.Front.{Front}
-use Rattle.modbus_tcp.specs.declared.stream.Front.TheVariants as front
+use Rattle.modbus_frame.specs.declared.tcp.Header.{Header}
+use Rattle.modbus_frame.specs.declared.front.Front.{Front}
+use Rattle.modbus_frame.specs.declared.front.Front.TheVariants as front
 use Rattle.modbus_tcp.specs.declared.stream.HeaderFault.{HeaderFault}
 use Rattle.modbus_tcp.specs.declared.stream.HeaderFault.TheVariants as fault
 use Rattle.modbus_c.specs.declared.status.TheConstants.{MODBUS_DONE, MODBUS_WAITING, MODBUS_NO_LENGTH, MODBUS_FOREIGN, MODBUS_CROWD}
@@ -22,8 +23,8 @@ abbrev pub IsSmall : Next → Type 0
 IsSmall (Frame start n) = start + (n + overhead) < 2 ^ 64
 IsSmall next = ⊤
 
-abbrev pub flat_front : Result Front HeaderFault → ModbusAdu
-flat_front (Ok (front.Adu header pdu end)) = record { status = MODBUS_DONE; transaction_id = header.transaction_id; protocol = 0; unit_id = header.unit_id; pdu_len = length pdu.now; used = end }
-flat_front (Ok front.Waiting) = record { status = MODBUS_WAITING; transaction_id = 0; protocol = 0; unit_id = 0; pdu_len = 0; used = 0 }
+abbrev pub flat_front : Result (Front Header) HeaderFault → ModbusAdu
+flat_front (Ok (front.Message header pdu end)) = record { status = MODBUS_DONE; transaction_id = header.transaction_id; protocol = 0; unit_id = header.unit_id; pdu_len = length pdu.now; used = end }
+flat_front (Ok (front.Waiting dropped)) = record { status = MODBUS_WAITING; transaction_id = 0; protocol = 0; unit_id = 0; pdu_len = 0; used = 0 }
 flat_front (Err fault.InvalidLength) = record { status = MODBUS_NO_LENGTH; transaction_id = 0; protocol = 0; unit_id = 0; pdu_len = 0; used = 0 }
 flat_front (Err (fault.InvalidProtocol protocol)) = record { status = MODBUS_FOREIGN; transaction_id = 0; protocol = protocol; unit_id = 0; pdu_len = 0; used = 0 }

@@ -1,10 +1,10 @@
 pub mod Status
 pub mod Found
-pub mod Laid
+pub mod Layout
 pub mod Requests
 pub mod Responses
 pub mod Answers
-pub mod Serving
+pub mod Serves
 pub mod Served
 pub mod Inbox
 pub mod Calls

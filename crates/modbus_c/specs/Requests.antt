@@ -34,10 +34,10 @@ flat_request (ReadDeviceIdentification code id) = None
 flat_request (Custom code bytes) = None
 
 -- the registers, and the coils, that a request writes one after another
-abbrev pub words_in : Asked → List ℕ
-words_in (WriteMultipleRegisters a words) = words
-words_in (ReadWriteMultipleRegisters a n b words) = words
-words_in _ = []
+abbrev pub words_asked : Asked → List ℕ
+words_asked (WriteMultipleRegisters a words) = words
+words_asked (ReadWriteMultipleRegisters a n b words) = words
+words_asked _ = []
 
 abbrev pub coils_in : Asked → List Bool
 coils_in (WriteMultipleCoils a coils) = coils

@@ -1,7 +1,8 @@
 -- The next text of an input that delivers a frame, and what it is answered (MODBUS over Serial Line V1.02, section 2.5.2).
 use Rattle.std.specs.Prelude.{◌≡◌, ℕ, ◌+◌, ◌≤◌, List, [], ◌∷◌, ◌++◌, length, take, drop, Err}
+use Rattle.modbus_pdu.specs.SlavePdu.{SlavePdu}
 use Rattle.modbus_pdu.specs.RequestOf.{request_of}
-use Rattle.modbus_ascii.specs.Encoding.{frame}
+use Rattle.modbus_ascii.specs.Encoder.{frame}
 use Rattle.modbus_ascii.specs.Frames.{frames}
 use Rattle.modbus_ascii.specs.Limits.{max_frame}
 use Rattle.modbus_store.specs.Tables.{Tables}
@@ -9,11 +10,11 @@ use Rattle.modbus_c.specs.declared.serve.Served.{Served}
 use Rattle.modbus_c.specs.declared.serve.Served.TheVariants as served
 use Rattle.modbus_c.specs.declared.text.NextText.{NextText}
 use Rattle.modbus_c.specs.declared.text.NextText.TheVariants as next
-use Rattle.modbus_c.specs.Serving.{Replies, Writes}
+use Rattle.modbus_c.specs.Serves.{Replies, WritesReply}
 
 -- The first bytes deliver this frame and no other. Whatever follows the bytes, its frame is the first, and the others are those of the
 -- bytes behind it.
-pub record DeliversFirst (bytes : List ℕ) (message : ℕ × List ℕ) (used : ℕ) : Type 0 where
+pub record DeliversFirst (bytes : List ℕ) (message : SlavePdu) (used : ℕ) : Type 0 where
   pub within : used ≤ length bytes
   pub ends : frames (take used bytes) ≡ message ∷ []
   pub first : (more : List ℕ) → frames (bytes ++ more) ≡ message ∷ frames (drop used bytes ++ more)
@@ -32,7 +33,7 @@ IsNextText bytes (next.Waiting dropped) = DeliversNone bytes dropped
 -- What is done with the next text of an input that delivers a frame, as `ServesFrame` tells it of an RTU frame.
 abbrev pub ServesText : Tables → List ℕ → List ℕ → Served → List ℕ → Tables → Type 0
 ServesText old input room (served.Answered used written) output new = (slave : ℕ) × (pdu made : List ℕ)
-    × DeliversFirst input (slave, pdu) used × Replies old slave pdu made new × Writes (frame slave made) room written output
+    × DeliversFirst input (slave, pdu) used × Replies old slave pdu made new × WritesReply (frame slave made) room written output
 ServesText old input room (served.Silent used) output new = (slave : ℕ) × (pdu : List ℕ)
     × DeliversFirst input (slave, pdu) used × Replies old slave pdu [] new × (output ≡ room)
 ServesText old input room (served.Refused used reason) output new = (slave : ℕ) × (pdu : List ℕ)

@@ -7,7 +7,7 @@ ghost use Rattle.modbus_frame.specs.declared.response.Response.{Response as Answ
 ghost use Rattle.modbus_frame.specs.declared.response.ExceptionResponse.{ExceptionResponse as Refusal};
 ghost use Rattle.modbus_pdu.specs.Limits.{max_pdu};
 ghost use Rattle.modbus_pdu.specs.ResponsePdu.{response_result_pdu};
-ghost use Rattle.modbus_c.specs.Laid.{laid};
+ghost use Rattle.modbus_c.specs.Layout.{laid};
 ghost use Rattle.modbus_c.specs.Answers.{answer_in, response_in, MissesItems};
 ghost use Rattle.modbus_c.specs.Status.{IsWriting};
 

@@ -3,13 +3,13 @@ ghost use Rattle.std.specs.Prelude.{◌≡◌, ◌<◌, ◌≤◌, [], length};
 ghost use Rattle.std.specs.Result.{ForErr};
 ghost use Rattle.modbus_frame.specs.Codes.{function_number};
 ghost use Rattle.modbus_frame.specs.FunctionCodes.{exception_bit};
-ghost use Rattle.modbus_pdu.specs.Coding.{Fits};
+ghost use Rattle.modbus_pdu.specs.Encodes.{Fits};
 ghost use Rattle.modbus_pdu.specs.ResponsePdu.{response_result_pdu};
-ghost use Rattle.modbus_ascii.specs.Encoding.{frame as text};
+ghost use Rattle.modbus_ascii.specs.Encoder.{frame as text};
 ghost use Rattle.modbus_ascii.specs.Limits.{max_frame};
 ghost use Rattle.modbus_store.specs.Lent.{lent, SameLoans, tables_of};
 ghost use Rattle.modbus_c.specs.declared.serve.Served.{Served as Done};
-ghost use Rattle.modbus_c.specs.Laid.{laid};
+ghost use Rattle.modbus_c.specs.Layout.{laid};
 ghost use Rattle.modbus_c.specs.Served.{flat_served, no_room};
 ghost use Rattle.modbus_c.specs.Texts.{ServesText};
 

@@ -1,7 +1,7 @@
 //! The request of a call, written as the frame or the ADU that carries it.
 ghost use Rattle.std.specs.Prelude.{◌≡◌, ◌≢◌, ◌⊎◌, ◌<◌, ◌≤◌, true, false, length, IfOk, IfErr, Some, None};
 ghost use Rattle.modbus_frame.specs.Meaning.{Asked, meaning};
-ghost use Rattle.modbus_pdu.specs.Coding.{Fits};
+ghost use Rattle.modbus_pdu.specs.Encodes.{Fits};
 ghost use Rattle.modbus_pdu.specs.Limits.{max_pdu};
 ghost use Rattle.modbus_pdu.specs.RequestPdu.{request_pdu};
 ghost use Rattle.modbus_rtu.specs.Frame.{frame};
@@ -9,7 +9,7 @@ ghost use Rattle.modbus_tcp.specs.Adu.{adu_of};
 ghost use Rattle.modbus_client.specs.Rtu.{slave_seen};
 ghost use Rattle.modbus_client.specs.Tcp.{header_seen};
 ghost use Rattle.modbus_c.specs.Calls.{heading, IsOpened};
-ghost use Rattle.modbus_c.specs.Laid.{laid};
+ghost use Rattle.modbus_c.specs.Layout.{laid};
 ghost use Rattle.modbus_c.specs.Requests.{asked_in, LacksItems};
 ghost use Rattle.modbus_c.specs.Status.{IsWriting};
 ghost use Rattle.modbus_c.specs.declared.status.TheConstants.{MODBUS_UNTOLD};

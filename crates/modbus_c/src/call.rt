@@ -8,11 +8,11 @@ ghost use Rattle.modbus_frame.specs.declared.fault.TransportError.TheVariants as
 ghost use Rattle.modbus_frame.specs.declared.response.ExceptionResponse.{ExceptionResponse as Refusal};
 ghost use Rattle.modbus_frame.specs.declared.response.Response.{Response as Answer};
 ghost use Rattle.modbus_pdu.specs.ResponseOf.{response_result_of};
-ghost use Rattle.modbus_client.specs.Matching.{IsOf};
+ghost use Rattle.modbus_client.specs.Matches.{IsOf};
 ghost use Rattle.modbus_client.specs.Protocol.{waiting, reply, broken};
-ghost use Rattle.modbus_c.specs.Calls.{asked_by as header_of, Finds, FindsAnswer, function_told};
+ghost use Rattle.modbus_c.specs.Calls.{header_asked as header_of, FindsMessage, FindsAnswer, function_told};
 ghost use Rattle.modbus_c.specs.Inbox.{held, room};
-ghost use Rattle.modbus_c.specs.Laid.{laid};
+ghost use Rattle.modbus_c.specs.Layout.{laid};
 ghost use Rattle.modbus_c.specs.Responses.{flat_answer, words_told, coils_told, LacksLists};
 ghost use Rattle.modbus_c.specs.Status.{reason_number, IsTelling, IsAnswering};
 ghost use Rattle.modbus_c.specs.declared.status.TheConstants.{MODBUS_UNTOLD};
@@ -185,7 +185,7 @@ pub extern "C" fn modbus_call_answer(
         × (IsOf (function_of call.old.function) answer → ⊥)
         × (result.detail ≡ function_told answer) }
     ensures refused { result.status ≡ MODBUS_REFUSED → (seen : Seen) × (pdu : List ℕ) × (reason : Why)
-        × Finds call.old (reply (held call.new.inbox) seen pdu)
+        × FindsMessage call.old (reply (held call.new.inbox) seen pdu)
         × (response_result_of pdu ≡ Err reason) × (result.detail ≡ reason_number reason) }
     ensures untold { result.status ≡ MODBUS_UNTOLD → (answer : Result Answer Refusal)
         × FindsAnswer call.old (header_of call.old) answer (held call.new.inbox)
@@ -194,16 +194,16 @@ pub extern "C" fn modbus_call_answer(
         × FindsAnswer call.old (header_of call.old) answer left
         × IsOf (function_of call.old.function) answer
         × LacksLists answer (length words.old) (length coils.old) }
-    ensures waits { result.status ≡ MODBUS_WAITING → Finds call.old (waiting (held call.new.inbox))
+    ensures waits { result.status ≡ MODBUS_WAITING → FindsMessage call.old (waiting (held call.new.inbox))
         × (length (held call.new.inbox) < room) }
-    ensures full { result.status ≡ MODBUS_FULL → Finds call.old (waiting (held call.new.inbox))
+    ensures full { result.status ≡ MODBUS_FULL → FindsMessage call.old (waiting (held call.new.inbox))
         × (length (held call.new.inbox) ≡ room) }
     ensures crowd { result.status ≡ MODBUS_CROWD
-        → Finds call.old (broken (held call.new.inbox) fault.TooManyRetries) }
+        → FindsMessage call.old (broken (held call.new.inbox) fault.TooManyRetries) }
     ensures no_length { result.status ≡ MODBUS_NO_LENGTH
-        → Finds call.old (broken (held call.new.inbox) fault.InvalidLength) }
+        → FindsMessage call.old (broken (held call.new.inbox) fault.InvalidLength) }
     ensures foreign { result.status ≡ MODBUS_FOREIGN
-        → Finds call.old (broken (held call.new.inbox) (fault.InvalidProtocol result.detail)) }
+        → FindsMessage call.old (broken (held call.new.inbox) (fault.InvalidProtocol result.detail)) }
     ensures again { (result.status ≡ MODBUS_NO_ROOM) ⊎ (result.status ≡ MODBUS_NO_MEMORY)
         → held call.new.inbox ≡ held call.old.inbox }
     ensures same { call.new ≡ record call.old { inbox = call.new.inbox } }

@@ -6,7 +6,7 @@ ghost use Rattle.modbus_tcp.specs.Limits.{longest_response};
 ghost use Rattle.modbus_store.specs.Lent.{tables_of};
 ghost use Rattle.modbus_c.specs.declared.serve.Served.{Served as Done};
 ghost use Rattle.modbus_c.specs.Served.{flat_served, flat_adu, flat_frame, no_room};
-ghost use Rattle.modbus_c.specs.Serving.{ServesAdu, ServesFrame};
+ghost use Rattle.modbus_c.specs.Serves.{ServesAdu, ServesFrame};
 
 use crate::serve::{Served, serve_adu, serve_frame};
 use crate::status::{

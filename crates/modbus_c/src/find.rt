@@ -6,14 +6,16 @@ ghost use Rattle.modbus_rtu.specs.Frame.{judged_by};
 ghost use Rattle.modbus_rtu.specs.Limits.{max_frame, longest_identification};
 ghost use Rattle.modbus_rtu.specs.Next.{IsNext, IsNextBy, IsWithin};
 ghost use Rattle.modbus_rtu.specs.ResponseHead.{response_head};
-ghost use Rattle.modbus_tcp.specs.declared.stream.Front.{Front as AtFront};
+ghost use Rattle.modbus_frame.specs.declared.front.Front.{Front as AtFront};
+ghost use Rattle.modbus_frame.specs.declared.tcp.Header.{Header as TcpHeader};
 ghost use Rattle.modbus_tcp.specs.declared.stream.HeaderFault.{HeaderFault as BadHeader};
-ghost use Rattle.modbus_tcp.specs.Decoding.{Finds};
+ghost use Rattle.modbus_tcp.specs.Decoder.{FindsAdu};
 ghost use Rattle.modbus_c.specs.Found.{flat_next, flat_front, IsSmall};
 
 use crate::status::{MODBUS_CROWD, MODBUS_DONE, MODBUS_FOREIGN, MODBUS_NO_LENGTH, MODBUS_WAITING};
+use modbus_frame::{Front, tcp};
 use modbus_rtu::{MAX_RETRIES, Next, ResponseRule, next_frame, next_frame_by};
-use modbus_tcp::{Front, HeaderFault, front};
+use modbus_tcp::{HeaderFault, front};
 
 /// What a search for a frame finds. `MODBUS_DONE`: a frame, whose slave address stands at `start`, whose PDU has `pdu_len` bytes from
 /// `start + 1` on, and which ends at `used`. `MODBUS_WAITING`: none yet, and the first `used` bytes are of no use. `MODBUS_CROWD`: none
@@ -96,7 +98,7 @@ pub extern "C" fn modbus_rtu_find_response(held: &[u8]) -> ModbusFrame
     frame_of(next)
 }
 
-fn adu_at(found: Result<Front<'_>, HeaderFault>) -> ModbusAdu
+fn adu_at(found: Result<Front<'_, tcp::Header>, HeaderFault>) -> ModbusAdu
     ensures { result ≡ flat_front found.entry }
 {
     let none = ModbusAdu {
@@ -108,7 +110,7 @@ fn adu_at(found: Result<Front<'_>, HeaderFault>) -> ModbusAdu
         used: 0,
     };
     match found {
-        Ok(Front::Adu { header, pdu, end }) => ModbusAdu {
+        Ok(Front::Message { header, pdu, end }) => ModbusAdu {
             status: MODBUS_DONE,
             transaction_id: header.transaction_id,
             protocol: 0,
@@ -116,7 +118,7 @@ fn adu_at(found: Result<Front<'_>, HeaderFault>) -> ModbusAdu
             pdu_len: pdu.len(),
             used: end,
         },
-        Ok(Front::Waiting) => none,
+        Ok(Front::Waiting { .. }) => none,
         Err(HeaderFault::InvalidLength) => ModbusAdu {
             status: MODBUS_NO_LENGTH,
             ..none
@@ -132,8 +134,8 @@ fn adu_at(found: Result<Front<'_>, HeaderFault>) -> ModbusAdu
 /// The ADU at the front of the held bytes, of a request or a response.
 #[unsafe(no_mangle)]
 pub extern "C" fn modbus_tcp_find(held: &[u8]) -> ModbusAdu
-    ensures { (found : Result AtFront BadHeader) × (result ≡ flat_front found)
-        × Finds held.now found }
+    ensures { (found : Result (AtFront TcpHeader) BadHeader) × (result ≡ flat_front found)
+        × FindsAdu held.now found }
 {
     adu_at(front(held))
 }

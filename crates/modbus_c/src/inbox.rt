@@ -7,7 +7,7 @@ ghost use Rattle.modbus_store.specs.Lent.{tables_of};
 ghost use Rattle.modbus_c.specs.declared.serve.Served.{Served as Done};
 ghost use Rattle.modbus_c.specs.Inbox.{held, room};
 ghost use Rattle.modbus_c.specs.Served.{flat_frame, no_room};
-ghost use Rattle.modbus_c.specs.Serving.{ServesFrame};
+ghost use Rattle.modbus_c.specs.Serves.{ServesFrame};
 
 use crate::export::{ModbusServed, flat_of_frame, told};
 use crate::serve::serve_frame;

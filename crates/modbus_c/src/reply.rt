@@ -4,7 +4,7 @@ ghost use Rattle.std.specs.Result.{ForErr};
 ghost use Rattle.modbus_frame.specs.Codes.{function_number};
 ghost use Rattle.modbus_frame.specs.FunctionCodes.{exception_bit};
 ghost use Rattle.modbus_store.specs.Lent.{lent, SameLoans};
-ghost use Rattle.modbus_c.specs.Serving.{RepliesAs};
+ghost use Rattle.modbus_c.specs.Serves.{RepliesAs};
 
 use modbus_frame::{ExceptionResponse, PduError, Response, SlaveId, SlaveRequest};
 use modbus_pdu::decode_request;

@@ -6,8 +6,8 @@ ghost use Rattle.modbus_frame.specs.Meaning.{function_asked, Asked, meaning};
 ghost use Rattle.modbus_pdu.specs.Limits.{max_pdu};
 ghost use Rattle.modbus_pdu.specs.RequestOf.{request_of};
 ghost use Rattle.modbus_pdu.specs.RequestPdu.{request_pdu};
-ghost use Rattle.modbus_c.specs.Laid.{laid};
-ghost use Rattle.modbus_c.specs.Requests.{flat_request, words_in, coils_in, asked_in, LacksItems, blank as blank_of};
+ghost use Rattle.modbus_c.specs.Layout.{laid};
+ghost use Rattle.modbus_c.specs.Requests.{flat_request, words_asked, coils_in, asked_in, LacksItems, blank as blank_of};
 ghost use Rattle.modbus_c.specs.Status.{reason_number, IsReading, IsWriting};
 
 use crate::put::put_front;
@@ -123,7 +123,7 @@ fn flatten(asked: &Request<'_>) -> Option<ModbusRequest>
 
 /// The registers that a request writes one after another.
 fn words_of<'r>(asked: &'r Request<'_>) -> &'r [Word]
-    ensures { result.now ≡ words_in (meaning asked.now) }
+    ensures { result.now ≡ words_asked (meaning asked.now) }
 {
     match asked {
         Request::WriteMultipleRegisters(_, words)
@@ -156,14 +156,14 @@ pub extern "C" fn modbus_request_decode(
     coils: &mut [bool],
 ) -> ModbusDone
     ensures done { result.status ≡ MODBUS_DONE → (asked : Asked) × (request_of pdu.now ≡ Ok asked)
-        × (flat_request asked ≡ Some request.new) × (words.new ≡ laid (words_in asked) words.old)
+        × (flat_request asked ≡ Some request.new) × (words.new ≡ laid (words_asked asked) words.old)
         × (coils.new ≡ laid (coils_in asked) coils.old) }
     ensures refused { result.status ≡ MODBUS_REFUSED → (reason : Why)
         × (request_of pdu.now ≡ Err reason) × (result.detail ≡ reason_number reason) }
     ensures untold { result.status ≡ MODBUS_UNTOLD → (asked : Asked)
         × (request_of pdu.now ≡ Ok asked) × (flat_request asked ≡ None) }
     ensures room { result.status ≡ MODBUS_NO_ROOM → (asked : Asked)
-        × (request_of pdu.now ≡ Ok asked) × ((length words.old < length (words_in asked))
+        × (request_of pdu.now ≡ Ok asked) × ((length words.old < length (words_asked asked))
         ⊎ (length coils.old < length (coils_in asked))) }
     ensures kept { result.status ≢ MODBUS_DONE → (request.new ≡ request.old)
         × (words.new ≡ words.old) × (coils.new ≡ coils.old) }

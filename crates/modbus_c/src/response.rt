@@ -4,7 +4,7 @@ ghost use Rattle.modbus_frame.specs.declared.fault.Reason.{Reason as Why};
 ghost use Rattle.modbus_frame.specs.declared.response.Response.{Response as Answer};
 ghost use Rattle.modbus_frame.specs.declared.response.ExceptionResponse.{ExceptionResponse as Refusal};
 ghost use Rattle.modbus_pdu.specs.ResponseOf.{response_result_of};
-ghost use Rattle.modbus_c.specs.Laid.{laid};
+ghost use Rattle.modbus_c.specs.Layout.{laid};
 ghost use Rattle.modbus_c.specs.Responses.{flat_response, flat_answer, words_told, coils_told, LacksLists, blank as blank_of};
 ghost use Rattle.modbus_c.specs.Status.{reason_number, IsReading};
 

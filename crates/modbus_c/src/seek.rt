@@ -1,13 +1,13 @@
 //! The search for the reply of a call in the bytes that it holds. It takes no memory.
 ghost use Rattle.std.specs.Prelude.{◌≡◌, ◌↔◌, ◌≤◌, List, [], ℕ, length, drop, IsTrue, None};
 ghost use Rattle.modbus_frame.specs.declared.tcp.Header.{Header as Heading};
-ghost use Rattle.modbus_client.specs.Tcp.{header_seen, Drops, EndsOfAnother, FindsOwnAdu};
-ghost use Rattle.modbus_c.specs.Calls.{FindsBy, FindsNext, found_in, used_by};
+ghost use Rattle.modbus_client.specs.Tcp.{header_seen, DropsAdus, EndsOfAnother, FindsOwnAdu};
+ghost use Rattle.modbus_c.specs.Calls.{FindsMessageBy, FindsNextMessage, found_in, used_by};
 
-use modbus_frame::HeaderSeen;
 use modbus_frame::tcp::Header;
+use modbus_frame::{Front, HeaderSeen};
 use modbus_rtu::{MAX_RETRIES, Next, ResponseRule, next_frame_by};
-use modbus_tcp::{Front, HEADER, HeaderFault, front};
+use modbus_tcp::{HEADER, HeaderFault, front};
 
 /// How the search stands, and how many of the held bytes it used, or found to be of no use.
 #[derive(Clone, Copy, Debug, PartialEq, Eq)]
@@ -60,14 +60,14 @@ fn end_of_another(asked: HeaderSeen, bytes: &[u8]) -> Option<usize>
 {
     modbus_tcp::laws::one_front();
     match front(bytes) {
-        Ok(Front::Adu { header, end, .. }) => {
+        Ok(Front::Message { header, end, .. }) => {
             if is_own(asked, header) {
                 None
             } else {
                 Some(end)
             }
         }
-        Ok(Front::Waiting) => None,
+        Ok(Front::Waiting { .. }) => None,
         Err(HeaderFault::InvalidLength) => None,
         Err(HeaderFault::InvalidProtocol(_)) => None,
     }
@@ -77,7 +77,7 @@ fn end_of_another(asked: HeaderSeen, bytes: &[u8]) -> Option<usize>
 fn end_of_others(asked: HeaderSeen, bytes: &[u8]) -> usize
     ensures within { result ≤ length bytes.now }
     ensures dropped { (adus : List (Heading × List ℕ))
-        × Drops asked bytes.now adus (drop result bytes.now) }
+        × DropsAdus asked bytes.now adus (drop result bytes.now) }
     ensures all { EndsOfAnother asked (drop result bytes.now) None }
 {
     let mut start = 0;
@@ -94,12 +94,12 @@ fn seek_adu(asked: HeaderSeen, bytes: &[u8]) -> Sought<'_>
 {
     let start = end_of_others(asked, bytes);
     match front(&bytes[start..]) {
-        Ok(Front::Adu { header, pdu, end }) => Sought::Message {
+        Ok(Front::Message { header, pdu, end }) => Sought::Message {
             seen: seen_of(header),
             pdu,
             used: start + end,
         },
-        Ok(Front::Waiting) => Sought::Waiting { used: start },
+        Ok(Front::Waiting { .. }) => Sought::Waiting { used: start },
         Err(HeaderFault::InvalidLength) => Sought::NoLength { used: start },
         Err(HeaderFault::InvalidProtocol(protocol)) => Sought::Foreign {
             used: start + HEADER,
@@ -110,7 +110,7 @@ fn seek_adu(asked: HeaderSeen, bytes: &[u8]) -> Sought<'_>
 
 /// The search in the bytes of a serial line.
 fn seek_frame(bytes: &[u8]) -> Sought<'_>
-    ensures finds { FindsNext bytes.now (found_in bytes.now result) }
+    ensures finds { FindsNextMessage bytes.now (found_in bytes.now result) }
     ensures within { used_by result ≤ length bytes.now }
 {
     match next_frame_by(&ResponseRule, bytes) {
@@ -129,7 +129,7 @@ fn seek_frame(bytes: &[u8]) -> Sought<'_>
 
 /// The search in the bytes of a TCP stream, or of a serial line.
 pub(crate) fn seek(tcp: bool, asked: HeaderSeen, bytes: &[u8]) -> Sought<'_>
-    ensures finds { FindsBy tcp asked bytes.now (found_in bytes.now result) }
+    ensures finds { FindsMessageBy tcp asked bytes.now (found_in bytes.now result) }
     ensures within { used_by result ≤ length bytes.now }
 {
     if tcp {

@@ -3,24 +3,24 @@ ghost use Rattle.std.specs.Prelude.{◌≡◌, ◌<◌, ◌≤◌, [], length};
 ghost use Rattle.std.specs.Result.{ForErr};
 ghost use Rattle.modbus_frame.specs.Codes.{function_number};
 ghost use Rattle.modbus_frame.specs.FunctionCodes.{exception_bit};
-ghost use Rattle.modbus_pdu.specs.Coding.{Fits};
+ghost use Rattle.modbus_pdu.specs.Encodes.{Fits};
 ghost use Rattle.modbus_pdu.specs.ResponsePdu.{response_result_pdu};
 ghost use Rattle.modbus_rtu.specs.Frame.{frame};
 ghost use Rattle.modbus_store.specs.Lent.{lent, SameLoans};
 ghost use Rattle.modbus_tcp.specs.Adu.{adu_of};
 ghost use Rattle.modbus_tcp.specs.Limits.{longest_response};
-ghost use Rattle.modbus_c.specs.Laid.{laid};
-ghost use Rattle.modbus_c.specs.Serving.{ServesAdu, ServesFrame};
+ghost use Rattle.modbus_c.specs.Layout.{laid};
+ghost use Rattle.modbus_c.specs.Serves.{ServesAdu, ServesFrame};
 
 use crate::put::put_front;
 use crate::reply::reply;
 use bytes::BytesMut;
 use modbus_frame::tcp::Header;
-use modbus_frame::{ExceptionResponse, PduError, Reason, Response, SlaveId};
+use modbus_frame::{ExceptionResponse, Front, PduError, Reason, Response, SlaveId};
 use modbus_rtu::{Crowd, Next, encode_response_frame, next_frame};
 use modbus_store::LentTables;
 use modbus_store::laws::answers_fit;
-use modbus_tcp::{Front, HeaderFault, LONGEST_RESPONSE, encode_response_adu, front};
+use modbus_tcp::{HeaderFault, LONGEST_RESPONSE, encode_response_adu, front};
 use std::alloc::Global;
 
 /// What was done with the front of an input.
@@ -108,8 +108,8 @@ pub(crate) fn serve_adu(
     answers_fit();
     match front(input) {
         Err(fault) => Err(fault),
-        Ok(Front::Waiting) => Ok(Served::Waiting { dropped: 0 }),
-        Ok(Front::Adu { header, pdu, end }) => {
+        Ok(Front::Waiting { .. }) => Ok(Served::Waiting { dropped: 0 }),
+        Ok(Front::Message { header, pdu, end }) => {
             let Ok(made) = BytesMut::with_capacity(alloc, LONGEST_RESPONSE) else {
                 return Ok(Served::NoMemory);
             };

@@ -1,6 +1,6 @@
 //! The search for the next text of Modbus ASCII that delivers a frame. It takes no memory.
 ghost use Rattle.std.specs.Prelude.{◌≡◌, ℕ, ◌+◌, ◌<◌, ◌≤◌, List, [], ◌∷◌, ◌++◌, length, drop};
-ghost use Rattle.modbus_ascii.specs.Decoder.{Decodes};
+ghost use Rattle.modbus_ascii.specs.Decoder.{DecodesText};
 ghost use Rattle.modbus_ascii.specs.Text.{open_end};
 ghost use Rattle.modbus_c.specs.Texts.{IsNextText};
 
@@ -25,7 +25,7 @@ fn open_from(decoder: &AsciiDecoder, start: usize, place: usize, byte: u8) -> us
     requires place { place < usize.MAX }
     ensures within { result ≤ place + 1 }
     ensures begins { (fed : List ℕ) → length fed ≡ place → drop start fed ≡ open_end fed
-        → Decodes (fed ++ byte ∷ []) decoder.now
+        → DecodesText (fed ++ byte ∷ []) decoder.now
         → drop result (fed ++ byte ∷ []) ≡ open_end (fed ++ byte ∷ []) }
 {
     open_ends_grow();

@@ -1,12 +1,12 @@
 //! A PDU that the caller holds, written as the message that carries it. It takes no memory.
 ghost use Rattle.std.specs.Prelude.{◌≡◌, ◌≢◌, ◌+◌, ◌<◌, ◌≤◌, ◌⊎◌, ◌++◌, [], ◌∷◌, length, take};
 ghost use Rattle.modbus_pdu.specs.Limits.{max_pdu};
-ghost use Rattle.modbus_pdu.specs.Writing.{word};
+ghost use Rattle.modbus_pdu.specs.Word.{word};
 ghost use Rattle.modbus_rtu.specs.Frame.{frame};
 ghost use Rattle.modbus_rtu.specs.Limits.{overhead};
 ghost use Rattle.modbus_tcp.specs.Adu.{adu_of};
 ghost use Rattle.modbus_tcp.specs.Limits.{mbap_header};
-ghost use Rattle.modbus_c.specs.Laid.{laid, checksum_bytes};
+ghost use Rattle.modbus_c.specs.Layout.{laid, checksum_bytes};
 
 use crate::put::{put_at, put_front};
 use crate::status::{MODBUS_DONE, MODBUS_NO_ROOM, MODBUS_TOO_LONG, ModbusDone, nothing};

@@ -13,11 +13,11 @@ use Rattle.modbus_service.specs.Outcome.{Outcome, code_of, reply_pdu}
 use Rattle.modbus_service.specs.Answering.{Answering}
 use Rattle.modbus_server.specs.declared.error.ProcessError.{ProcessError}
 use Rattle.modbus_server.specs.declared.error.ProcessError.TheVariants.{ReadFault, WriteFault, BytesRemaining, InvalidRequest, ResponseTooLong, TurnLimit, TooManyRetries, NoMemory}
-use Rattle.modbus_server.specs.Exchanges.{Exchange, Question, GivesOutcome, Run, ReplyFits, framed, output, told_reply_size, asked_of, asks}
+use Rattle.modbus_server.specs.Exchanges.{Exchange, Question, GivesOutcome, Run, ReplyFits, framed_outcome, output, told_reply_size, asked_of, asks}
 use Rattle.modbus_server.specs.Piece.{IsOfNoRead}
 use Rattle.modbus_server.specs.Rtu.{rtu, IsCrowdedAfter}
 use Rattle.modbus_server.specs.Served.{Served, Halts, remaining, broken, refused, too_long, EndsAs}
-use Rattle.modbus_client.specs.Exchange.{IsWanting}
+use Rattle.modbus_client.specs.Exchange.{IsWantOfMemory}
 
 abbrev pub LinesAreCalm : Type 0
 LinesAreCalm = (read rest cuts : List ℕ) (messages : List (ℕ × List ℕ)) (k : ℕ) → IsQuietLine (read ++ rest) messages → HasCrowd read cuts k → ⊥
@@ -35,7 +35,7 @@ ReadingsAreOne = (bytes frames others : List ℕ) (stop last : ℕ) → IsLeftmo
 -- what it writes: the reply, which fits; or nothing, where the PDU of the reply doesn't
 abbrev pub IsSent : ℕ → Asked → Outcome → List ℕ → Type 0
 IsSent slave asked outcome sent =
-    ((sent ≡ framed rtu slave (code_of asked) outcome) × (length (reply_pdu (code_of asked) outcome) ≤ max_pdu))
+    ((sent ≡ framed_outcome rtu slave (code_of asked) outcome) × (length (reply_pdu (code_of asked) outcome) ≤ max_pdu))
     ⊎ ((sent ≡ []) × (max_pdu < length (reply_pdu (code_of asked) outcome)))
 
 pub record AskedOnce {S : Type 0} (A : Answering S) (before after : S) (slave : ℕ) (asked : Asked) (sent : List ℕ) : Type 0 where
@@ -93,7 +93,7 @@ module _ (calm : LinesAreCalm) (next : NextsAreOfLines) (used : LinesAreUsed) (o
           outcome = outcome;
           gave = subst (λ n. A.gives opening slave asked outcome n) end step;
           wrote = inl (
-            s.wrote ∙ ap (output rtu) is ∙ append-nil (framed rtu slave (code_of asked) outcome),
+            s.wrote ∙ ap (output rtu) is ∙ append-nil (framed_outcome rtu slave (code_of asked) outcome),
             All-contains (ReplyFits rtu) (exchange_of outcome ∷ []) (exchange_of outcome) fit (0, omega arith, refl),
           );
         }
@@ -134,7 +134,7 @@ module _ (calm : LinesAreCalm) (next : NextsAreOfLines) (used : LinesAreUsed) (o
     never_left : (left : List ℕ) → (left ≡ [] → ⊥) → Served rtu A bytes cuts opening now sent (remaining left) → ⊥
     never_left left some s = some (used bytes cuts left ((slave, pdu) ∷ []) s.before quiet s.halts.0)
 
-    pub asked_once : (result : Result (Unit {0}) ProcessError) → IsOfNoRead result → (IsWanting result → ⊥) → EndsAs rtu A bytes cuts opening now sent result → AskedOnce A opening now slave asked sent
+    pub asked_once : (result : Result (Unit {0}) ProcessError) → IsOfNoRead result → (IsWantOfMemory result → ⊥) → EndsAs rtu A bytes cuts opening now sent result → AskedOnce A opening now slave asked sent
     asked_once (Ok done) only unwanted ends = answered [] ends
     asked_once (Err NoMemory) only unwanted ends = absurd (unwanted tt)
     asked_once (Err ReadFault) only unwanted ends = absurd only

@@ -2,21 +2,21 @@
 use Rattle.std.proofs.Common.{◌≡◌, ◌↔◌, inl, ℕ, ◌<◌, List, [], length, Result, Err, refl, sym, ap, ◌∙◌, arith}
 use Rattle.std.specs.Prelude.{IfErr}
 use Rattle.modbus_link.specs.Outside.{Outside, outside, Input, Output, Rose}
-use Rattle.modbus_link.specs.Passing.{Passes, passes_none}
+use Rattle.modbus_link.specs.Passes.{Passes, passes_none}
 use Rattle.modbus_link.specs.Reads.{Spends}
 use Rattle.modbus_frame.specs.Meaning.{Asked, function_asked}
 use Rattle.modbus_frame.specs.declared.fault.Error.{Error}
 use Rattle.modbus_frame.specs.declared.fault.Error.TheVariants.{Protocol as protocol, Transport, NoMemory}
 use Rattle.modbus_frame.specs.declared.fault.HeaderSeen.{HeaderSeen}
 use Rattle.modbus_frame.specs.declared.fault.TransportError.TheVariants as transport
-use Rattle.modbus_pdu.specs.Coding.{Fits, told_size}
+use Rattle.modbus_pdu.specs.Encodes.{Fits, told_size}
 use Rattle.modbus_pdu.specs.Limits.{max_pdu}
 use Rattle.modbus_pdu.specs.RequestPdu.{request_pdu}
 use Rattle.modbus_client.specs.Protocol.{Protocol, waiting}
-use Rattle.modbus_client.specs.Matching.{Answer}
-use Rattle.modbus_client.specs.Sending.{WritesRequest, IsOfSending}
-use Rattle.modbus_client.specs.Calling.{CallEndsAs, CallEndsRead, CameLast, call_spending, Sent, Exchanged, CountsDropped}
-use Rattle.modbus_client.specs.Polled.{IsRefused}
+use Rattle.modbus_client.specs.Matches.{Answer}
+use Rattle.modbus_client.specs.Sends.{WritesRequest, IsOfSending}
+use Rattle.modbus_client.specs.Calls.{CallEndsAs, CallEndsRead, CameLast, call_spending, Sent, Exchanged, CountsDropped}
+use Rattle.modbus_client.specs.Polled.{IsRefusedCall}
 
 -- an exchange with the count of the messages that it dropped, as one fact
 pub record Counted {H : Type 0} (P : Protocol H) (from to : Outside) (header : H) (asked : Asked) (turns : ℕ) (held : List ℕ) (dropped : ℕ) (answer : Answer) : Type 0 where
@@ -65,7 +65,7 @@ module _ (X : Type 0) {H : Type 0} (P : Protocol H) (header : H) (asked : Asked)
   sent_wanting a k fits = sent_fit a a k k (Err NoMemory) [] fits refl (passes_none (outside a k)) tt (λ size e. cc) (P.adu header (request_pdu asked), refl) (λ e. cc)
 
   -- a call was not opened
-  pub sent_refused : (a : Input) (k : Output) (error : Error) → IsRefused (request_pdu asked) error → Sent {X = X} P (outside a k) (outside a k) header asked held (Err error)
+  pub sent_refused : (a : Input) (k : Output) (error : Error) → IsRefusedCall (request_pdu asked) error → Sent {X = X} P (outside a k) (outside a k) header asked held (Err error)
   sent_refused a k (protocol fault) refused = absurd refused
   sent_refused a k (Transport (transport.RequestTooLong size)) refused = sent_long a k size refused.0 refused.1
   sent_refused a k (Transport _) refused = absurd refused

@@ -12,7 +12,7 @@ use Rattle.modbus_frame.specs.declared.fault.Error.TheVariants.{Protocol as prot
 use Rattle.modbus_frame.specs.declared.fault.HeaderSeen.{HeaderSeen}
 use Rattle.modbus_frame.specs.declared.fault.ProtocolError.TheVariants.{HeaderMismatch, FunctionCodeMismatch, PayloadMismatch}
 use Rattle.modbus_frame.specs.declared.fault.TransportError.TheVariants.{BrokenPipe}
-use Rattle.modbus_pdu.specs.Coding.{Fits}
+use Rattle.modbus_pdu.specs.Encodes.{Fits}
 use Rattle.modbus_pdu.specs.Laws.{IsReadable}
 use Rattle.modbus_pdu.specs.RequestOf.{IsModelled}
 use Rattle.modbus_pdu.specs.ResponseOf.{response_result_of}
@@ -22,10 +22,10 @@ use Rattle.modbus_rtu.specs.Frame.{frame}
 use Rattle.modbus_rtu.specs.ResponseHead.{response_verdict, HasResponseHead}
 use Rattle.modbus_rtu.specs.declared.verdict.Verdict.TheVariants.{Open}
 use Rattle.modbus_service.specs.Outcome.{Outcome, silence, reply, exception, code_of, reply_pdu}
-use Rattle.modbus_rtu.specs.Framed.{IsModelledAsk}
+use Rattle.modbus_rtu.specs.WholeReading.{IsModelledAsk}
 use Rattle.modbus_client.specs.Back.{ReplyComesBack, OutcomeComesBack}
 use Rattle.modbus_client.specs.Exchange.{ReadsAll}
-use Rattle.modbus_client.specs.Matching.{Answer, IsOf, Judges}
+use Rattle.modbus_client.specs.Matches.{Answer, IsOf, Judges}
 use Rattle.modbus_client.specs.Rtu.{rtu_protocol, slave_seen}
 use Rattle.modbus_client.proofs.AskedOnce.{IsSent}
 use Rattle.modbus_client.proofs.Completing.{judged_result}

@@ -13,14 +13,14 @@ use Rattle.modbus_frame.specs.declared.fault.Error.TheVariants.{Protocol as prot
 use Rattle.modbus_frame.specs.declared.fault.HeaderSeen.{HeaderSeen}
 use Rattle.modbus_frame.specs.declared.fault.ProtocolError.TheVariants.{HeaderMismatch, FunctionCodeMismatch, PayloadMismatch}
 use Rattle.modbus_frame.specs.declared.fault.TransportError.TheVariants as transport
-use Rattle.modbus_pdu.specs.Coding.{Fits}
+use Rattle.modbus_pdu.specs.Encodes.{Fits}
 use Rattle.modbus_pdu.specs.RequestPdu.{request_pdu}
 use Rattle.modbus_pdu.specs.ResponseOf.{response_result_of}
 use Rattle.modbus_client.specs.Protocol.{Protocol, Heading, Found, waiting, reply, broken, IsOfMessage}
-use Rattle.modbus_client.specs.Matching.{Answer, IsOf, Judges, answer_of}
+use Rattle.modbus_client.specs.Matches.{Answer, IsOf, Judges, answer_of}
 use Rattle.modbus_client.specs.Call.{IsJudged}
 use Rattle.modbus_client.specs.State.{ClientState, next_header}
-use Rattle.modbus_client.specs.Calling.{Exchanged, Called, IsComplete}
+use Rattle.modbus_client.specs.Calls.{Exchanged, Called, IsComplete}
 
 abbrev pub IsFoundAlone : {H : Type 0} → Protocol H → Type 0
 IsFoundAlone {H} P = (header : H) (pdu bytes rest cuts : List ℕ) (found : Found) → P.IsWhole header pdu → P.adu header pdu ≡ bytes ++ rest → P.Finds (P.seen header) bytes cuts found → IsOfMessage (P.seen header) pdu rest found

@@ -8,15 +8,15 @@ use Rattle.modbus_frame.specs.declared.fault.HeaderSeen.{HeaderSeen}
 use Rattle.modbus_frame.specs.declared.fault.Error.TheVariants.{Protocol as protocol, Transport, NoMemory}
 use Rattle.modbus_frame.specs.declared.fault.TransportError.{TransportError}
 use Rattle.modbus_frame.specs.declared.fault.TransportError.TheVariants as transport
-use Rattle.modbus_pdu.specs.Coding.{Fits}
+use Rattle.modbus_pdu.specs.Encodes.{Fits}
 use Rattle.modbus_pdu.specs.RequestPdu.{request_pdu}
 use Rattle.std.specs.Prelude.{IsOkAnd}
 use Rattle.modbus_pdu.specs.ResponseOf.{AnswerCarriesMemory, response_result_of}
 use Rattle.modbus_client.specs.Protocol.{Protocol, Found, waiting, reply, broken}
-use Rattle.modbus_client.specs.Matching.{Answer, Judges}
+use Rattle.modbus_client.specs.Matches.{Answer, Judges}
 use Rattle.modbus_client.specs.Call.{IsJudged}
-use Rattle.modbus_client.specs.Calling.{Exchanged}
-use Rattle.modbus_client.specs.Exactly.{IsAnswerTo, IsToldOf, IsOfWaiting, TellsWaiting, end_of}
+use Rattle.modbus_client.specs.Calls.{Exchanged}
+use Rattle.modbus_client.specs.Exactly.{IsAnswerTo, IsToldOf, IsOfWaiting, TellsWaiting, error_at_end}
 
 abbrev pub IsOneWay : {H : Type 0} → Protocol H → Type 0
 IsOneWay {H} P = (asked : HeaderSeen) (bytes cuts : List ℕ) (found other : Found) → P.Finds asked bytes cuts found → P.Finds asked bytes cuts other → found ≡ other
@@ -132,7 +132,7 @@ module _ {H : Type 0} (P : Protocol H) (opening : (asked : HeaderSeen) → P.Fin
     same_held : (answer : Answer) (r : Exchanged P (outside from sunk) (outside to sinks) header asked turns held answer) → P.Finds (P.seen header) r.fed (totals r.made) (waiting kept) → P.Finds (P.seen header) r.fed (totals r.made) (waiting held) → held ≡ kept
     same_held answer r a b = let e : waiting kept ≡ waiting held = same answer r (waiting kept) (waiting held) a b in cc
 
-    end_some : (bytes : List ℕ) → bytes ≢ [] → transport.BytesRemaining ≡ end_of bytes
+    end_some : (bytes : List ℕ) → bytes ≢ [] → transport.BytesRemaining ≡ error_at_end bytes
     end_some [] some = absurd (some refl)
     end_some (b ∷ bytes) some = refl
 

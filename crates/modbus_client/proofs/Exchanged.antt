@@ -2,20 +2,20 @@
 use Rattle.std.proofs.Common.{◌≡◌, ◌⊎◌, inl, inr, ℕ, List, [], Err, Result, refl, subst, arith}
 use Rattle.modbus_frame.specs.Meaning.{Asked}
 use Rattle.modbus_frame.specs.declared.fault.Error.TheVariants.{NoMemory}
-use Rattle.modbus_pdu.specs.Coding.{Fits}
+use Rattle.modbus_pdu.specs.Encodes.{Fits}
 use Rattle.modbus_pdu.specs.RequestPdu.{request_pdu}
 use Rattle.modbus_rtu.specs.Frame.{frame}
 use Rattle.modbus_service.specs.Answering.{Answering}
 use Rattle.modbus_server.specs.declared.error.ProcessError.{ProcessError}
 use Rattle.modbus_server.specs.Piece.{ServedPiece}
 use Rattle.modbus_server.specs.Rtu.{rtu}
-use Rattle.modbus_client.specs.Matching.{Answer}
+use Rattle.modbus_client.specs.Matches.{Answer}
 use Rattle.modbus_client.specs.Protocol.{waiting}
-use Rattle.modbus_client.specs.Rtu.{FindsFrame}
-use Rattle.modbus_client.specs.Exchange.{IsOfReplies, IsWanting, LocalExchange, ExchangesLocally}
+use Rattle.modbus_client.specs.Rtu.{FindsReplyFrame}
+use Rattle.modbus_client.specs.Exchange.{IsOfReplies, IsWantOfMemory, LocalExchange, ExchangesLocally}
 use Rattle.modbus_client.specs.Back.{ComesBack}
 
-module _ {S : Type 0} (A : Answering S) (slave : ℕ) (asked : Asked) (before after : S) (fits : Fits (request_pdu asked)) (opening : FindsFrame [] [] (waiting [])) where
+module _ {S : Type 0} (A : Answering S) (slave : ℕ) (asked : Asked) (before after : S) (fits : Fits (request_pdu asked)) (opening : FindsReplyFrame [] [] (waiting [])) where
   exchange_by : (answer : Answer) → IsOfReplies answer → LocalExchange A before after slave asked answer ⊎ ((answer ≡ Err NoMemory) × (after ≡ before)) → ExchangesLocally A before after slave asked answer
   exchange_by answer of asks = record {
     too_long = λ size. (λ e. absurd ((subst IsOfReplies e of).0 refl), λ p. absurd (omega (arith, p.0, fits)));
@@ -24,7 +24,7 @@ module _ {S : Type 0} (A : Answering S) (slave : ℕ) (asked : Asked) (before af
   }
 
   module _ (old new : List ℕ) (result : Result (Unit {0}) ProcessError) (s : ServedPiece rtu A (frame slave (request_pdu asked)) before after old new result) where
-    pub exchange_unserved : IsWanting result → ExchangesLocally A before after slave asked (Err NoMemory)
+    pub exchange_unserved : IsWantOfMemory result → ExchangesLocally A before after slave asked (Err NoMemory)
     exchange_unserved wants = exchange_by (Err NoMemory) (λ e. cc, λ e. cc) (elim s.ends [
       | inl ends ↦ inl (record {
         sent = s.sent;

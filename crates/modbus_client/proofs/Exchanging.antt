@@ -9,9 +9,9 @@ use Rattle.modbus_frame.specs.declared.fault.TransportError.{TransportError}
 use Rattle.modbus_frame.specs.declared.fault.TransportError.TheVariants as transport
 use Rattle.modbus_client.specs.Limits.{read_room}
 use Rattle.modbus_client.specs.Protocol.{Protocol, waiting}
-use Rattle.modbus_client.specs.Matching.{Answer}
+use Rattle.modbus_client.specs.Matches.{Answer}
 use Rattle.modbus_client.specs.Call.{CallState, CallStands, IsSameCall, IsOfBytesIfSome, FeedsAs, CallFed, TellsEnd}
-use Rattle.modbus_client.specs.Calling.{CallEndsAs}
+use Rattle.modbus_client.specs.Calls.{CallEndsAs}
 use Rattle.modbus_client.specs.Exchange.{IsOfReplies, full_cuts, ReadsAll}
 use Rattle.modbus_client.proofs.Turning.{same_call, answered_ends, fed_goes}
 

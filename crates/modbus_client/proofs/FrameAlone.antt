@@ -11,10 +11,10 @@ use Rattle.modbus_rtu.specs.declared.verdict.Verdict.TheVariants.{Open, Bad, Goo
 use Rattle.modbus_rtu.specs.Checksum.{crc}
 use Rattle.modbus_rtu.specs.Frame.{frame}
 use Rattle.modbus_rtu.specs.ResponseHead.{response_verdict, HasResponseHead}
-use Rattle.modbus_client.specs.Search.{seen, counts_from, ArePassed, reply, crowd, waiting, SearchFinds}
+use Rattle.modbus_client.specs.Search.{verdict_when_read, counts_from, ArePassed, reply, crowd, waiting, SearchFinds}
 use Rattle.modbus_client.specs.Protocol as found
 use Rattle.modbus_client.specs.Protocol.{Found, IsOfMessage}
-use Rattle.modbus_client.specs.Rtu.{slave_seen, FindsFrame, FoundFrame}
+use Rattle.modbus_client.specs.Rtu.{slave_seen, FindsReplyFrame, FoundFrame}
 
 abbrev pub FramesAreGood : Type 0
 FramesAreGood = (slave : ℕ) (pdu more : List ℕ) → HasResponseHead (slave, pdu) → response_verdict (frame slave pdu ++ more) ≡ Good (length pdu)
@@ -42,7 +42,7 @@ module _ (frame_good : FramesAreGood) (front_open : FrontsAreOpen) (slave : ℕ)
       sym (take_all k (take cut bytes) (omega arith)) ∙ two ∙ sym one
 
   -- its first offset is open, until the whole frame is there
-  at_front : (cut : ℕ) → (seen bytes 0 cut ≡ Open) ⊎ ((take cut bytes ≡ frame slave pdu) × (seen bytes 0 cut ≡ Good (length pdu)))
+  at_front : (cut : ℕ) → (verdict_when_read bytes 0 cut ≡ Open) ⊎ ((take cut bytes ≡ frame slave pdu) × (verdict_when_read bytes 0 cut ≡ Good (length pdu)))
   at_front cut = elim (cases_lt (length (take cut bytes)) (length pdu + 3)) [
     | inl lt ↦ inl (ap response_verdict (front cut) ∙ front_open slave pdu (length (take cut bytes)) has lt)
     | inr ge ↦ (
@@ -50,7 +50,7 @@ module _ (frame_good : FramesAreGood) (front_open : FrontsAreOpen) (slave : ℕ)
         inr (same, ap response_verdict (same ∙ sym (append-nil (frame slave pdu))) ∙ frame_good slave pdu [] has))
   ]
 
-  never_bad : (cut : ℕ) → seen bytes 0 cut ≡ Bad → ⊥
+  never_bad : (cut : ℕ) → verdict_when_read bytes 0 cut ≡ Bad → ⊥
   never_bad cut bad = elim (at_front cut) [
     | inl open' ↦ clash_open bad open'
     | inr (same, good) ↦ clash_good bad good
@@ -78,7 +78,7 @@ module _ (frame_good : FramesAreGood) (front_open : FrontsAreOpen) (slave : ℕ)
   pub whole_reply : (offset n : ℕ) → SearchFinds bytes cuts (reply offset n) → (offset ≡ 0) × (n ≡ length pdu) × (bytes ≡ frame slave pdu)
   whole_reply offset n (looks, passed, (e, cut, l, good)) =
       let first : offset ≡ 0 = e ∙ none_passed looks passed in
-      let good' : seen bytes 0 cut ≡ Good n = subst (λ k. seen bytes k cut ≡ Good n) first good in
+      let good' : verdict_when_read bytes 0 cut ≡ Good n = subst (λ k. verdict_when_read bytes k cut ≡ Good n) first good in
       elim (at_front cut) [
         | inl open' ↦ open_good open' good'
         | inr (same, is) ↦ (first, same_len good' is, all_of cut same)
@@ -105,13 +105,13 @@ module _ (frame_good : FramesAreGood) (front_open : FrontsAreOpen) (slave : ℕ)
           let offset_is : offset ≡ 0 = e ∙ none_passed looks passed in
           let within : Contains cuts (length bytes) = subst (λ n. Contains cuts n) are.all (last_in 0 cuts (omega (arith, ap length is))) in
           let counts : counts_from looks offset ≤ length bytes = subst (λ k. counts_from looks k ≤ length bytes) (sym offset_is) (omega arith) in
-          let open' : seen bytes 0 (length bytes) ≡ Open = subst (λ k. seen bytes k (length bytes) ≡ Open) offset_is (waits (length bytes) within counts) in
+          let open' : verdict_when_read bytes 0 (length bytes) ≡ Open = subst (λ k. verdict_when_read bytes k (length bytes) ≡ Open) offset_is (waits (length bytes) within counts) in
           elim (at_front (length bytes)) [
             | inl o ↦ absurd (omega (arith, some, short o))
             | inr (same, good) ↦ open_good open' good
           ]
         where
-          short : seen bytes 0 (length bytes) ≡ Open → length bytes ≡ 0
+          short : verdict_when_read bytes 0 (length bytes) ≡ Open → length bytes ≡ 0
           short o =
               let all : take (length bytes) bytes ≡ bytes = take_all (length bytes) bytes (omega arith) in
               open_good o (ap response_verdict (all ∙ whole ∙ sym (append-nil (frame slave pdu))) ∙ frame_good slave pdu [] has)
@@ -136,7 +136,7 @@ module _ (frame_good : FramesAreGood) (front_open : FrontsAreOpen) (slave : ℕ)
 
 -- how the search stands in a front of it
 pub frame_alone : FramesAreGood → FrontsAreOpen → (header : Header) (pdu bytes rest cuts : List ℕ) (found : Found) → HasResponseHead (header.slave_id, pdu) → frame header.slave_id pdu ≡ bytes ++ rest
-    → FindsFrame bytes cuts found → IsOfMessage (slave_seen header.slave_id) pdu rest found
+    → FindsReplyFrame bytes cuts found → IsOfMessage (slave_seen header.slave_id) pdu rest found
 frame_alone good open' header pdu bytes rest cuts (found.waiting held) has joined finds =
     λ none. not_whole good open' header.slave_id pdu bytes rest cuts has joined finds.are_cuts finds.place finds.finds (sym (joined ∙ ap (λ r. bytes ++ r) none ∙ append-nil bytes))
 frame_alone good open' header pdu bytes rest cuts (found.reply held seen' pdu') has joined finds = reply_is good open' header.slave_id pdu bytes rest cuts has joined held seen' pdu' finds

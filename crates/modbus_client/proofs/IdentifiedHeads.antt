@@ -7,14 +7,14 @@ use Rattle.modbus_frame.specs.Codes.{read_code_number, level_number}
 use Rattle.modbus_frame.specs.declared.identification.DeviceIdObject.{DeviceIdObject}
 use Rattle.modbus_frame.specs.declared.identification.ReadDeviceIdentificationResponse.{ReadDeviceIdentificationResponse}
 use Rattle.modbus_pdu.specs.ResponsePdu.{flag, object, objects, device_identification_pdu}
-use Rattle.modbus_rtu.specs.ResponseHead.{response_head, response_rule, after_object, after_objects, identified_len}
+use Rattle.modbus_rtu.specs.ResponseHead.{response_head, response_rule, place_after_object, after_objects, identified_len}
 
 -- the byte behind the first one of what follows a front
 size_there : (front : List ℕ) (id size : ℕ) (more : List ℕ) → slice_get (front ++ id ∷ size ∷ more) (length front + 1) ≡ Some size
 size_there [] id size more = refl
 size_there (x ∷ front) id size more = let next : length (x ∷ front) + 1 ≡ suc (length front + 1) = omega arith in rw next (size_there front id size more)
 
-object_passed : (front : List ℕ) (o : DeviceIdObject) (more : List ℕ) → after_object (front ++ (object o ++ more)) (length front) ≡ Some (length front + 2 + length o.value)
+object_passed : (front : List ℕ) (o : DeviceIdObject) (more : List ℕ) → place_after_object (front ++ (object o ++ more)) (length front) ≡ Some (length front + 2 + length o.value)
 object_passed front o more =
     let fits : length front + 2 + length o.value ≤ length (front ++ (object o ++ more)) = omega (arith, length-append front (object o ++ more), length-append o.value more) in
     rw (size_there front o.id (length o.value) (o.value ++ more), le-leb (length front + 2 + length o.value) (length (front ++ (object o ++ more))) fits) refl

@@ -6,7 +6,7 @@ use Rattle.modbus_frame.specs.declared.fault.TransportError.TheVariants.{Invalid
 use Rattle.modbus_tcp.specs.Adu.{adu_of, IsAdu}
 use Rattle.modbus_tcp.specs.Stream.{Rest, empty, unfinished, no_length, foreign, IsRest, BeginsWith}
 use Rattle.modbus_client.specs.Protocol.{Found, waiting, reply, broken, IsOfMessage}
-use Rattle.modbus_client.specs.Tcp.{header_seen, IsBrokenAt, FindsAdu}
+use Rattle.modbus_client.specs.Tcp.{header_seen, IsBrokenAt, FindsReplyAdu}
 use Rattle.modbus_client.proofs.OneFrame.{same_reply, same_broken}
 
 -- one front of bytes: an ADU and the others, or a rest of one kind
@@ -55,7 +55,7 @@ module _ (one_begins : OneBegins) (one_rest : OneRest) (apart : AreApart) where
     one_broken held held' (InvalidProtocol p) _ a b = absurd b
     one_broken held held' _ fault' a b = absurd a
 
-    pub one_adu : (found other : Found) → FindsAdu bytes cuts found → FindsAdu bytes cuts other → found ≡ other
+    pub one_adu : (found other : Found) → FindsReplyAdu bytes cuts found → FindsReplyAdu bytes cuts other → found ≡ other
     one_adu (waiting held) (waiting held') a b = ap waiting (a.1 ∙ sym b.1)
     one_adu (waiting held) (reply held' seen pdu) a (header, begins, is) = not_waiting held' (header, pdu) a.0 begins
     one_adu (waiting held) (broken held' fault) a b = not_both held' fault a.0 b
@@ -87,7 +87,7 @@ module _ (one_begins : OneBegins) (one_rest : OneRest) (apart : AreApart) where
     no_fault held (InvalidProtocol protocol) b = apart (bytes ++ rest) [] (header, pdu) (foreign protocol) begins (foreign_on bytes rest protocol b.0)
     no_fault held _ b = b
 
-    pub adu_alone : (found : Found) → FindsAdu bytes cuts found → IsOfMessage (header_seen header) pdu rest found
+    pub adu_alone : (found : Found) → FindsReplyAdu bytes cuts found → IsOfMessage (header_seen header) pdu rest found
     adu_alone (waiting held) a = λ none.
         let alone : BeginsWith bytes (header, pdu) [] = record { joined = sym (joined ∙ ap (λ r. bytes ++ r) none ∙ append-nil bytes) ∙ sym (append-nil (adu_of header pdu)); whole = whole } in
         not_waiting bytes cuts [] (header, pdu) a.0 alone

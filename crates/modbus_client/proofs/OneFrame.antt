@@ -5,7 +5,7 @@ use Rattle.modbus_frame.specs.declared.fault.HeaderSeen.{HeaderSeen}
 use Rattle.modbus_frame.specs.declared.fault.TransportError.{TransportError}
 use Rattle.modbus_client.specs.Protocol.{Found, waiting, reply, broken}
 use Rattle.modbus_client.specs.Search as search
-use Rattle.modbus_client.specs.Rtu.{slave_seen, FindsFrame, FoundFrame}
+use Rattle.modbus_client.specs.Rtu.{slave_seen, FindsReplyFrame, FoundFrame}
 use Rattle.modbus_client.proofs.OneSearch.{one_search}
 
 pub same_reply : (h h' : List ℕ) (s s' : HeaderSeen) (p p' : List ℕ) → h ≡ h' → s ≡ s' → p ≡ p' → reply h s p ≡ reply h' s' p'
@@ -25,7 +25,7 @@ module _ (bytes cuts : List ℕ) where
       (a.from ∙ ap (λ n. slave_seen (slice_index bytes n)) at ∙ sym b.from)
       (a.is ∙ ap (λ n. take a.pdu_len (drop (n + 1) bytes)) at ∙ ap (λ n. take n (drop (b.offset + 1) bytes)) long ∙ sym b.is)
 
-  pub one_frame : (found other : Found) → FindsFrame bytes cuts found → FindsFrame bytes cuts other → found ≡ other
+  pub one_frame : (found other : Found) → FindsReplyFrame bytes cuts found → FindsReplyFrame bytes cuts other → found ≡ other
   one_frame (waiting held) (waiting held') a b =
       let e : search.waiting a.place ≡ search.waiting b.place = one_search bytes cuts (search.waiting a.place) (search.waiting b.place) a.finds b.finds in
       let at : a.place ≡ b.place = cc in

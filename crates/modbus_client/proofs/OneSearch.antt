@@ -4,7 +4,7 @@ use Rattle.std.specs.Prelude.{Contains, slice_index}
 use Rattle.std.proofs.lemmas.Bool.{cases_lt}
 use Rattle.modbus_rtu.specs.declared.verdict.Verdict.{Verdict}
 use Rattle.modbus_rtu.specs.declared.verdict.Verdict.TheVariants.{Open, Bad, Good}
-use Rattle.modbus_client.specs.Search.{seen, IsLookedAt, counts_from, Share, ArePassed, SearchState, reply, crowd, waiting, IsFoundAfter, SearchFinds}
+use Rattle.modbus_client.specs.Search.{verdict_when_read, IsLookedAt, counts_from, Share, ArePassed, SearchState, reply, crowd, waiting, IsFoundAfter, SearchFinds}
 
 module _ (bytes cuts : List ℕ) where
   -- an offset is looked at in one cut
@@ -36,7 +36,7 @@ module _ (bytes cuts : List ℕ) where
           subst (λ from. IsLookedAt bytes cuts from offset (slice_index ys offset)) (sym (same_from offset (omega (arith, e)) (omega (arith, e, shorter))))
           (q.looked offset (omega (arith, e, shorter)))
 
-      bad_at : (offset : ℕ) → offset ≡ length xs → seen bytes offset (slice_index ys offset) ≡ Bad
+      bad_at : (offset : ℕ) → offset ≡ length xs → verdict_when_read bytes offset (slice_index ys offset) ≡ Bad
       bad_at offset e = q.bad offset (omega (arith, e, shorter))
 
       shares : (first cut i : ℕ) → first + 19 ≡ length xs → Share xs first 19 cut → slice_index ys (first + 19) ≡ cut → i < 20 → slice_index ys (first + i) ≡ cut
@@ -49,7 +49,7 @@ module _ (bytes cuts : List ℕ) where
       not_shorter (reply offset len) (e, cut, l, good) =
           let same : cut ≡ slice_index ys offset = same_cut (counts_from xs offset) offset cut (slice_index ys offset) l (look offset e) in
           let bad = bad_at offset e in
-          cc (ap (λ c. seen bytes offset c) same, good, bad)
+          cc (ap (λ c. verdict_when_read bytes offset c) same, good, bad)
       not_shorter (crowd offset) (e, cut, l, bad, first, is, share) =
           let same : cut ≡ slice_index ys offset = same_cut (counts_from xs offset) offset cut (slice_index ys offset) l (look offset e) in
           let last : slice_index ys (first + 19) ≡ cut = ap (λ k. slice_index ys k) is ∙ sym same in
@@ -66,14 +66,14 @@ module _ (bytes cuts : List ℕ) where
           subst (λ from. IsLookedAt bytes cuts from offset cut) (sym (same_from offset (omega (arith, e)) (omega (arith, e, equal)))) l'
 
       same_seen : (offset other : ℕ) → offset ≡ length xs → other ≡ length ys → (c d : ℕ) → IsLookedAt bytes cuts (counts_from xs offset) offset c
-          → IsLookedAt bytes cuts (counts_from ys other) other d → seen bytes offset c ≡ seen bytes other d
+          → IsLookedAt bytes cuts (counts_from ys other) other d → verdict_when_read bytes offset c ≡ verdict_when_read bytes other d
       same_seen offset other e e' c d l l' =
           let same : c ≡ d = same_cut (counts_from xs offset) offset c d l (moved offset other e e' d l') in
           let at : offset ≡ other = e ∙ equal ∙ sym e' in
-          ap (λ k. seen bytes offset k) same ∙ ap (λ k. seen bytes k d) at
+          ap (λ k. verdict_when_read bytes offset k) same ∙ ap (λ k. verdict_when_read bytes k d) at
 
       not_waiting : (offset other : ℕ) → offset ≡ length xs → other ≡ length ys → (d : ℕ) → IsLookedAt bytes cuts (counts_from ys other) other d
-          → ((cut : ℕ) → Contains cuts cut → counts_from xs offset ≤ cut → seen bytes offset cut ≡ Open) → ⊥
+          → ((cut : ℕ) → Contains cuts cut → counts_from xs offset ≤ cut → verdict_when_read bytes offset cut ≡ Open) → ⊥
       not_waiting offset other e e' d l waits = let l' = moved offset other e e' d l in l'.decided (waits d l'.is_cut l'.counts)
 
   same_reply : (offset other n m : ℕ) → offset ≡ other → n ≡ m → reply offset n ≡ reply other m

@@ -2,26 +2,26 @@
 use Rattle.std.proofs.Common.{◌≡◌, ◌≢◌, inl, inr, ℕ, ◌+◌, ◌<◌, ◌≤◌, List, [], ◌∷◌, ◌++◌, length, Option, Some, None, Ok, Err, refl, sym, ap, ◌∙◌, subst, arith, append-nil, append_assoc, length-append}
 use Rattle.modbus_link.specs.declared.polled.Polled.{Polled}
 use Rattle.modbus_link.specs.declared.polled.Polled.TheVariants.{Ready, Pending}
-use Rattle.modbus_link.specs.Outside.{Outside, outside, Input, Output, Rose, shifted}
-use Rattle.modbus_link.specs.Passing.{Passes, Sends, passes_none, passes_out, passes_in, passes_both}
+use Rattle.modbus_link.specs.Outside.{Outside, outside, Input, Output, Rose, cuts_from}
+use Rattle.modbus_link.specs.Passes.{Passes, Sends, passes_none, passes_out, passes_in, passes_both}
 use Rattle.modbus_link.specs.Reads.{totals, HaveRooms, Spends}
 use Rattle.modbus_link.specs.Runs.{RisesTo-both}
-use Rattle.modbus_link.specs.Together.{totals_both, totals_count, count_both, rooms_more, rooms_then, regroup, unread_on}
+use Rattle.modbus_link.specs.TwoRuns.{totals_both, totals_count, count_both, rooms_more, rooms_then, regroup, unread_on}
 use Rattle.modbus_frame.specs.Meaning.{Asked, function_asked}
 use Rattle.modbus_frame.specs.declared.code.FunctionCode.{FunctionCode}
 use Rattle.modbus_frame.specs.declared.fault.EncodeError.TheVariants as encode
 use Rattle.modbus_frame.specs.declared.fault.Error.TheVariants.{Protocol as protocol, Transport, NoMemory}
 use Rattle.modbus_frame.specs.declared.fault.HeaderSeen.{HeaderSeen}
 use Rattle.modbus_frame.specs.declared.fault.TransportError.TheVariants as transport
-use Rattle.modbus_pdu.specs.Coding.{Fits}
+use Rattle.modbus_pdu.specs.Encodes.{Fits}
 use Rattle.modbus_pdu.specs.RequestPdu.{request_pdu}
 use Rattle.modbus_client.specs.Protocol.{Protocol, waiting}
-use Rattle.modbus_client.specs.Matching.{Answer}
+use Rattle.modbus_client.specs.Matches.{Answer}
 use Rattle.modbus_client.specs.Call.{CallState, CallStands, IsCallFor, IsSameCall, OpensCall}
-use Rattle.modbus_client.specs.Sending.{WritesRequest}
+use Rattle.modbus_client.specs.Sends.{WritesRequest}
 use Rattle.modbus_client.specs.Limits.{read_room}
-use Rattle.modbus_client.specs.Calling.{HasRoom, CallEndsAs, CameLast, WaitedBefore, IsOneRead, TurnSpends, call_spending, TurnsAs, Turned, IsOfReply, Exchanged, CountsDropped}
-use Rattle.modbus_client.specs.Polled.{ReadsNothing, CallGoes, CallEnds, IsOfPoll, CallPolled, Opens, AsksWhole}
+use Rattle.modbus_client.specs.Calls.{HasRoom, CallEndsAs, CameLast, WaitedBefore, IsOneRead, TurnSpends, call_spending, TurnsAs, Turned, IsOfReply, Exchanged, CountsDropped}
+use Rattle.modbus_client.specs.Polled.{ReadsNothing, CallGoes, CallEnds, IsOfPoll, CallPolled, OpensCallState, AsksWhole}
 use Rattle.modbus_client.proofs.Receiving.{rose_later, late_turn, spends_by, once_most, once_rooms}
 use Rattle.modbus_client.proofs.Turning.{none_left}
 
@@ -76,7 +76,7 @@ grown bytes fed e = none_left bytes fed e
 module _ {H : Type 0} (P : Protocol H) where
   -- a call that was just opened, or was not
   module _ (header : H) (asked : Asked) (turns : ℕ) where
-    pub opened : (call : CallState) → OpensCall P header asked turns (Ok call) → Opens P header asked turns (Ok call)
+    pub opened : (call : CallState) → OpensCall P header asked turns (Ok call) → OpensCallState P header asked turns (Ok call)
     opened call o = record {
       goes = record { stands = o.stands; empty = λ none. o.empty; rises = refl; rooms = tt; within = let none = o.stands.counted in omega (arith, none) };
       asks = o.asks;
@@ -85,7 +85,7 @@ module _ {H : Type 0} (P : Protocol H) where
       cause = tt;
     }
 
-    pub unopened_long : (size : ℕ) → OpensCall P header asked turns (Err (encode.TooLong size)) → Opens P header asked turns (Err (Transport (transport.RequestTooLong size)))
+    pub unopened_long : (size : ℕ) → OpensCall P header asked turns (Err (encode.TooLong size)) → OpensCallState P header asked turns (Err (Transport (transport.RequestTooLong size)))
     unopened_long size o = record {
       goes = tt;
       asks = tt;
@@ -94,12 +94,12 @@ module _ {H : Type 0} (P : Protocol H) where
       cause = o.cause;
     }
 
-    pub unopened_wanting : OpensCall P header asked turns (Err encode.NoMemory) → Opens P header asked turns (Err NoMemory)
+    pub unopened_wanting : OpensCall P header asked turns (Err encode.NoMemory) → OpensCallState P header asked turns (Err NoMemory)
     unopened_wanting o = record { goes = tt; asks = tt; fits = tt; too_long = λ long. absurd (omega (arith, o.cause, long)); cause = o.cause }
 
   -- an answer of the bytes comes with the read of its turn, before which the search waited
   module _ (asked : HeaderSeen) (bytes fed held : List ℕ) (earlier made : List (ℕ × ℕ)) (waits : P.Finds asked bytes (totals earlier) (waiting held)) (once : IsOneRead fed made) where
-    waited : length made ≡ 1 → WaitedBefore P asked (bytes ++ fed) (earlier ++ shifted (length bytes) made)
+    waited : length made ≡ 1 → WaitedBefore P asked (bytes ++ fed) (earlier ++ cuts_from (length bytes) made)
     waited one = elim once [
       | inl none ↦ absurd (omega (arith, one, ap length none.1))
       | inr some ↦ record {
@@ -108,13 +108,13 @@ module _ {H : Type 0} (P : Protocol H) where
         earlier = earlier;
         kept = held;
         joined = refl;
-        last = ap (λ m. earlier ++ shifted (length bytes) m) some.1 ∙ ap (λ n. earlier ++ (n, read_room) ∷ []) (sym (length-append bytes fed));
+        last = ap (λ m. earlier ++ cuts_from (length bytes) m) some.1 ∙ ap (λ n. earlier ++ (n, read_room) ∷ []) (sym (length-append bytes fed));
         waits = waits;
       }
     ]
 
   came_last : (asked : HeaderSeen) (answer : Answer) (bytes fed held : List ℕ) (earlier made : List (ℕ × ℕ)) → P.Finds asked bytes (totals earlier) (waiting held) → IsOneRead fed made → TurnSpends (Some answer) (length made)
-      → CameLast P asked (bytes ++ fed) (earlier ++ shifted (length bytes) made) answer
+      → CameLast P asked (bytes ++ fed) (earlier ++ cuts_from (length bytes) made) answer
   came_last asked (Ok result) bytes fed held earlier made waits once spends = waited asked bytes fed held earlier made waits once spends.1
   came_last asked (Err (protocol fault)) bytes fed held earlier made waits once spends = waited asked bytes fed held earlier made waits once spends.1
   came_last asked (Err (Transport transport.BrokenPipe)) bytes fed held earlier made waits once spends = λ e. absurd cc
@@ -131,7 +131,7 @@ module _ {H : Type 0} (P : Protocol H) where
     pub passes : Passes (outside from sunk) (outside to sinks) fed made sent
     pub same : IsSameCall old call
     pub goes_on : (written bytes : List ℕ) (earlier : List (ℕ × ℕ)) → CallGoes P written bytes earlier old
-        → CallGoes P (written ++ sent) (bytes ++ fed) (earlier ++ shifted (length bytes) made) call
+        → CallGoes P (written ++ sent) (bytes ++ fed) (earlier ++ cuts_from (length bytes) made) call
     pub written : call.unwritten ≡ []
     pub all : sent ≡ old.unwritten
     pub later : idle ≤ idle'
@@ -247,20 +247,20 @@ module _ {H : Type 0} (P : Protocol H) where
           (passes_both (outside a k) (outside b l) (outside c m) g.fed [] g.made [] g.sent [] g.passes (passes_in (outside b l) (outside c m) [] [] r.sink r.source r.read r.cuts refl));
       same = same_both first old new g.same (same_freed old new new.free r.keeps);
       goes_on = λ written bytes earlier start.
-          let s : CallGoes P (written ++ g.sent) (bytes ++ g.fed) (earlier ++ shifted (length bytes) g.made) old = g.goes_on written bytes earlier start in
+          let s : CallGoes P (written ++ g.sent) (bytes ++ g.fed) (earlier ++ cuts_from (length bytes) g.made) old = g.goes_on written bytes earlier start in
           let held : new.held ≡ old.held = ap (λ (s : CallState). s.held) r.keeps in
           let asked : new.asked ≡ old.asked = ap (λ (s : CallState). s.asked) r.keeps in
           let unwritten : new.unwritten ≡ old.unwritten = ap (λ (s : CallState). s.unwritten) r.keeps in
           regroup (λ x y. CallGoes P (written ++ g.sent) x y new) bytes g.fed [] earlier g.made []
-          (unread_on (λ x y. CallGoes P (written ++ g.sent) x y new) (bytes ++ g.fed) (earlier ++ shifted (length bytes) g.made) record {
+          (unread_on (λ x y. CallGoes P (written ++ g.sent) x y new) (bytes ++ g.fed) (earlier ++ cuts_from (length bytes) g.made) record {
             stands = record {
               wrote = ap (λ (s : CallState). s.request) r.keeps ∙ s.stands.wrote ∙ ap (λ w. (written ++ g.sent) ++ w) (sym unwritten);
               first = λ some. s.stands.first (λ e. some (unwritten ∙ e));
-              finds = subst (λ asked. P.Finds asked (bytes ++ g.fed) (totals (earlier ++ shifted (length bytes) g.made)) (waiting new.held)) (sym asked)
-                  (subst (λ held. P.Finds old.asked (bytes ++ g.fed) (totals (earlier ++ shifted (length bytes) g.made)) (waiting held)) (sym held) s.stands.finds);
+              finds = subst (λ asked. P.Finds asked (bytes ++ g.fed) (totals (earlier ++ cuts_from (length bytes) g.made)) (waiting new.held)) (sym asked)
+                  (subst (λ held. P.Finds old.asked (bytes ++ g.fed) (totals (earlier ++ cuts_from (length bytes) g.made)) (waiting held)) (sym held) s.stands.finds);
               counted = ap (λ (s : CallState). s.reads) r.keeps ∙ s.stands.counted;
-              counts = subst (λ asked. P.Counts asked (bytes ++ g.fed) (totals (earlier ++ shifted (length bytes) g.made)) new.dropped) (sym asked)
-                  (subst (λ n. P.Counts old.asked (bytes ++ g.fed) (totals (earlier ++ shifted (length bytes) g.made)) n) (sym (ap (λ (s : CallState). s.dropped) r.keeps)) s.stands.counts);
+              counts = subst (λ asked. P.Counts asked (bytes ++ g.fed) (totals (earlier ++ cuts_from (length bytes) g.made)) new.dropped) (sym asked)
+                  (subst (λ n. P.Counts old.asked (bytes ++ g.fed) (totals (earlier ++ cuts_from (length bytes) g.made)) n) (sym (ap (λ (s : CallState). s.dropped) r.keeps)) s.stands.counts);
             };
             empty = λ e. held ∙ s.empty e;
             rises = s.rises;
@@ -281,21 +281,21 @@ module _ {H : Type 0} (P : Protocol H) where
 
     module _ (less : old.reads < old.turns) where
       module _ (answer : Option Answer) (t : Turned P (outside b l) (outside c m) old new answer) where
-        all_passes : Passes (outside a k) (outside c m) (g.fed ++ t.fed) (g.made ++ shifted (length g.fed) t.made) g.sent
-        all_passes = subst (λ sent. Passes (outside a k) (outside c m) (g.fed ++ t.fed) (g.made ++ shifted (length g.fed) t.made) sent) (append-nil g.sent)
+        all_passes : Passes (outside a k) (outside c m) (g.fed ++ t.fed) (g.made ++ cuts_from (length g.fed) t.made) g.sent
+        all_passes = subst (λ sent. Passes (outside a k) (outside c m) (g.fed ++ t.fed) (g.made ++ cuts_from (length g.fed) t.made) sent) (append-nil g.sent)
             (passes_both (outside a k) (outside b l) (outside c m) g.fed t.fed g.made t.made g.sent [] g.passes t.passes)
 
         -- of all that the call stood for before the turn
         module _ (written bytes : List ℕ) (made : List (ℕ × ℕ)) (s : CallGoes P written bytes made old) where
-          turned : TurnsAs P written (bytes ++ t.fed) (totals (made ++ shifted (length bytes) t.made)) new answer
+          turned : TurnsAs P written (bytes ++ t.fed) (totals (made ++ cuts_from (length bytes) t.made)) new answer
           turned = subst (λ cuts. TurnsAs P written (bytes ++ t.fed) cuts new answer) (sym (totals_both (length bytes) made t.made)) (t.stands written bytes (totals made) s.stands)
 
-          have_rooms : HaveRooms HasRoom (bytes ++ t.fed) 0 (made ++ shifted (length bytes) t.made)
-          have_rooms = rooms_then HasRoom (bytes ++ t.fed) 0 (length bytes) made (shifted (length bytes) t.made) s.rises
+          have_rooms : HaveRooms HasRoom (bytes ++ t.fed) 0 (made ++ cuts_from (length bytes) t.made)
+          have_rooms = rooms_then HasRoom (bytes ++ t.fed) 0 (length bytes) made (cuts_from (length bytes) t.made) s.rises
               (rooms_more HasRoom bytes t.fed 0 (length bytes) made s.rises (omega arith) s.rooms)
               (once_rooms (bytes ++ t.fed) t.fed t.made (length bytes) t.once)
 
-          count : length (made ++ shifted (length bytes) t.made) ≡ length made + length t.made
+          count : length (made ++ cuts_from (length bytes) t.made) ≡ length made + length t.made
           count = count_both (length bytes) made t.made
 
           reads_are : old.reads ≡ length made
@@ -310,23 +310,23 @@ module _ {H : Type 0} (P : Protocol H) where
       pub goes_on : Turned P (outside b l) (outside c m) old new None → PollGoing a c k m idle idle'' first new
       goes_on t = record {
         fed = g.fed ++ t.fed;
-        made = g.made ++ shifted (length g.fed) t.made;
+        made = g.made ++ cuts_from (length g.fed) t.made;
         sent = g.sent;
         passes = all_passes None t;
         same = same_both first old new g.same t.same;
         goes_on = λ written bytes earlier start.
-            let s : CallGoes P (written ++ g.sent) (bytes ++ g.fed) (earlier ++ shifted (length bytes) g.made) old = g.goes_on written bytes earlier start in
+            let s : CallGoes P (written ++ g.sent) (bytes ++ g.fed) (earlier ++ cuts_from (length bytes) g.made) old = g.goes_on written bytes earlier start in
             let now : List ℕ = bytes ++ g.fed in
-            let made : List (ℕ × ℕ) = earlier ++ shifted (length bytes) g.made in
-            let stands : CallStands P (written ++ g.sent) (now ++ t.fed) (totals (made ++ shifted (length now) t.made)) new = turned None t (written ++ g.sent) now made s in
+            let made : List (ℕ × ℕ) = earlier ++ cuts_from (length bytes) g.made in
+            let stands : CallStands P (written ++ g.sent) (now ++ t.fed) (totals (made ++ cuts_from (length now) t.made)) new = turned None t (written ++ g.sent) now made s in
             regroup (λ x y. CallGoes P (written ++ g.sent) x y new) bytes g.fed t.fed earlier g.made t.made record {
               stands = stands;
               empty = λ e. absurd (some_read t (grown now t.fed e));
-              rises = RisesTo-both (made ++ shifted (length now) t.made) made t.made (length now) (length t.fed) (length (now ++ t.fed)) refl (length-append now t.fed) s.rises t.passes.rises;
+              rises = RisesTo-both (made ++ cuts_from (length now) t.made) made t.made (length now) (length t.fed) (length (now ++ t.fed)) refl (length-append now t.fed) s.rises t.passes.rises;
               rooms = have_rooms None t (written ++ g.sent) now made s;
               within =
-                  let counted : new.reads ≡ length (totals (made ++ shifted (length now) t.made)) = stands.counted in
-                  let all = totals_count (made ++ shifted (length now) t.made) in
+                  let counted : new.reads ≡ length (totals (made ++ cuts_from (length now) t.made)) = stands.counted in
+                  let all = totals_count (made ++ cuts_from (length now) t.made) in
                   let both = count None t (written ++ g.sent) now made s in
                   let before = reads_are None t (written ++ g.sent) now made s in
                   let one = t.spends in
@@ -340,20 +340,20 @@ module _ {H : Type 0} (P : Protocol H) where
       pub polled_answer : (answer : Answer) → Turned P (outside b l) (outside c m) old new (Some answer) → CallPolled P (outside a k) (outside c m) idle idle'' first new (Ready answer)
       polled_answer answer t = record {
         fed = g.fed ++ t.fed;
-        made = g.made ++ shifted (length g.fed) t.made;
+        made = g.made ++ cuts_from (length g.fed) t.made;
         sent = g.sent;
         passes = all_passes (Some answer) t;
         same = same_both first old new g.same t.same;
         goes_on = λ written bytes earlier start.
-            let s : CallGoes P (written ++ g.sent) (bytes ++ g.fed) (earlier ++ shifted (length bytes) g.made) old = g.goes_on written bytes earlier start in
+            let s : CallGoes P (written ++ g.sent) (bytes ++ g.fed) (earlier ++ cuts_from (length bytes) g.made) old = g.goes_on written bytes earlier start in
             let now : List ℕ = bytes ++ g.fed in
-            let made : List (ℕ × ℕ) = earlier ++ shifted (length bytes) g.made in
+            let made : List (ℕ × ℕ) = earlier ++ cuts_from (length bytes) g.made in
             let all : written ++ g.sent ≡ new.request = sym (t.same.request ∙ s.stands.wrote ∙ ap (λ w. (written ++ g.sent) ++ w) g.written ∙ append-nil (written ++ g.sent)) in
             regroup (λ x y. CallEnds P (written ++ g.sent) x y new answer) bytes g.fed t.fed earlier g.made t.made record {
               writes = whole_written new.request (written ++ g.sent) answer all late;
               ends = (turned (Some answer) t (written ++ g.sent) now made s).0;
               counts = (turned (Some answer) t (written ++ g.sent) now made s).1;
-              last = subst (λ asked. CameLast P asked (now ++ t.fed) (made ++ shifted (length now) t.made) answer) (sym t.same.asked)
+              last = subst (λ asked. CameLast P asked (now ++ t.fed) (made ++ cuts_from (length now) t.made) answer) (sym t.same.asked)
                   (came_last old.asked answer now t.fed old.held made t.made s.stands.finds t.once t.spends);
               rooms = have_rooms (Some answer) t (written ++ g.sent) now made s;
               spends = subst (λ n. Spends (call_spending answer) n new.turns) (sym (count (Some answer) t (written ++ g.sent) now made s))
@@ -386,10 +386,10 @@ module _ {H : Type 0} (P : Protocol H) where
     passes = g.passes;
     same = g.same;
     goes_on = λ written bytes earlier start.
-        let s : CallGoes P (written ++ g.sent) (bytes ++ g.fed) (earlier ++ shifted (length bytes) g.made) call = g.goes_on written bytes earlier start in
-        let counted : call.reads ≡ length (totals (earlier ++ shifted (length bytes) g.made)) = s.stands.counted in
+        let s : CallGoes P (written ++ g.sent) (bytes ++ g.fed) (earlier ++ cuts_from (length bytes) g.made) call = g.goes_on written bytes earlier start in
+        let counted : call.reads ≡ length (totals (earlier ++ cuts_from (length bytes) g.made)) = s.stands.counted in
         let within : call.reads ≤ call.turns = s.within in
-        let count = totals_count (earlier ++ shifted (length bytes) g.made) in record {
+        let count = totals_count (earlier ++ cuts_from (length bytes) g.made) in record {
           writes = sym (s.stands.wrote ∙ ap (λ w. (written ++ g.sent) ++ w) g.written ∙ append-nil (written ++ g.sent));
           ends = s.stands.finds;
           counts = s.stands.counts;
@@ -412,11 +412,11 @@ module _ {H : Type 0} (P : Protocol H) where
         → IsCallFor P header asked turns old → Fits (request_pdu asked) → CallGoes P written bytes made old → Passes first (outside a k) bytes made written
         → Exchanged P first (outside b m) header asked turns new.held answer
     exchanged_polled answer p header asked turns written bytes made first asks fits s passed =
-        let ends : CallEnds P (written ++ p.sent) (bytes ++ p.fed) (made ++ shifted (length bytes) p.made) new answer = p.goes_on written bytes made s in
+        let ends : CallEnds P (written ++ p.sent) (bytes ++ p.fed) (made ++ cuts_from (length bytes) p.made) new answer = p.goes_on written bytes made s in
         let all : List ℕ = bytes ++ p.fed in
-        let cuts : List ℕ = totals (made ++ shifted (length bytes) p.made) in record {
+        let cuts : List ℕ = totals (made ++ cuts_from (length bytes) p.made) in record {
           fed = all;
-          made = made ++ shifted (length bytes) p.made;
+          made = made ++ cuts_from (length bytes) p.made;
           sent = written ++ p.sent;
           passes = passes_both first (outside a k) (outside b m) bytes p.fed made p.made written p.sent passed p.passes;
           too_long = λ size. (λ e. absurd (not_long answer p.own size e), λ told. absurd (omega (arith, fits, told.0)));
@@ -424,9 +424,9 @@ module _ {H : Type 0} (P : Protocol H) where
           ends =
               subst (λ (seen : HeaderSeen). CallEndsAs P seen (function_asked asked) all cuts new.held answer) (p.same.asked ∙ asks.under)
               (subst (λ (function : FunctionCode). CallEndsAs P new.asked function all cuts new.held answer) (p.same.function ∙ asks.function) ends.ends);
-          last = subst (λ (seen : HeaderSeen). CameLast P seen all (made ++ shifted (length bytes) p.made) answer) (p.same.asked ∙ asks.under) ends.last;
+          last = subst (λ (seen : HeaderSeen). CameLast P seen all (made ++ cuts_from (length bytes) p.made) answer) (p.same.asked ∙ asks.under) ends.last;
           ended = λ told. p.ended (passed.source.told ∙ told);
-          spends = subst (λ n. Spends (call_spending answer) (length (made ++ shifted (length bytes) p.made)) n) (p.same.turns ∙ asks.limit) ends.spends;
+          spends = subst (λ n. Spends (call_spending answer) (length (made ++ cuts_from (length bytes) p.made)) n) (p.same.turns ∙ asks.limit) ends.spends;
           rooms = ends.rooms;
           write_fault = λ e. rose_later first.output.faults k.faults m.faults passed.sink.later (p.write_fault (ap (λ (x : Answer). Ready x) e));
           read_fault = λ e. rose_later first.input.faults a.faults b.faults passed.source.later (p.read_fault (ap (λ (x : Answer). Ready x) e));
@@ -437,9 +437,9 @@ module _ {H : Type 0} (P : Protocol H) where
         → CallGoes P [] [] [] old → (ran : Exchanged P (outside a k) (outside b m) header asked turns new.held answer) × CountsDropped ran new.dropped
     unfolding exchanged_polled
     exchanged_dropping answer p header asked turns asks fits s =
-        let ends : CallEnds P p.sent p.fed (shifted 0 p.made) new answer = p.goes_on [] [] [] s in (
+        let ends : CallEnds P p.sent p.fed (cuts_from 0 p.made) new answer = p.goes_on [] [] [] s in (
           exchanged_polled answer p header asked turns [] [] [] (outside a k) asks fits s (passes_none (outside a k)),
-          subst (λ (seen : HeaderSeen). P.Counts seen p.fed (totals (shifted 0 p.made)) new.dropped) (p.same.asked ∙ asks.under) ends.counts,
+          subst (λ (seen : HeaderSeen). P.Counts seen p.fed (totals (cuts_from 0 p.made)) new.dropped) (p.same.asked ∙ asks.under) ends.counts,
         )
 
     pub asks_whole : (answer : Polled Answer) → CallPolled P (outside a k) (outside b m) idle idle' old new answer → AsksWhole P (outside a k) (outside b m) old new answer

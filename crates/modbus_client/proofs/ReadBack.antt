@@ -16,13 +16,13 @@ use Rattle.modbus_rtu.specs.Frame.{frame}
 use Rattle.modbus_rtu.specs.ResponseHead.{response_verdict, HasResponseHead}
 use Rattle.modbus_client.specs.Limits.{read_room}
 use Rattle.modbus_client.specs.Call.{IsJudged}
-use Rattle.modbus_client.specs.Calling.{CallEndsAs, CallEndsRead}
+use Rattle.modbus_client.specs.Calls.{CallEndsAs, CallEndsRead}
 use Rattle.modbus_client.specs.Exchange.{IsOfReplies, full_cuts, ReadsAll}
-use Rattle.modbus_client.specs.Matching.{Answer, Judges}
+use Rattle.modbus_client.specs.Matches.{Answer, Judges}
 use Rattle.modbus_client.specs.Protocol as found
 use Rattle.modbus_client.specs.Protocol.{Found, IsOfMessage}
-use Rattle.modbus_client.specs.Rtu.{rtu_protocol, slave_seen, Waits, FindsFrame, FoundFrame, FoundCrowd}
-use Rattle.modbus_client.specs.Search.{seen}
+use Rattle.modbus_client.specs.Rtu.{rtu_protocol, slave_seen, Waits, FindsReplyFrame, FoundFrame, FoundCrowd}
+use Rattle.modbus_client.specs.Search.{verdict_when_read}
 use Rattle.modbus_client.proofs.Completing.{ok_same, ok_err}
 use Rattle.modbus_client.proofs.FrameAlone.{FramesAreGood, FrontsAreOpen, frame_alone}
 
@@ -37,7 +37,7 @@ module _ (nothing_open : response_verdict [] ≡ Open) (seen_of : HeaderSeen) (f
   none_left : (n : ℕ) → (let none : List ℕ = [] in take n none ≡ none)
   none_left n = take_all n [] (omega arith)
 
-  seen_none : (offset cut : ℕ) → seen [] offset cut ≡ Open
+  seen_none : (offset cut : ℕ) → verdict_when_read [] offset cut ≡ Open
   seen_none offset cut = ap response_verdict (ap (drop offset) (none_left cut) ∙ drop_all offset [] (omega arith)) ∙ nothing_open
 
   no_frame : (cuts held : List ℕ) (header : HeaderSeen) (pdu : List ℕ) → FoundFrame [] cuts held header pdu → ⊥
@@ -78,7 +78,7 @@ module _ (good : FramesAreGood) (front : FrontsAreOpen) (slave : ℕ) (function 
   header : Header
   header = record { slave_id = slave }
 
-  found_is : (found : Found) → FindsFrame bytes cuts found → IsOfMessage (slave_seen slave) pdu rest found
+  found_is : (found : Found) → FindsReplyFrame bytes cuts found → IsOfMessage (slave_seen slave) pdu rest found
   unfolding header
   found_is found finds = frame_alone good front header pdu bytes rest cuts found has joined finds
 

@@ -1,11 +1,11 @@
 -- What one turn of waiting for a reply spends, reads and answers.
 use Rattle.std.proofs.Common.{inl, inr, ℕ, ◌+◌, ◌<◌, ◌≤◌, List, length, Some, Ok, Err, refl, ap, arith}
-use Rattle.modbus_link.specs.Outside.{Rose, shifted}
+use Rattle.modbus_link.specs.Outside.{Rose, cuts_from}
 use Rattle.modbus_link.specs.Reads.{HaveRooms, Spends}
 use Rattle.modbus_frame.specs.declared.fault.Error.TheVariants.{Protocol as protocol, Transport, NoMemory}
 use Rattle.modbus_frame.specs.declared.fault.TransportError.TheVariants as transport
-use Rattle.modbus_client.specs.Matching.{Answer}
-use Rattle.modbus_client.specs.Calling.{HasRoom, call_spending, IsOneRead, TurnSpends, IsOfReply}
+use Rattle.modbus_client.specs.Matches.{Answer}
+use Rattle.modbus_client.specs.Calls.{HasRoom, call_spending, IsOneRead, TurnSpends, IsOfReply}
 
 pub rose_later : (a b c : ℕ) → a ≤ b → Rose b c → Rose a c
 rose_later a b c le rose = omega (arith, rose)
@@ -35,7 +35,7 @@ once_most fed made once = elim once [
   | inr one ↦ omega (arith, ap length one.1)
 ]
 
-pub once_rooms : (all fed : List ℕ) (made : List (ℕ × ℕ)) (total : ℕ) → IsOneRead fed made → HaveRooms HasRoom all total (shifted total made)
+pub once_rooms : (all fed : List ℕ) (made : List (ℕ × ℕ)) (total : ℕ) → IsOneRead fed made → HaveRooms HasRoom all total (cuts_from total made)
 once_rooms all fed made total once = elim once [
   | inl none ↦ rw none.1 tt
   | inr one ↦ rw one.1 (refl, tt)

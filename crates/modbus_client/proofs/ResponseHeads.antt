@@ -6,14 +6,14 @@ use Rattle.modbus_frame.specs.Meaning.{Asked, ReadCoils, ReadDiscreteInputs, Wri
 use Rattle.modbus_frame.specs.declared.code.ExceptionCode.{ExceptionCode}
 use Rattle.modbus_frame.specs.declared.response.Response.{Response}
 use Rattle.modbus_frame.specs.declared.response.Response.TheVariants as response
-use Rattle.modbus_pdu.specs.Coding.{Fits}
+use Rattle.modbus_pdu.specs.Encodes.{Fits}
 use Rattle.modbus_pdu.specs.Limits.{max_pdu}
 use Rattle.modbus_pdu.specs.RequestOf.{IsModelled}
 use Rattle.modbus_pdu.specs.ResponseLaws.{IsResponse, response_size}
 use Rattle.modbus_pdu.specs.ResponsePdu.{response_pdu}
 use Rattle.modbus_rtu.specs.ResponseHead.{response_head, response_rule, HasResponseHead}
 use Rattle.modbus_service.specs.Outcome.{reply_pdu, exception, code_of}
-use Rattle.modbus_rtu.specs.Framed.{IsModelledAsk}
+use Rattle.modbus_rtu.specs.WholeReading.{IsModelledAsk}
 use Rattle.modbus_client.proofs.IdentifiedHeads.{identified_head}
 
 module _ (sizes : (r : Response) → length (response_pdu r) ≡ response_size r) (slave : ℕ) where

@@ -9,16 +9,16 @@ use Rattle.modbus_rtu.specs.declared.verdict.Verdict.TheVariants.{Open, Bad, Goo
 use Rattle.modbus_rtu.specs.ResponseHead.{response_verdict}
 use Rattle.modbus_rtu.specs.declared.search.Next.TheVariants.{Frame, Waiting, TooManyRetries}
 use Rattle.modbus_rtu.specs.Next.{AreBadBy, IsNextBy}
-use Rattle.modbus_client.specs.Search.{seen, IsLookedAt, counts_from, Share, ArePassed, reply, crowd, waiting, SearchFinds}
+use Rattle.modbus_client.specs.Search.{verdict_when_read, IsLookedAt, counts_from, Share, ArePassed, reply, crowd, waiting, SearchFinds}
 use Rattle.modbus_client.specs.Rtu.{Waits}
 use Rattle.modbus_link.specs.Reads.{last_cut, Rise, AreCuts}
 
 -- a front that was read earlier stays
-seen_again : (bytes more : List ℕ) (offset cut : ℕ) → cut ≤ length bytes → seen (bytes ++ more) offset cut ≡ seen bytes offset cut
+seen_again : (bytes more : List ℕ) (offset cut : ℕ) → cut ≤ length bytes → verdict_when_read (bytes ++ more) offset cut ≡ verdict_when_read bytes offset cut
 seen_again bytes more offset cut le = ap (λ front. response_verdict (drop offset front)) (take-append-le cut bytes more le)
 
 -- after the last read all bytes are there
-seen_now : (bytes : List ℕ) (offset : ℕ) → seen bytes offset (length bytes) ≡ response_verdict (drop offset bytes)
+seen_now : (bytes : List ℕ) (offset : ℕ) → verdict_when_read bytes offset (length bytes) ≡ response_verdict (drop offset bytes)
 seen_now bytes offset = ap (λ front. response_verdict (drop offset front)) (take_all (length bytes) bytes (omega arith))
 
 bad_decided : {v w : Verdict} → v ≡ w → w ≡ Bad → v ≢ Open
@@ -41,7 +41,7 @@ looked_within nothing_open bytes cuts from offset cut look =
 -- The search waited at an offset, a read gave more bytes, and the first m offsets from there on are bad in all of them.
 module _ (bytes cuts more looks : List ℕ) (bounds : (c : ℕ) → Contains cuts c → c ≤ length bytes) (some : 0 < length more)
     (passed : ArePassed bytes cuts looks)
-    (waits : (c : ℕ) → Contains cuts c → counts_from looks (length looks) ≤ c → seen bytes (length looks) c ≡ Open)
+    (waits : (c : ℕ) → Contains cuts c → counts_from looks (length looks) ≤ c → verdict_when_read bytes (length looks) c ≡ Open)
     (m : ℕ) (few : m < 20) (bad : (i : ℕ) → i < m → response_verdict (drop (length looks + i) (bytes ++ more)) ≡ Bad) where
   all : List ℕ
   all = bytes ++ more
@@ -101,7 +101,7 @@ module _ (bytes cuts more looks : List ℕ) (bounds : (c : ℕ) → Contains cut
 
   -- an offset that is looked at now
   looked_now : (from k : ℕ) → from ≤ now → response_verdict (drop k (bytes ++ more)) ≢ Open
-      → ((c : ℕ) → Contains cuts c → from ≤ c → seen (bytes ++ more) k c ≡ Open) → IsLookedAt (bytes ++ more) cuts_now from k now
+      → ((c : ℕ) → Contains cuts c → from ≤ c → verdict_when_read (bytes ++ more) k c ≡ Open) → IsLookedAt (bytes ++ more) cuts_now from k now
   looked_now from k le ne open_before = record {
     is_cut = Contains-push cuts now;
     counts = le;
@@ -113,7 +113,7 @@ module _ (bytes cuts more looks : List ℕ) (bounds : (c : ℕ) → Contains cut
   }
 
   -- until now the next offsets were open
-  open_before : (i : ℕ) → i ≤ m → (c : ℕ) → Contains cuts c → counts_from looks_now (n + i) ≤ c → seen (bytes ++ more) (n + i) c ≡ Open
+  open_before : (i : ℕ) → i ≤ m → (c : ℕ) → Contains cuts c → counts_from looks_now (n + i) ≤ c → verdict_when_read (bytes ++ more) (n + i) c ≡ Open
   open_before zero le c is from' =
       let same : n + 0 ≡ n = omega arith in
       let counts : counts_from looks n ≤ c = rw (from_same n (omega arith)) at (rw same at from') in
@@ -141,7 +141,7 @@ module _ (bytes cuts more looks : List ℕ) (bounds : (c : ℕ) → Contains cut
   LooksRight k = IsLookedAt (bytes ++ more) cuts_now (counts_from looks_now k) k (slice_index looks_now k)
 
   abbrev IsBadAt : ℕ → Type 0
-  IsBadAt k = seen (bytes ++ more) k (slice_index looks_now k) ≡ Bad
+  IsBadAt k = verdict_when_read (bytes ++ more) k (slice_index looks_now k) ≡ Bad
 
   looked : (k : ℕ) → k < length looks_now → LooksRight k
   looked k lt = elim (split k lt) [
@@ -278,8 +278,8 @@ module _ (nothing_open : response_verdict [] ≡ Open) (bytes cuts held : List �
   from_place : (k : ℕ) → drop k (held ++ more) ≡ drop (length s.finds.0 + k) (bytes ++ more)
   from_place k = held_from held more bytes s.place k (place_is nothing_open bytes cuts held s more) ∙ ap (λ n. drop (n + k) (bytes ++ more)) at
 
-  waits_at : (c : ℕ) → Contains cuts c → counts_from s.finds.0 (length s.finds.0) ≤ c → seen bytes (length s.finds.0) c ≡ Open
-  waits_at c is from = subst (λ n. seen bytes n c ≡ Open) at (s.finds.2.1 c is (subst (λ n. counts_from s.finds.0 n ≤ c) (sym at) from))
+  waits_at : (c : ℕ) → Contains cuts c → counts_from s.finds.0 (length s.finds.0) ≤ c → verdict_when_read bytes (length s.finds.0) c ≡ Open
+  waits_at c is from = subst (λ n. verdict_when_read bytes n c ≡ Open) at (s.finds.2.1 c is (subst (λ n. counts_from s.finds.0 n ≤ c) (sym at) from))
 
   bad_from : (m : ℕ) → AreBadBy response_verdict (held ++ more) m → (i : ℕ) → i < m → response_verdict (drop (length s.finds.0 + i) (bytes ++ more)) ≡ Bad
   bad_from m bad i lt = ap response_verdict (sym (from_place i)) ∙ bad i lt

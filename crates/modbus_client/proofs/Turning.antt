@@ -3,7 +3,7 @@ use Rattle.std.proofs.Common.{◌≡◌, inl, inr, ℕ, ◌<◌, ◌≤◌, List
 use Rattle.std.proofs.lemmas.List.{length-take-le}
 use Rattle.modbus_link.specs.Outside.{outside, Input, Output, Rose, Advances, ReadIsTold, bytes_read, cuts_made}
 use Rattle.modbus_link.specs.Runs.{one_cut-one, one_cut-none}
-use Rattle.modbus_link.specs.Passing.{Passes, passes_in, passes_none, rises_one}
+use Rattle.modbus_link.specs.Passes.{Passes, passes_in, passes_none, rises_one}
 use Rattle.bytes.specs.Filled.{Filled}
 use Rattle.modbus_frame.specs.declared.code.FunctionCode.{FunctionCode}
 use Rattle.modbus_frame.specs.declared.fault.Error.TheVariants.{Protocol as protocol, Transport, NoMemory}
@@ -12,9 +12,9 @@ use Rattle.modbus_frame.specs.declared.fault.TransportError.{TransportError}
 use Rattle.modbus_frame.specs.declared.fault.TransportError.TheVariants as transport
 use Rattle.modbus_client.specs.Limits.{read_room}
 use Rattle.modbus_client.specs.Protocol.{Protocol, waiting}
-use Rattle.modbus_client.specs.Matching.{Answer}
+use Rattle.modbus_client.specs.Matches.{Answer}
 use Rattle.modbus_client.specs.Call.{CallAlone, CallState, holding, CallStands, IsSameCall, IsAnswered, IsOfBytesIfSome, FeedsAs, CallFed, TellsEnd}
-use Rattle.modbus_client.specs.Calling.{CallEndsAs, TurnsAs, TurnSpends, TurnEnds, Turned}
+use Rattle.modbus_client.specs.Calls.{CallEndsAs, TurnsAs, TurnSpends, TurnEnds, Turned}
 
 pub keeps_more : (old now new : CallAlone) (w : List ℕ) → now ≡ record old { unwritten = now.unwritten } → new ≡ record now { unwritten = w } → new ≡ record old { unwritten = new.unwritten }
 keeps_more old now new w e f =

@@ -7,7 +7,7 @@ use Rattle.modbus_frame.specs.declared.response.Response.{Response}
 use Rattle.modbus_frame.specs.declared.fault.Error.TheVariants.{Protocol, Transport, NoMemory}
 use Rattle.modbus_frame.specs.declared.fault.ProtocolError.TheVariants.{FunctionCodeMismatch}
 use Rattle.modbus_frame.specs.declared.fault.TransportError.TheVariants.{BrokenPipe}
-use Rattle.modbus_pdu.specs.Coding.{Fits}
+use Rattle.modbus_pdu.specs.Encodes.{Fits}
 use Rattle.modbus_pdu.specs.Limits.{max_pdu}
 use Rattle.modbus_pdu.specs.RequestOf.{IsModelled}
 use Rattle.modbus_pdu.specs.RequestPdu.{request_pdu}
@@ -15,8 +15,8 @@ use Rattle.modbus_pdu.specs.ResponseLaws.{IsResponse, with_filled_coils}
 use Rattle.modbus_pdu.specs.ResponsePdu.{response_pdu}
 use Rattle.modbus_service.specs.Answering.{Answering}
 use Rattle.modbus_service.specs.Outcome.{Outcome, silence, reply, exception}
-use Rattle.modbus_rtu.specs.Framed.{IsModelledAsk}
-use Rattle.modbus_client.specs.Matching.{Answer}
+use Rattle.modbus_rtu.specs.WholeReading.{IsModelledAsk}
+use Rattle.modbus_client.specs.Matches.{Answer}
 
 -- What a client makes of a response, each of whose numbers is in the range of its type, as those of every `Response` of the code are. One
 -- that fits and is of the function that was asked comes back, with its coils filled by false to a multiple of eight. One of another

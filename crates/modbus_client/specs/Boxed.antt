@@ -6,8 +6,8 @@ use Rattle.std.specs.DynBox.{dyn_box_with}
 use Rattle.modbus_client.specs.declared.context.Context.{Context}
 
 -- the box of a context
-abbrev pub boxed : {X : Type 0} {F : X → Type 0} → Context X F → DynBox X Global F
-boxed context = context.client
+abbrev pub box_of : {X : Type 0} {F : X → Type 0} → Context X F → DynBox X Global F
+box_of context = context.client
 
 -- the context after its client came into this state: the client stays of its type, and in its place
 abbrev pub in_state : {X : Type 0} {F : X → Type 0} → (context : Context X F) → F context.client.vtable → Context X F

@@ -12,7 +12,7 @@ use Rattle.modbus_frame.specs.declared.fault.Error.TheVariants as error
 use Rattle.modbus_frame.specs.declared.fault.HeaderSeen.{HeaderSeen}
 use Rattle.modbus_frame.specs.declared.fault.TransportError.{TransportError}
 use Rattle.modbus_frame.specs.declared.fault.TransportError.TheVariants as transport
-use Rattle.modbus_pdu.specs.Coding.{Fits, Refuses, told_size}
+use Rattle.modbus_pdu.specs.Encodes.{Fits, Refuses, told_size}
 use Rattle.modbus_pdu.specs.Limits.{max_pdu}
 use Rattle.modbus_pdu.specs.RequestPdu.{request_pdu}
 use Rattle.modbus_pdu.specs.ResponseOf.{AnswerCarriesMemory, response_result_of}
@@ -20,7 +20,7 @@ use Rattle.modbus_client.specs.declared.protocol.Reply.{Reply}
 use Rattle.modbus_client.specs.declared.protocol.LookError.{LookError}
 use Rattle.modbus_client.specs.declared.protocol.LookError.TheVariants as look
 use Rattle.modbus_client.specs.Protocol.{Protocol, waiting, reply, broken, IsOfProtocol}
-use Rattle.modbus_client.specs.Matching.{Answer, Judges}
+use Rattle.modbus_client.specs.Matches.{Answer, Judges}
 
 -- what a call keeps itself: the bytes that were fed and not used stand in a buffer beside it
 pub record CallAlone : Type 0 where
@@ -103,8 +103,8 @@ pub record OpensCall {H : Type 0} (P : Protocol H) (header : H) (asked : Asked) 
   pub cause : IfErr result (λ refusal. Refuses refusal (request_pdu asked))
 
 -- memory was refused for a message: the search found it in these bytes, and its PDU stands for an answer that carries memory
-abbrev pub WantsFor : {H : Type 0} → Protocol H → HeaderSeen → List ℕ → List ℕ → Type 0
-WantsFor P asked bytes cuts =
+abbrev pub WantsForCall : {H : Type 0} → Protocol H → HeaderSeen → List ℕ → List ℕ → Type 0
+WantsForCall P asked bytes cuts =
     (rest : List ℕ) × (header : HeaderSeen) × (pdu : List ℕ) × P.Finds asked bytes cuts (reply rest header pdu)
     × IsOkAnd (response_result_of pdu) AnswerCarriesMemory
 
@@ -115,7 +115,7 @@ LooksAs P asked bytes cuts held (Ok (Some found)) = (pdu : List ℕ) × P.Finds 
 LooksAs P asked bytes cuts held (Err (look.Broken fault)) = P.Finds asked bytes cuts (broken held fault)
 LooksAs P asked bytes cuts held (Err (look.Refused reason)) =
     (header : HeaderSeen) × (pdu : List ℕ) × P.Finds asked bytes cuts (reply held header pdu) × (response_result_of pdu ≡ Err reason)
-LooksAs P asked bytes cuts held (Err look.NoMemory) = WantsFor P asked bytes cuts
+LooksAs P asked bytes cuts held (Err look.NoMemory) = WantsForCall P asked bytes cuts
 
 -- a fault is one of those that are left to protocols
 abbrev pub IsOwn : {X : Type 0} → Result X LookError → Type 0
@@ -135,7 +135,7 @@ IsAnswered P asked function bytes cuts held (Err (error.Protocol fault)) = IsJud
 IsAnswered P asked function bytes cuts held (Err (error.Transport (transport.InvalidResponse reason))) =
     (header : HeaderSeen) × (pdu : List ℕ) × P.Finds asked bytes cuts (reply held header pdu) × (response_result_of pdu ≡ Err reason)
 IsAnswered P asked function bytes cuts held (Err (error.Transport fault)) = IsOfProtocol fault × P.Finds asked bytes cuts (broken held fault)
-IsAnswered P asked function bytes cuts held (Err error.NoMemory) = WantsFor P asked bytes cuts
+IsAnswered P asked function bytes cuts held (Err error.NoMemory) = WantsForCall P asked bytes cuts
 
 -- the answers that the bytes may give, and not the link or the limits of the call
 abbrev pub IsOfBytes : Answer → Type 0

@@ -11,7 +11,7 @@ use Rattle.modbus_frame.specs.declared.fault.TransportError.{TransportError}
 use Rattle.modbus_frame.specs.declared.fault.TransportError.TheVariants as transport
 use Rattle.modbus_pdu.specs.ResponseOf.{AnswerCarriesMemory, response_result_of}
 use Rattle.modbus_client.specs.Protocol.{Found, waiting, reply, broken}
-use Rattle.modbus_client.specs.Matching.{Answer, Judges}
+use Rattle.modbus_client.specs.Matches.{Answer, Judges}
 
 -- the answer to a message of this header, by what its PDU stands for
 abbrev pub IsAnswerTo : HeaderSeen → FunctionCode → HeaderSeen → Result (Result Response ExceptionResponse) Reason → Answer → Type 0
@@ -19,9 +19,9 @@ IsAnswerTo asked function seen (Ok result) answer = Judges asked function seen r
 IsAnswerTo asked function seen (Err reason) answer = answer ≡ Err (Transport (transport.InvalidResponse reason))
 
 -- how the end of the input is told
-abbrev pub end_of : List ℕ → TransportError
-end_of [] = transport.BrokenPipe
-end_of (byte ∷ bytes) = transport.BytesRemaining
+abbrev pub error_at_end : List ℕ → TransportError
+error_at_end [] = transport.BrokenPipe
+error_at_end (byte ∷ bytes) = transport.BytesRemaining
 
 -- the answers of a call whose search waits
 abbrev pub IsOfWaiting : Answer → Type 0
@@ -42,4 +42,4 @@ IsToldOf asked function (broken held fault) answer = answer ≡ Err (Transport f
 -- many reads gave bytes, and the end of the input where fewer did and nothing is left to read; or memory is wanting.
 pub record TellsWaiting (held : List ℕ) (count turns : ℕ) (left : List ℕ) (answer : Answer) : Type 0 where
   pub turn_limit : count ≡ turns → (answer ≡ Err (Transport transport.TurnLimit)) ⊎ (answer ≡ Err NoMemory)
-  pub end_told : left ≡ [] → count < turns → (answer ≡ Err (Transport (end_of held))) ⊎ (answer ≡ Err NoMemory)
+  pub end_told : left ≡ [] → count < turns → (answer ≡ Err (Transport (error_at_end held))) ⊎ (answer ≡ Err NoMemory)

@@ -5,7 +5,7 @@ use Rattle.modbus_frame.specs.declared.code.FunctionCode.{FunctionCode}
 use Rattle.modbus_frame.specs.declared.fault.HeaderSeen.{HeaderSeen}
 use Rattle.modbus_frame.specs.declared.fault.Error.TheVariants.{Transport, NoMemory}
 use Rattle.modbus_frame.specs.declared.fault.TransportError.TheVariants as transport
-use Rattle.modbus_pdu.specs.Coding.{Fits, told_size}
+use Rattle.modbus_pdu.specs.Encodes.{Fits, told_size}
 use Rattle.modbus_pdu.specs.Limits.{max_pdu}
 use Rattle.modbus_pdu.specs.RequestPdu.{request_pdu}
 use Rattle.modbus_rtu.specs.Frame.{frame}
@@ -17,8 +17,8 @@ use Rattle.modbus_server.specs.Served as server
 use Rattle.modbus_server.specs.Rtu.{rtu}
 use Rattle.modbus_client.specs.Limits.{read_room}
 use Rattle.modbus_client.specs.Protocol.{Protocol}
-use Rattle.modbus_client.specs.Matching.{Answer}
-use Rattle.modbus_client.specs.Calling.{CallEndsAs, CallEndsRead, IsOfReply}
+use Rattle.modbus_client.specs.Matches.{Answer}
+use Rattle.modbus_client.specs.Calls.{CallEndsAs, CallEndsRead, IsOfReply}
 use Rattle.modbus_client.specs.Rtu.{rtu_protocol, slave_seen}
 
 -- the cuts of the first so many reads, each of which gives as many bytes as its room holds
@@ -41,10 +41,10 @@ pub record ReadsAll {H : Type 0} (P : Protocol H) (asked : HeaderSeen) (function
   pub ended : CallEndsRead answer (drop (reads * read_room) bytes)
 
 -- memory was refused to the server
-abbrev pub IsWanting : Result (Unit {0}) ProcessError → Type 0
-IsWanting (Err process.NoMemory) = Unit {0}
-IsWanting (Err process.WriteFault) = Unit {0}
-IsWanting _ = ⊥
+abbrev pub IsWantOfMemory : Result (Unit {0}) ProcessError → Type 0
+IsWantOfMemory (Err process.NoMemory) = Unit {0}
+IsWantOfMemory (Err process.WriteFault) = Unit {0}
+IsWantOfMemory _ = ⊥
 
 -- A request that fits was asked: the server was given its frame in one piece as the whole input and appended `sent`, and the call
 -- answers what these bytes give. Where memory is refused to the server the exchange answers that.
@@ -53,7 +53,7 @@ pub record LocalExchange {S : Type 0} (A : Answering S) (before after : S) (slav
   pub served : Result (Unit {0}) ProcessError
   pub only : IsOfNoRead served
   pub server : server.EndsAs rtu A (frame slave (request_pdu asked)) (length (frame slave (request_pdu asked)) ∷ []) before after sent served
-  pub wanting : IsWanting served → answer ≡ Err NoMemory
+  pub wanting : IsWantOfMemory served → answer ≡ Err NoMemory
   pub held : List ℕ
   pub client : ReadsAll rtu_protocol (slave_seen slave) (function_asked asked) sent held answer
 

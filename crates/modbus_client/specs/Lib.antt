@@ -1,12 +1,12 @@
 pub mod Limits
 pub mod Protocol
-pub mod Matching
+pub mod Matches
 pub mod Call
-pub mod Sending
+pub mod Sends
 pub mod State
-pub mod Calling
+pub mod Calls
 pub mod Polled
-pub mod Ending
+pub mod Ends
 pub mod Search
 pub mod Rtu
 pub mod Exchange
@@ -15,4 +15,4 @@ pub mod Tcp
 pub mod Exactly
 pub mod Typed
 pub mod Boxed
-pub mod Connecting
+pub mod Connects

@@ -38,16 +38,16 @@ pub record FoundCrowd (bytes cuts held : List ℕ) (fault : TransportError) : Ty
   pub is : fault ≡ TooManyRetries
   pub holds : held ≡ drop (offset + 1) bytes
 
-abbrev pub FindsFrame : List ℕ → List ℕ → Found → Type 0
-FindsFrame bytes cuts (found.waiting held) = Waits bytes cuts held
-FindsFrame bytes cuts (found.reply held header pdu) = FoundFrame bytes cuts held header pdu
-FindsFrame bytes cuts (found.broken held fault) = FoundCrowd bytes cuts held fault
+abbrev pub FindsReplyFrame : List ℕ → List ℕ → Found → Type 0
+FindsReplyFrame bytes cuts (found.waiting held) = Waits bytes cuts held
+FindsReplyFrame bytes cuts (found.reply held header pdu) = FoundFrame bytes cuts held header pdu
+FindsReplyFrame bytes cuts (found.broken held fault) = FoundCrowd bytes cuts held fault
 
 abbrev pub rtu_protocol : Protocol Header
 rtu_protocol = record {
   seen = λ header. slave_seen header.slave_id;
   adu = λ header pdu. frame header.slave_id pdu;
-  Finds = λ asked. FindsFrame;
+  Finds = λ asked. FindsReplyFrame;
   Counts = λ asked bytes cuts dropped. dropped ≡ 0;
   IsWhole = λ header pdu. HasResponseHead (header.slave_id, pdu);
 }

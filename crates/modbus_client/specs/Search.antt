@@ -11,15 +11,15 @@ use Rattle.modbus_rtu.specs.declared.verdict.Verdict.TheVariants.{Open, Bad, Goo
 use Rattle.modbus_rtu.specs.ResponseHead.{response_verdict}
 
 -- what stands at an offset after the read that ends at a cut: the bytes from there on, as far as they were read by then
-abbrev pub seen : List ℕ → ℕ → ℕ → Verdict
-seen bytes offset cut = response_verdict (drop offset (take cut bytes))
+abbrev pub verdict_when_read : List ℕ → ℕ → ℕ → Verdict
+verdict_when_read bytes offset cut = response_verdict (drop offset (take cut bytes))
 
 -- Of the cuts from `from` on, `cut` is the first one at which the offset isn't open: there it is looked at.
 pub record IsLookedAt (bytes cuts : List ℕ) (from offset cut : ℕ) : Type 0 where
   pub is_cut : Contains cuts cut
   pub counts : from ≤ cut
-  pub decided : seen bytes offset cut ≢ Open
-  pub first : (earlier : ℕ) → Contains cuts earlier → from ≤ earlier → earlier < cut → seen bytes offset earlier ≡ Open
+  pub decided : verdict_when_read bytes offset cut ≢ Open
+  pub first : (earlier : ℕ) → Contains cuts earlier → from ≤ earlier → earlier < cut → verdict_when_read bytes offset earlier ≡ Open
 
 -- The cut from which on the cuts count for an offset, by the cuts in which the offsets before it are looked at: all count for the
 -- first offset, and for a later one those from the cut on in which the offset before it is looked at.
@@ -35,7 +35,7 @@ Share looks offset count cut = (i : ℕ) → i < count → slice_index looks (of
 -- cut.
 pub record ArePassed (bytes cuts looks : List ℕ) : Type 0 where
   pub looked : (k : ℕ) → k < length looks → IsLookedAt bytes cuts (counts_from looks k) k (slice_index looks k)
-  pub bad : (k : ℕ) → k < length looks → seen bytes k (slice_index looks k) ≡ Bad
+  pub bad : (k : ℕ) → k < length looks → verdict_when_read bytes k (slice_index looks k) ≡ Bad
   pub calm : (k cut : ℕ) → k + max_retries ≤ length looks → Share looks k max_retries cut → ⊥
 
 -- How the search stands.
@@ -50,12 +50,12 @@ pub data SearchState : Type 0 where
 -- From the cuts of the passed offsets, how the next offset stands.
 abbrev pub IsFoundAfter : List ℕ → List ℕ → List ℕ → SearchState → Type 0
 IsFoundAfter bytes cuts looks (reply offset pdu_len) =
-    (offset ≡ length looks) × (cut : ℕ) × IsLookedAt bytes cuts (counts_from looks offset) offset cut × (seen bytes offset cut ≡ Good pdu_len)
+    (offset ≡ length looks) × (cut : ℕ) × IsLookedAt bytes cuts (counts_from looks offset) offset cut × (verdict_when_read bytes offset cut ≡ Good pdu_len)
 IsFoundAfter bytes cuts looks (crowd offset) =
-    (offset ≡ length looks) × (cut : ℕ) × IsLookedAt bytes cuts (counts_from looks offset) offset cut × (seen bytes offset cut ≡ Bad)
+    (offset ≡ length looks) × (cut : ℕ) × IsLookedAt bytes cuts (counts_from looks offset) offset cut × (verdict_when_read bytes offset cut ≡ Bad)
     × (first : ℕ) × (first + (max_retries - 1) ≡ offset) × Share looks first (max_retries - 1) cut
 IsFoundAfter bytes cuts looks (waiting offset) =
-    (offset ≡ length looks) × ((cut : ℕ) → Contains cuts cut → counts_from looks offset ≤ cut → seen bytes offset cut ≡ Open)
+    (offset ≡ length looks) × ((cut : ℕ) → Contains cuts cut → counts_from looks offset ≤ cut → verdict_when_read bytes offset cut ≡ Open)
 
 -- the search in these bytes, read with these cuts
 abbrev pub SearchFinds : List ℕ → List ℕ → SearchState → Type 0

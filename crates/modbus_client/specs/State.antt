@@ -27,13 +27,13 @@ pub record KeepsSettings {I L : Type 0} (old new : ClientState I L) : Type 0 whe
   pub timeout : new.timeout ≡ old.timeout
 
 -- a client as it is attached to a link
-abbrev pub attached : {H I L : Type 0} → Heading H I → L → ℕ → ClientState I L
-attached N link slave = record { link = link; is_connected = true; slave = slave; turns = default_turns; timeout = None; held = []; ids = N.first; dropped = 0 }
+abbrev pub attached_client : {H I L : Type 0} → Heading H I → L → ℕ → ClientState I L
+attached_client N link slave = record { link = link; is_connected = true; slave = slave; turns = default_turns; timeout = None; held = []; ids = N.first; dropped = 0 }
 
 -- the header of its next request
 abbrev pub next_header : {H I L : Type 0} → Heading H I → ClientState I L → H
 next_header N client = N.header client.ids client.slave
 
 -- the same client after it drew that header, under which nothing was dropped yet
-abbrev pub drawn : {H I L : Type 0} → Heading H I → ClientState I L → ClientState I L
-drawn N client = record client { ids = N.next client.ids; dropped = 0 }
+abbrev pub with_next_header : {H I L : Type 0} → Heading H I → ClientState I L → ClientState I L
+with_next_header N client = record client { ids = N.next client.ids; dropped = 0 }

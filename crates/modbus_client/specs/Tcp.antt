@@ -20,16 +20,16 @@ IsBrokenAt bytes held _ = ⊥
 
 -- The bytes are nothing or a front of an ADU, and all of them are held; or they begin with an ADU, and those behind it are held; or a
 -- header tells no ADU of Modbus. The cuts are of no matter.
-abbrev pub FindsAdu : List ℕ → List ℕ → Found → Type 0
-FindsAdu bytes cuts (waiting held) = (IsRest bytes empty ⊎ IsRest bytes unfinished) × (held ≡ bytes)
-FindsAdu bytes cuts (reply held seen pdu) = (header : Header) × BeginsWith bytes (header, pdu) held × (seen ≡ header_seen header)
-FindsAdu bytes cuts (broken held fault) = IsBrokenAt bytes held fault
+abbrev pub FindsReplyAdu : List ℕ → List ℕ → Found → Type 0
+FindsReplyAdu bytes cuts (waiting held) = (IsRest bytes empty ⊎ IsRest bytes unfinished) × (held ≡ bytes)
+FindsReplyAdu bytes cuts (reply held seen pdu) = (header : Header) × BeginsWith bytes (header, pdu) held × (seen ≡ header_seen header)
+FindsReplyAdu bytes cuts (broken held fault) = IsBrokenAt bytes held fault
 
 abbrev pub tcp_protocol : Protocol Header
 tcp_protocol = record {
   seen = header_seen;
   adu = adu_of;
-  Finds = λ asked. FindsAdu;
+  Finds = λ asked. FindsReplyAdu;
   Counts = λ asked bytes cuts dropped. dropped ≡ 0;
   IsWhole = λ header pdu. IsAdu (header, pdu);
 }
@@ -47,7 +47,7 @@ abbrev pub IsOfAnother : HeaderSeen → Header × List ℕ → Type 0
 IsOfAnother asked message = header_seen message.0 ≢ asked
 
 -- The bytes are these ADUs, one after another, each of another transaction or unit than was asked, and what is left.
-pub record Drops (asked : HeaderSeen) (bytes : List ℕ) (adus : List (Header × List ℕ)) (left : List ℕ) : Type 0 where
+pub record DropsAdus (asked : HeaderSeen) (bytes : List ℕ) (adus : List (Header × List ℕ)) (left : List ℕ) : Type 0 where
   pub joined : bytes ≡ stream_of adus ++ left
   pub whole : All IsAdu adus
   pub others : All (IsOfAnother asked) adus
@@ -70,19 +70,19 @@ IsUnder asked _ = Unit {0}
 pub record FindsOwnAdu (asked : HeaderSeen) (bytes cuts : List ℕ) (found : Found) : Type 0 where
   pub dropped : List (Header × List ℕ)
   pub left : List ℕ
-  pub drops : Drops asked bytes dropped left
-  pub finds : FindsAdu left cuts found
+  pub drops : DropsAdus asked bytes dropped left
+  pub finds : FindsReplyAdu left cuts found
   pub own : IsUnder asked found
 
 -- how many ADUs a counter of 64 bits tells: it stands still at its end
-abbrev pub counted : List (Header × List ℕ) → ℕ
-counted adus = min (length adus) (2 ^ 64 - 1)
+abbrev pub adus_in : List (Header × List ℕ) → ℕ
+adus_in adus = min (length adus) (2 ^ 64 - 1)
 
 -- The number tells the ADUs that are dropped where the search stands in these bytes.
 pub record CountsOthers (asked : HeaderSeen) (bytes cuts : List ℕ) (dropped : ℕ) : Type 0 where
   pub found : Found
   pub finds : FindsOwnAdu asked bytes cuts found
-  pub tells : dropped ≡ counted finds.dropped
+  pub tells : dropped ≡ adus_in finds.dropped
 
 -- the same ADUs and headers, and the reply is the first ADU of the transaction and the unit that were asked
 abbrev pub matching_protocol : Protocol Header

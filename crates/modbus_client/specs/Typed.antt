@@ -10,7 +10,7 @@ use Rattle.modbus_frame.specs.declared.fault.ProtocolError.TheVariants.{Function
 use Rattle.modbus_frame.specs.declared.identification.ReadDeviceIdentificationResponse.{ReadDeviceIdentificationResponse}
 use Rattle.modbus_frame.specs.declared.response.Response.{Response}
 use Rattle.modbus_frame.specs.declared.response.Response.TheVariants as response
-use Rattle.modbus_client.specs.Matching.{Answer}
+use Rattle.modbus_client.specs.Matches.{Answer}
 
 -- what a typed call answers: its fault, or in it the exception of the server or the value that was asked for
 abbrev pub AnswerOf : Type 0 → Type 0

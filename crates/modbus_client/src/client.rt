@@ -3,7 +3,7 @@ ghost use Rattle.std.specs.Prelude.{◌≡◌, ℕ, Option, Result};
 ghost use Rattle.modbus_frame.specs.Meaning.{Asked, meaning};
 ghost use Rattle.modbus_frame.specs.declared.fault.ShutdownFault.{ShutdownFault};
 ghost use Rattle.std.specs.declared.time.Duration.{Duration};
-ghost use Rattle.modbus_client.specs.Matching.{Answer};
+ghost use Rattle.modbus_client.specs.Matches.{Answer};
 
 use modbus_frame::{Request, Response, Result, ShutdownFault, SlaveContext};
 use std::time::Duration;

@@ -1,6 +1,6 @@
 //! A client behind a box, for programs that choose its type as they run.
 ghost use Rattle.std.specs.Prelude.{◌≡◌};
-ghost use Rattle.modbus_client.specs.Boxed.{boxed, Becomes};
+ghost use Rattle.modbus_client.specs.Boxed.{box_of, Becomes};
 
 use crate::client::Client;
 use modbus_frame::{Request, Response, Result, ShutdownFault, Slave, SlaveContext};
@@ -23,7 +23,7 @@ impl Context {
 }
 
 impl From<Box<dyn Client>> for Context {
-    ghost from_gives = { λ client context. boxed context ≡ client };
+    ghost from_gives = { λ client context. box_of context ≡ client };
 
     fn from(client: Box<dyn Client>) -> Context {
         Context { client }
@@ -31,7 +31,7 @@ impl From<Box<dyn Client>> for Context {
 }
 
 impl From<Context> for Box<dyn Client> {
-    ghost from_gives = { λ context client. client ≡ boxed context };
+    ghost from_gives = { λ context client. client ≡ box_of context };
 
     fn from(context: Context) -> Box<dyn Client> {
         context.client
@@ -39,9 +39,9 @@ impl From<Context> for Box<dyn Client> {
 }
 
 impl SlaveContext for Context {
-    ghost selected = { λ context. (Client-box (boxed context)).SlaveContext.selected (boxed context).value };
+    ghost selected = { λ context. (Client-box (box_of context)).SlaveContext.selected (box_of context).value };
 
-    ghost set_slave_gives = { λ old slave new. Becomes old (λ state. (Client-box (boxed old)).SlaveContext.set_slave_gives (boxed old).value slave state) new };
+    ghost set_slave_gives = { λ old slave new. Becomes old (λ state. (Client-box (box_of old)).SlaveContext.set_slave_gives (box_of old).value slave state) new };
 
     fn set_slave(&mut self, slave: Slave) {
         self.client.as_mut().set_slave(slave);
@@ -49,13 +49,13 @@ impl SlaveContext for Context {
 }
 
 impl Client for Context {
-    ghost answers = { λ old asked answer new. Becomes old (λ state. (Client-box (boxed old)).Client.answers (boxed old).value asked answer state) new };
+    ghost answers = { λ old asked answer new. Becomes old (λ state. (Client-box (box_of old)).Client.answers (box_of old).value asked answer state) new };
 
-    ghost disconnects = { λ old result new. Becomes old (λ state. (Client-box (boxed old)).Client.disconnects (boxed old).value result state) new };
+    ghost disconnects = { λ old result new. Becomes old (λ state. (Client-box (box_of old)).Client.disconnects (box_of old).value result state) new };
 
-    ghost time_limit = { λ context. (Client-box (boxed context)).Client.time_limit (boxed context).value };
+    ghost time_limit = { λ context. (Client-box (box_of context)).Client.time_limit (box_of context).value };
 
-    ghost limits = { λ old duration new. Becomes old (λ state. (Client-box (boxed old)).Client.limits (boxed old).value duration state) new };
+    ghost limits = { λ old duration new. Becomes old (λ state. (Client-box (box_of old)).Client.limits (box_of old).value duration state) new };
 
     fn call(&mut self, request: Request<'_>) -> Result<Response> {
         self.client.as_mut().call(request)

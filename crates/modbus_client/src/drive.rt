@@ -2,12 +2,12 @@
 ghost use Rattle.std.specs.Prelude.{◌≡◌, ◌<◌, ◌≤◌, [], OnErr};
 ghost use Rattle.modbus_link.specs.declared.polled.Polled.TheVariants.{Pending};
 ghost use Rattle.modbus_link.specs.Outside.{outside, Rose};
-ghost use Rattle.modbus_link.specs.Passing.{Sends};
+ghost use Rattle.modbus_link.specs.Passes.{Sends};
 ghost use Rattle.modbus_link.specs.Polled.{Waited};
 ghost use Rattle.modbus_frame.specs.Meaning.{meaning};
 ghost use Rattle.modbus_client.specs.Call.{holding, opened_with};
-ghost use Rattle.modbus_client.specs.Calling.{Sent, Exchanged, CountsDropped};
-ghost use Rattle.modbus_client.specs.Polled.{IsFlushed, TurnsTo, CallPolled, Opens};
+ghost use Rattle.modbus_client.specs.Calls.{Sent, Exchanged, CountsDropped};
+ghost use Rattle.modbus_client.specs.Polled.{IsSentWhole, TurnsTo, CallPolled, OpensCallState};
 
 use crate::call::{Call, ROOM};
 use crate::protocol::Protocol;
@@ -25,7 +25,7 @@ fn flush<P: Protocol, L: PolledLink>(
     ensures keeps { call.new ≡ record call.old { unwritten = call.new.unwritten } }
     ensures sends { Sends (L.output link.old) (L.output link.new) call.old.unwritten
         call.new.unwritten }
-    ensures all { IsFlushed call.new.unwritten result }
+    ensures all { IsSentWhole call.new.unwritten result }
     ensures cause { OnErr result (Rose (L.output link.old).faults (L.output link.new).faults) }
     ensures waited { Waited result (L.not_ready link.old) (L.not_ready link.new) }
     ensures later { L.not_ready link.old ≤ L.not_ready link.new }
@@ -114,7 +114,7 @@ pub(crate) fn open<P: Protocol>(
     turns: u64,
     held: &mut BytesMut,
 ) -> std::result::Result<Call<P>, Error>
-    ensures opens { Opens P.protocol header (meaning request.now) turns
+    ensures opens { OpensCallState P.protocol header (meaning request.now) turns
         (opened_with held.new result) }
     ensures empty { held.new.items ≡ [] }
 {

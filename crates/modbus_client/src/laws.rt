@@ -7,17 +7,18 @@ ghost use Rattle.modbus_frame.specs.declared.tcp.Header.{Header};
 ghost use Rattle.modbus_frame.specs.declared.response.Response.{Response};
 ghost use Rattle.modbus_frame.specs.declared.response.ExceptionResponse.{ExceptionResponse};
 ghost use Rattle.modbus_frame.specs.declared.fault.HeaderSeen.{HeaderSeen};
+ghost use Rattle.modbus_frame.specs.declared.fault.Error.{Error};
 ghost use Rattle.modbus_frame.specs.declared.fault.Error.TheVariants as error;
 ghost use Rattle.modbus_frame.specs.declared.fault.ProtocolError.TheVariants.{HeaderMismatch};
-ghost use Rattle.modbus_pdu.specs.Coding.{Fits};
+ghost use Rattle.modbus_pdu.specs.Encodes.{Fits};
 ghost use Rattle.modbus_pdu.specs.Laws.{ReadsBack};
 ghost use Rattle.modbus_pdu.specs.RequestPdu.{request_pdu};
 ghost use Rattle.modbus_client.specs.Protocol.{Found, waiting};
-ghost use Rattle.modbus_client.specs.Matching.{Answer};
+ghost use Rattle.modbus_client.specs.Matches.{Answer};
 ghost use Rattle.modbus_client.specs.Search as search;
 ghost use Rattle.modbus_client.specs.Call.{CallState, CallStands};
-ghost use Rattle.modbus_client.specs.Calling.{Exchanged};
-ghost use Rattle.modbus_client.specs.Polled.{AnswersAlone};
+ghost use Rattle.modbus_client.specs.Calls.{Exchanged};
+ghost use Rattle.modbus_client.specs.Polled.{AnswersAlone, IsRefusedCall};
 ghost use Rattle.modbus_client.specs.Exactly.{IsToldOf, TellsWaiting};
 ghost use Rattle.modbus_client.specs.Tcp.{matching_protocol};
 ghost use Rattle.modbus_client.specs.Exchange.{ExchangesLocally};
@@ -50,6 +51,16 @@ pub fn searches_are_told<P: Protocol>()
         → Fits (request_pdu asked) → (Rose from.faults to.faults → ⊥)
         → (Rose sunk.faults sinks.faults → ⊥)
         → TellsWaiting kept (length r.made) turns to.left answer }
+{
+    P::laws();
+}
+
+/// A request that is not opened is the whole call: nothing is written and nothing is read.
+pub fn requests_not_opened_are_unsent<P: Protocol>()
+    ensures { (from : Input) (sunk : Output) (header : P.Header) (asked : Asked) (turns : ℕ)
+        (error : Error) → IsRefusedCall (request_pdu asked) error
+        → Exchanged P.protocol (outside from sunk) (outside from sunk) header asked turns []
+        (Err error) }
 {
     P::laws();
 }

@@ -2,10 +2,10 @@
 ghost use Rattle.std.specs.Prelude.{◌≡◌, ◌↔◌, IsNone, IfSome, IfOk, IfErr, IsTrue, false, length, not};
 ghost use Rattle.modbus_link.specs.Line.{meaning_of};
 ghost use Rattle.modbus_frame.specs.Meaning.{meaning};
-ghost use Rattle.modbus_client.specs.State.{attached, drawn, next_header};
-ghost use Rattle.modbus_client.specs.Sending.{stays_connected};
-ghost use Rattle.modbus_client.specs.Calling.{Called, SentAlone, IsComplete};
-ghost use Rattle.modbus_client.specs.Ending.{Disconnected, Limited};
+ghost use Rattle.modbus_client.specs.State.{attached_client, with_next_header, next_header};
+ghost use Rattle.modbus_client.specs.Sends.{stays_connected};
+ghost use Rattle.modbus_client.specs.Calls.{Called, SentAlone, IsComplete};
+ghost use Rattle.modbus_client.specs.Ends.{Disconnected, Limited};
 
 use crate::client::Client;
 use crate::drive::{exchange, send};
@@ -58,7 +58,7 @@ impl<P: Protocol, L> Model for LinkClient<P, L> {
 impl<P: Protocol, L> LinkClient<P, L> {
     /// A client of a slave over a link. It keeps the allocator, and takes no memory yet.
     pub fn attach_slave(alloc: Global, link: L, slave: Slave) -> LinkClient<P, L>
-        ensures { result ≡ attached P.heading link slave.0 }
+        ensures { result ≡ attached_client P.heading link slave.0 }
     {
         LinkClient {
             link,
@@ -115,7 +115,7 @@ impl<P: Protocol, L> LinkClient<P, L> {
     /// # Errors
     /// `NotConnected` exactly where it is disconnected.
     fn draw(&mut self) -> std::result::Result<P::Header, Error>
-        ensures draws { self.new ≡ drawn P.heading self.old }
+        ensures draws { self.new ≡ with_next_header P.heading self.old }
         ensures connected { IfOk result (λ header. IsTrue self.old.is_connected
             × (header ≡ next_header P.heading self.old)) }
         ensures disconnected { IfErr result (λ error. (self.old.is_connected ≡ false)

@@ -2,7 +2,7 @@
 ghost use Rattle.std.specs.Prelude.{◌≡◌, ◌↔◌, ◌^◌, ◌-◌, [], IsTrue};
 ghost use Rattle.modbus_frame.specs.Meaning.{meaning};
 ghost use Rattle.modbus_client.specs.Call.{CallStands, holding};
-ghost use Rattle.modbus_client.specs.Exchange.{IsWanting, ReadsAll, ExchangesLocally};
+ghost use Rattle.modbus_client.specs.Exchange.{IsWantOfMemory, ReadsAll, ExchangesLocally};
 ghost use Rattle.modbus_client.specs.Back.{ComesBack};
 
 use crate::call::{Call, ROOM};
@@ -45,7 +45,7 @@ fn receive_all<P: Protocol>(
 
 /// Whether memory was refused to the server.
 fn lacked_memory(served: &std::result::Result<(), ProcessError>) -> bool
-    ensures { IsTrue result ↔ IsWanting served.now }
+    ensures { IsTrue result ↔ IsWantOfMemory served.now }
 {
     matches!(
         served,

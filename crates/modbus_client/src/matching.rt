@@ -1,5 +1,5 @@
 //! Whether an answer belongs to a request.
-ghost use Rattle.modbus_client.specs.Matching.{IsOf, Judges};
+ghost use Rattle.modbus_client.specs.Matches.{IsOf, Judges};
 ghost use Rattle.std.specs.Prelude.{◌≡◌, ◌↔◌, IsTrue};
 
 use crate::protocol::Reply;

@@ -26,9 +26,9 @@ pub struct PolledCall<P: Protocol> {
 
 impl<P: Protocol> Model for PolledCall<P> {
     ghost use Rattle.modbus_client.specs.Call.{holding};
-    ghost use Rattle.modbus_client.specs.Polled.{PolledState};
+    ghost use Rattle.modbus_client.specs.Polled.{PolledCallState};
 
-    ghost Value = { PolledState };
+    ghost Value = { PolledCallState };
 
     ghost view = { λ polled. record { call = holding polled.call polled.held; is_open = polled.is_open } };
 }

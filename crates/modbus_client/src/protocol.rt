@@ -3,7 +3,7 @@
 //! RTU frames and Modbus TCP are protocols; another crate can add its own, and `LinkClient` is its client.
 ghost use Rattle.std.specs.Prelude.{◌≡◌, ℕ, ◌<◌, ◌++◌, ◌∷◌, List, [], length};
 ghost use Rattle.modbus_frame.specs.Meaning.{meaning};
-ghost use Rattle.modbus_pdu.specs.Coding.{Encodes};
+ghost use Rattle.modbus_pdu.specs.Encodes.{Encodes};
 ghost use Rattle.modbus_pdu.specs.RequestPdu.{request_pdu};
 ghost use Rattle.modbus_client.specs.Protocol.{Protocol as Finding, Heading, Found, waiting, IsOfMessage};
 ghost use Rattle.modbus_client.specs.Call.{LooksAs, IsOwn};

@@ -2,7 +2,7 @@
 ghost use Rattle.std.specs.Prelude.{◌≡◌, ℕ, ◌<◌, ◌++◌, ◌∷◌, List, [], length};
 ghost use Rattle.modbus_frame.specs.Meaning.{meaning};
 ghost use Rattle.modbus_client.specs.Rtu.{rtu_protocol, rtu_heading};
-ghost use Rattle.modbus_client.specs.State.{attached};
+ghost use Rattle.modbus_client.specs.State.{attached_client};
 ghost use Rattle.modbus_client.specs.Polled.{OpensPolled};
 
 use crate::link_client::LinkClient;
@@ -118,14 +118,14 @@ pub type Client<L> = LinkClient<Frames, L>;
 
 /// A client of slave 0 over a link. It keeps the allocator, and takes no memory yet.
 pub fn attach<L: Link>(alloc: Global, link: L) -> Client<L>
-    ensures { result ≡ attached rtu_heading link 0 }
+    ensures { result ≡ attached_client rtu_heading link 0 }
 {
     attach_slave(alloc, link, Slave::broadcast())
 }
 
 /// A client of a slave over a link. It keeps the allocator, and takes no memory yet.
 pub fn attach_slave<L: Link>(alloc: Global, link: L, slave: Slave) -> Client<L>
-    ensures { result ≡ attached rtu_heading link slave.0 }
+    ensures { result ≡ attached_client rtu_heading link slave.0 }
 {
     Client::attach_slave(alloc, link, slave)
 }

@@ -4,10 +4,10 @@ ghost use Rattle.modbus_frame.specs.Meaning.{meaning};
 ghost use Rattle.modbus_frame.specs.declared.fault.HeaderSeen.{HeaderSeen};
 ghost use Rattle.modbus_client.specs.Call.{LooksAs, IsOwn};
 ghost use Rattle.modbus_client.specs.Tcp.{tcp_protocol, tcp_heading};
-ghost use Rattle.modbus_client.specs.State.{attached};
+ghost use Rattle.modbus_client.specs.State.{attached_client};
 ghost use Rattle.modbus_client.specs.Polled.{OpensPolled};
 ghost use Rattle.modbus_link.specs.Line.{meaning_of};
-ghost use Rattle.modbus_client.specs.Connecting.{Connects, connector_of};
+ghost use Rattle.modbus_client.specs.Connects.{Connects, connector_of};
 
 use crate::link_client::LinkClient;
 use crate::protocol::{LookError, Protocol, Reply};
@@ -150,14 +150,14 @@ pub type Client<L> = LinkClient<Adus, L>;
 
 /// A client of unit identifier 255 over a link. It keeps the allocator, and takes no memory yet.
 pub fn attach<L: Link>(alloc: Global, link: L) -> Client<L>
-    ensures { result ≡ attached tcp_heading link 255 }
+    ensures { result ≡ attached_client tcp_heading link 255 }
 {
     attach_slave(alloc, link, Slave::tcp_device())
 }
 
 /// A client of a unit identifier over a link. It keeps the allocator, and takes no memory yet.
 pub fn attach_slave<L: Link>(alloc: Global, link: L, slave: Slave) -> Client<L>
-    ensures { result ≡ attached tcp_heading link slave.0 }
+    ensures { result ≡ attached_client tcp_heading link slave.0 }
 {
     Client::attach_slave(alloc, link, slave)
 }

@@ -2,20 +2,20 @@
 ghost use Rattle.std.specs.Prelude.{◌≡◌, ◌↔◌, ℕ, ◌<◌, ◌++◌, ◌∷◌, List, [], length, IsTrue, None};
 ghost use Rattle.modbus_frame.specs.Meaning.{meaning};
 ghost use Rattle.modbus_frame.specs.declared.tcp.Header.{Header};
-ghost use Rattle.modbus_client.specs.Tcp.{matching_protocol, tcp_heading, header_seen, Drops, EndsOfAnother, counted};
-ghost use Rattle.modbus_client.specs.State.{attached};
+ghost use Rattle.modbus_client.specs.Tcp.{matching_protocol, tcp_heading, header_seen, DropsAdus, EndsOfAnother, adus_in};
+ghost use Rattle.modbus_client.specs.State.{attached_client};
 ghost use Rattle.modbus_client.specs.Polled.{OpensPolled};
 ghost use Rattle.modbus_link.specs.Line.{meaning_of};
-ghost use Rattle.modbus_client.specs.Connecting.{Connects, connector_of};
+ghost use Rattle.modbus_client.specs.Connects.{Connects, connector_of};
 
 use crate::link_client::LinkClient;
 use crate::protocol::{LookError, Protocol, Reply};
 use crate::tcp::Adus;
 use bytes::BytesMut;
 use modbus_frame::tcp::Header;
-use modbus_frame::{ConnectFault, EncodeError, Error, HeaderSeen, Request, Slave};
+use modbus_frame::{ConnectFault, EncodeError, Error, Front, HeaderSeen, Request, Slave};
 use modbus_link::{Connector, Failed, Link};
-use modbus_tcp::{Front, HeaderFault, TransactionIds, front};
+use modbus_tcp::{HeaderFault, TransactionIds, front};
 use std::alloc::Global;
 use std::marker::Model;
 use std::net::SocketAddr;
@@ -34,14 +34,14 @@ fn end_of_another(asked: HeaderSeen, bytes: &[u8]) -> Option<usize>
 {
     modbus_tcp::laws::one_front();
     match front(bytes) {
-        Ok(Front::Adu { header, end, .. }) => {
+        Ok(Front::Message { header, end, .. }) => {
             if is_own(asked, header) {
                 None
             } else {
                 Some(end)
             }
         }
-        Ok(Front::Waiting) => None,
+        Ok(Front::Waiting { .. }) => None,
         Err(HeaderFault::InvalidLength) => None,
         Err(HeaderFault::InvalidProtocol(_)) => None,
     }
@@ -51,7 +51,7 @@ fn end_of_another(asked: HeaderSeen, bytes: &[u8]) -> Option<usize>
 /// not read, and no memory is taken.
 fn drop_others(asked: HeaderSeen, held: &mut BytesMut) -> u64
     ensures dropped { (adus : List (Header × List ℕ))
-        × Drops asked held.old.items adus held.new.items × (result ≡ counted adus) }
+        × DropsAdus asked held.old.items adus held.new.items × (result ≡ adus_in adus) }
     ensures all { EndsOfAnother asked held.new.items None }
 {
     let mut dropped = 0u64;
@@ -164,7 +164,7 @@ pub type MatchingClient<L> = LinkClient<OwnAdus, L>;
 /// A client of a unit identifier over a link, which drops the responses of other transactions and units. It keeps the allocator, and
 /// takes no memory yet.
 pub fn attach_matching<L: Link>(alloc: Global, link: L, slave: Slave) -> MatchingClient<L>
-    ensures { result ≡ attached tcp_heading link slave.0 }
+    ensures { result ≡ attached_client tcp_heading link slave.0 }
 {
     MatchingClient::attach_slave(alloc, link, slave)
 }

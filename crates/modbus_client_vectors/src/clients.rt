@@ -30,6 +30,67 @@ fn left(alloc: Global, link: Option<&MemoryLink>, held: usize) -> Result<String,
     }
 }
 
+/// The request whose PDU a word shows; none where it shows no such PDU.
+pub fn request_of(alloc: Global, word: &str) -> Result<Option<Request<'static>>, AllocError> {
+    let Some(pdu) = bytes(alloc, word)? else {
+        return Ok(None);
+    };
+    Ok(decode_request(alloc, pdu.as_slice()).ok())
+}
+
+/// Selects a slave.
+fn selected<C: Client>(
+    alloc: Global,
+    client: &mut C,
+    slave: &str,
+) -> Result<Option<String>, AllocError> {
+    let Ok(slave) = slave.parse::<u8>() else {
+        return Ok(None);
+    };
+    client.set_slave(Slave(slave));
+    Ok(Some(String::from_str(alloc, "()")?))
+}
+
+/// A call of a function by its number with any data.
+fn custom<C: Client>(
+    alloc: Global,
+    client: &mut C,
+    pdu: &str,
+) -> Result<Option<String>, AllocError> {
+    let Some(pdu) = bytes(alloc, pdu)? else {
+        return Ok(None);
+    };
+    let Some((code, data)) = pdu.split_first() else {
+        return Ok(None);
+    };
+    let request = Request::Custom(*code, CowSlice::Borrowed(data));
+    Ok(Some(answered(alloc, client.call(request))?))
+}
+
+/// The typed call of a request.
+fn typed<C: Client>(
+    alloc: Global,
+    client: &mut C,
+    pdu: &str,
+) -> Result<Option<String>, AllocError> {
+    match request_of(alloc, pdu)? {
+        Some(request) => Ok(Some(asked(alloc, client, &request)?)),
+        None => Ok(None),
+    }
+}
+
+/// A call of a request.
+fn called<C: Client>(
+    alloc: Global,
+    client: &mut C,
+    pdu: &str,
+) -> Result<Option<String>, AllocError> {
+    match request_of(alloc, pdu)? {
+        Some(request) => Ok(Some(answered(alloc, client.call(request))?)),
+        None => Ok(None),
+    }
+}
+
 /// What a step of a line does to any client: `disconnect`, `slave=9`, a call of a function by its number with any data, as
 /// `custom=4100`, the typed call of a request by its PDU, as `typed=0300000001`, or a call by the PDU of its request.
 fn step<C: Client>(
@@ -42,34 +103,15 @@ fn step<C: Client>(
         return Ok(Some(format!(in alloc; "{ended:?}")?));
     }
     if let Some(slave) = step.strip_prefix("slave=") {
-        let Ok(slave) = slave.parse::<u8>() else {
-            return Ok(None);
-        };
-        client.set_slave(Slave(slave));
-        return Ok(Some(String::from_str(alloc, "()")?));
+        return selected(alloc, client, slave);
     }
     if let Some(pdu) = step.strip_prefix("custom=") {
-        let Some(pdu) = bytes(alloc, pdu)? else {
-            return Ok(None);
-        };
-        let Some((code, data)) = pdu.split_first() else {
-            return Ok(None);
-        };
-        let request = Request::Custom(*code, CowSlice::Borrowed(data));
-        return Ok(Some(answered(alloc, client.call(request))?));
+        return custom(alloc, client, pdu);
     }
-    let (is_typed, step) = match step.strip_prefix("typed=") {
-        Some(pdu) => (true, pdu),
-        None => (false, step),
-    };
-    let Some(pdu) = bytes(alloc, step)? else {
-        return Ok(None);
-    };
-    match decode_request(alloc, pdu.as_slice()) {
-        Ok(request) if is_typed => Ok(Some(asked(alloc, client, &request)?)),
-        Ok(request) => Ok(Some(answered(alloc, client.call(request))?)),
-        Err(_) => Ok(None),
+    if let Some(pdu) = step.strip_prefix("typed=") {
+        return typed(alloc, client, pdu);
     }
+    called(alloc, client, step)
 }
 
 /// Appends the text of a step.
@@ -83,7 +125,63 @@ fn push_dropped(alloc: Global, text: &mut String, dropped: u64) -> Result<(), Al
     text.push_str(format!(in alloc; " dropped {dropped}")?.as_str())
 }
 
-/// The steps of an RTU client, which also has `turns=1` and `send=0600010003`.
+/// Sets how many reads a call waits for.
+fn set_turns(
+    alloc: Global,
+    client: &mut rtu::Client<MemoryLink>,
+    turns: &str,
+) -> Result<Option<String>, AllocError> {
+    let Ok(turns) = turns.parse() else {
+        return Ok(None);
+    };
+    client.set_turns(turns);
+    Ok(Some(String::from_str(alloc, "()")?))
+}
+
+/// Sends a request, and waits for no reply.
+fn sent(
+    alloc: Global,
+    client: &mut rtu::Client<MemoryLink>,
+    pdu: &str,
+) -> Result<Option<String>, AllocError> {
+    let Some(request) = request_of(alloc, pdu)? else {
+        return Ok(None);
+    };
+    let sent = client.send(request);
+    Ok(Some(format!(in alloc; "{sent:?}")?))
+}
+
+/// What a step does to an RTU client, which also has `turns=1` and `send=0600010003`.
+fn rtu_step(
+    alloc: Global,
+    client: &mut rtu::Client<MemoryLink>,
+    word: &str,
+) -> Result<Option<String>, AllocError> {
+    if let Some(turns) = word.strip_prefix("turns=") {
+        return set_turns(alloc, client, turns);
+    }
+    if let Some(pdu) = word.strip_prefix("send=") {
+        return sent(alloc, client, pdu);
+    }
+    step(alloc, client, word)
+}
+
+/// The answers of an RTU client to steps with commas between them.
+fn rtu_answers(
+    alloc: Global,
+    client: &mut rtu::Client<MemoryLink>,
+    steps: &str,
+) -> Result<Option<String>, AllocError> {
+    let mut text = String::new(alloc);
+    for word in steps.split(',') {
+        let Some(found) = rtu_step(alloc, client, word)? else {
+            return Ok(None);
+        };
+        push(&mut text, found.as_str())?;
+    }
+    Ok(Some(text))
+}
+
 fn rtu_calls(
     alloc: Global,
     slave: u8,
@@ -92,29 +190,9 @@ fn rtu_calls(
 ) -> Result<Option<String>, AllocError> {
     let mut client = rtu::attach(alloc, link);
     client.set_slave(Slave(slave));
-    let mut text = String::new(alloc);
-    for word in steps.split(',') {
-        if let Some(turns) = word.strip_prefix("turns=") {
-            let Ok(turns) = turns.parse() else {
-                return Ok(None);
-            };
-            client.set_turns(turns);
-            push(&mut text, "()")?;
-        } else if let Some(pdu) = word.strip_prefix("send=") {
-            let Some(pdu) = bytes(alloc, pdu)? else {
-                return Ok(None);
-            };
-            let Ok(request) = decode_request(alloc, pdu.as_slice()) else {
-                return Ok(None);
-            };
-            let sent = client.send(request);
-            push(&mut text, format!(in alloc; "{sent:?}")?.as_str())?;
-        } else if let Some(found) = step(alloc, &mut client, word)? {
-            push(&mut text, found.as_str())?;
-        } else {
-            return Ok(None);
-        }
-    }
+    let Some(mut text) = rtu_answers(alloc, &mut client, steps)? else {
+        return Ok(None);
+    };
     let held = client.held();
     text.push_str(left(alloc, client.link(), held)?.as_str())?;
     Ok(Some(text))
@@ -254,8 +332,14 @@ fn exchanged_words(
     alloc: Global,
     slave: u8,
     request: Request<'_>,
-    count: u16,
+    words: &[&str],
 ) -> Result<Option<String>, AllocError> {
+    let [count] = words else {
+        return Ok(None);
+    };
+    let Some(count) = number(count) else {
+        return Ok(None);
+    };
     let mut service = SameWords::new(count);
     let answer = answered(alloc, exchange(alloc, Slave(slave), request, &mut service))?;
     let calls = service.calls;
@@ -271,20 +355,11 @@ fn one_call(
     pdu: &str,
     words: &[&str],
 ) -> Result<Option<String>, AllocError> {
-    let Some(pdu) = bytes(alloc, pdu)? else {
-        return Ok(None);
-    };
-    let Ok(request) = decode_request(alloc, pdu.as_slice()) else {
+    let Some(request) = request_of(alloc, pdu)? else {
         return Ok(None);
     };
     if call == "exchange_words" {
-        return match words {
-            [count] => match number(count) {
-                Some(count) => exchanged_words(alloc, slave, request, count),
-                None => Ok(None),
-            },
-            _ => Ok(None),
-        };
+        return exchanged_words(alloc, slave, request, words);
     }
     let Some(outside) = read_outside(alloc, words)? else {
         return Ok(None);

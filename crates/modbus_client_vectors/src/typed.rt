@@ -1,10 +1,11 @@
 //! Typed calls of any client, and through a box over a caller's client that answers one response.
 
+use crate::clients::request_of;
 use bytes::Bytes;
 use modbus_client::Context;
 use modbus_client::prelude::*;
 use modbus_frame::{Coils, Error, Result as Answer, ShutdownFault, TransportError, Words};
-use modbus_pdu::{decode_request, decode_response_pdu};
+use modbus_pdu::decode_response_pdu;
 use modbus_table::text::bytes;
 use std::alloc::{AllocError, Global};
 use std::time::Duration;
@@ -115,6 +116,39 @@ pub fn asked<C: SyncClient>(
     format!(in alloc; "{:?}", read(client, request))
 }
 
+/// What a client answers whose words are the PDU of a response or an exception, or `-` for a fault of its link; none where they are neither.
+fn answer_of(alloc: Global, word: &str) -> Result<Option<Answer<Response>>, AllocError> {
+    let Some(pdu) = bytes(alloc, word)? else {
+        return Ok(None);
+    };
+    if pdu.is_empty() {
+        return Ok(Some(Err(Error::Transport(TransportError::BrokenPipe))));
+    }
+    match decode_response_pdu(alloc, Bytes::copy_from_slice(alloc, pdu.as_slice())?) {
+        Err(_) => Ok(None),
+        Ok(found) => Ok(Some(Ok(match found.0 {
+            Ok(response) => Ok(response),
+            Err(refusal) => Err(refusal.exception),
+        }))),
+    }
+}
+
+/// The text of the typed call of a request of a client that answers so.
+fn asked_once(
+    alloc: Global,
+    request: &Request<'_>,
+    answer: Answer<Response>,
+) -> Result<String, AllocError> {
+    let once = Once {
+        answer: Some(answer),
+        slave: Slave(0),
+        timeout: None,
+    };
+    let client: Box<dyn Client> = Box::new(alloc, once)?;
+    let mut context = Context::from(client);
+    asked(alloc, &mut context, request)
+}
+
 /// `typed`, the PDU of a request, and the PDU of what the client answers: a response or an exception; `-` for a fault of its link.
 pub fn answer(alloc: Global, call: &str, words: &[&str]) -> Result<Option<String>, AllocError> {
     let &[request, answered] = words else {
@@ -123,29 +157,11 @@ pub fn answer(alloc: Global, call: &str, words: &[&str]) -> Result<Option<String
     if call != "typed" {
         return Ok(None);
     }
-    let (Some(pdu), Some(answered)) = (bytes(alloc, request)?, bytes(alloc, answered)?) else {
+    let Some(answer) = answer_of(alloc, answered)? else {
         return Ok(None);
     };
-    let Ok(request) = decode_request(alloc, pdu.as_slice()) else {
-        return Ok(None);
-    };
-    let answer = if answered.is_empty() {
-        Err(Error::Transport(TransportError::BrokenPipe))
-    } else {
-        match decode_response_pdu(alloc, Bytes::copy_from_slice(alloc, answered.as_slice())?) {
-            Err(_) => return Ok(None),
-            Ok(found) => Ok(match found.0 {
-                Ok(response) => Ok(response),
-                Err(refusal) => Err(refusal.exception),
-            }),
-        }
-    };
-    let once = Once {
-        answer: Some(answer),
-        slave: Slave(0),
-        timeout: None,
-    };
-    let client: Box<dyn Client> = Box::new(alloc, once)?;
-    let mut context = Context::from(client);
-    Ok(Some(asked(alloc, &mut context, &request)?))
+    match request_of(alloc, request)? {
+        Some(request) => Ok(Some(asked_once(alloc, &request, answer)?)),
+        None => Ok(None),
+    }
 }

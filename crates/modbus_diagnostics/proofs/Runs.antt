@@ -9,9 +9,9 @@ use Rattle.modbus_diagnostics.specs.declared.heard.Heard.TheVariants.{Noise, Ano
 use Rattle.modbus_diagnostics.specs.declared.query.Query.{Query}
 use Rattle.modbus_diagnostics.specs.declared.port.Port.{Port}
 use Rattle.modbus_diagnostics.specs.Queries.{query_reply}
-use Rattle.modbus_diagnostics.specs.Hearing.{heard_of, is_passed, clears}
-use Rattle.modbus_diagnostics.specs.Counting.{zeros, with_this, end_of, counted, counts, NoneClears, AreSinceCleared}
-use Rattle.modbus_diagnostics.specs.Port.{Answers, port_answering, passed}
+use Rattle.modbus_diagnostics.specs.Heard.{heard_of, is_passed, clears}
+use Rattle.modbus_diagnostics.specs.Counters.{zeros, with_this, outcome_counted, counters_after, counters_of, NoneClears, AreSinceCleared}
+use Rattle.modbus_diagnostics.specs.Port.{Answers, port_answering, exchanges_passed}
 use Rattle.modbus_diagnostics.proofs.Tally.{Within, zeros_within, stepped, counted_on, counted_cleared, stepped_within, from, from_nil, from_cons, from_zeros}
 
 module _ {Header S : Type 0} (slave : Header → ℕ) (A : Answering S) where
@@ -31,21 +31,21 @@ module _ {Header S : Type 0} (slave : Header → ℕ) (A : Answering S) where
       let h = heard_of slave units x in
       let kept : clears h ≡ false = All-head (λ y. clears (heard_of slave units y) ≡ false) x xs none in
       let none_after = All-tail (λ y. clears (heard_of slave units y) ≡ false) x xs none in
-      let told : next.counters ≡ counted start.counters h (end_of x.outcome) =
-      subst (λ us. next.counters ≡ counted start.counters (heard_of slave us x) (end_of x.outcome)) these step.1 in
-      let is : next.counters ≡ stepped start.counters h (end_of x.outcome) = told ∙ counted_on start.counters h (end_of x.outcome) kept in
-      let within_next = subst Within (sym is) (stepped_within start.counters h (end_of x.outcome) within) in
+      let told : next.counters ≡ counters_after start.counters h (outcome_counted x.outcome) =
+      subst (λ us. next.counters ≡ counters_after start.counters (heard_of slave us x) (outcome_counted x.outcome)) these step.1 in
+      let is : next.counters ≡ stepped start.counters h (outcome_counted x.outcome) = told ∙ counted_on start.counters h (outcome_counted x.outcome) kept in
+      let within_next = subst Within (sym is) (stepped_within start.counters h (outcome_counted x.outcome) within) in
       goes_on units next last xs rest (ap (λ us. us.items) step.0 ∙ these) within_next none_after
       ∙ ap (λ c. from slave units c xs) is ∙ sym (from_cons slave units start.counters x xs within)
 
   from_zero : (units : List ℕ) (start last : Port S) (xs : List (Exchange Header)) → Run slave (port_answering A) start xs last
-      → start.units.items ≡ units → start.counters ≡ zeros → NoneClears slave units xs → last.counters ≡ counts slave units xs
+      → start.units.items ≡ units → start.counters ≡ zeros → NoneClears slave units xs → last.counters ≡ counters_of slave units xs
   from_zero units start last xs run these zero none =
       goes_on units start last xs run these (subst Within (sym zero) zeros_within) none
       ∙ ap (λ c. from slave units c xs) zero ∙ from_zeros slave units xs
 
   pub counts_all : (start last : Port S) (xs since : List (Exchange Header)) → Run slave (port_answering A) start xs last
-      → start.counters ≡ zeros → AreSinceCleared slave start.units.items xs since → last.counters ≡ counts slave start.units.items since
+      → start.counters ≡ zeros → AreSinceCleared slave start.units.items xs since → last.counters ≡ counters_of slave start.units.items since
   counts_all start last xs since run zero (none, inl all) =
       from_zero start.units.items start last since (subst (λ ys. Run slave (port_answering A) start ys last) (sym all) run) refl zero none
   counts_all start last xs since run zero (none, inr (before, x, cleared, parts)) =
@@ -54,15 +54,15 @@ module _ {Header S : Type 0} (slave : Header → ℕ) (A : Answering S) where
       let next = two.2.0 in
       let step = two.2.1 in
       let these : mid.units.items ≡ start.units.items = ap (λ us. us.items) (units_kept start mid before two.1) in
-      let told : next.counters ≡ counted mid.counters (heard_of slave start.units.items x) (end_of x.outcome) =
-      subst (λ us. next.counters ≡ counted mid.counters (heard_of slave us x) (end_of x.outcome)) these step.1 in
-      let zeroed = told ∙ counted_cleared mid.counters (heard_of slave start.units.items x) (end_of x.outcome) cleared in
+      let told : next.counters ≡ counters_after mid.counters (heard_of slave start.units.items x) (outcome_counted x.outcome) =
+      subst (λ us. next.counters ≡ counters_after mid.counters (heard_of slave us x) (outcome_counted x.outcome)) these step.1 in
+      let zeroed = told ∙ counted_cleared mid.counters (heard_of slave start.units.items x) (outcome_counted x.outcome) cleared in
       from_zero start.units.items next last since two.2.2 (ap (λ us. us.items) step.0 ∙ these) zeroed none
 
   pub tells_counts : (start last : Port S) (xs since after : List (Exchange Header)) (x : Exchange Header) (query : Query)
       → Run slave (port_answering A) start (xs ++ x ∷ after) last → start.counters ≡ zeros → AreSinceCleared slave start.units.items xs since
       → heard_of slave start.units.items x ≡ Asks query
-      → x.outcome ≡ query_reply (with_this (counts slave start.units.items since)) x.request query
+      → x.outcome ≡ query_reply (with_this (counters_of slave start.units.items since)) x.request query
   tells_counts start last xs since after x query run zero are asks =
       let two = halved start last xs (x ∷ after) run in
       let mid = two.0 in
@@ -82,13 +82,13 @@ module _ {Header S : Type 0} (slave : Header → ℕ) (A : Answering S) where
   pass c Another x old next last ys did rest = (next, did, rest)
 
   service_run : (units : List ℕ) (start last : Port S) (xs : List (Exchange Header)) → Run slave (port_answering A) start xs last
-      → start.units.items ≡ units → Run slave A start.service (passed slave units xs) last.service
+      → start.units.items ≡ units → Run slave A start.service (exchanges_passed slave units xs) last.service
   service_run units start last [] same these = ap (λ p. p.service) same
   service_run units start last (x ∷ xs) (next, step, rest) these =
       let did = subst (λ us. Answers A start.counters (heard_of slave us x) start.service (slave x.header) x.request x.outcome next.service) these step.2 in
-      pass start.counters (heard_of slave units x) x start.service next.service last.service (passed slave units xs) did
+      pass start.counters (heard_of slave units x) x start.service next.service last.service (exchanges_passed slave units xs) did
       (service_run units next last xs rest (ap (λ us. us.items) step.0 ∙ these))
 
   pub port_runs : (start last : Port S) (xs : List (Exchange Header)) → Run slave (port_answering A) start xs last
-      → (last.units ≡ start.units) × Run slave A start.service (passed slave start.units.items xs) last.service
+      → (last.units ≡ start.units) × Run slave A start.service (exchanges_passed slave start.units.items xs) last.service
   port_runs start last xs run = (units_kept start last xs run, service_run start.units.items start last xs run refl)

@@ -5,8 +5,8 @@ use Rattle.modbus_service.specs.Exchange.{Exchange}
 use Rattle.modbus_diagnostics.specs.declared.counters.Counters.{Counters}
 use Rattle.modbus_diagnostics.specs.declared.counters.Ended.{Ended}
 use Rattle.modbus_diagnostics.specs.declared.heard.Heard.{Heard}
-use Rattle.modbus_diagnostics.specs.Hearing.{heard_of, is_message, is_own, clears}
-use Rattle.modbus_diagnostics.specs.Counting.{last_count, next_if, zeros, end_of, is_refused, is_silent, is_event, counted, tally, counts}
+use Rattle.modbus_diagnostics.specs.Heard.{heard_of, is_message, is_own, clears}
+use Rattle.modbus_diagnostics.specs.Counters.{last_count, next_if, zeros, outcome_counted, is_refused, is_silent, is_event, counters_after, tally, counters_of}
 
 -- a counter that goes on from a number
 pub on : {A : Type 0} → ℕ → (A → Bool) → List A → ℕ
@@ -63,10 +63,10 @@ stepped c h end = record {
   events = next_if (is_event h end) c.events;
 }
 
-pub counted_on : (c : Counters) (h : Heard) (end : Ended) → clears h ≡ false → counted c h end ≡ stepped c h end
+pub counted_on : (c : Counters) (h : Heard) (end : Ended) → clears h ≡ false → counters_after c h end ≡ stepped c h end
 counted_on c h end kept = ap (λ b. cond b zeros (stepped c h end)) kept
 
-pub counted_cleared : (c : Counters) (h : Heard) (end : Ended) → clears h ≡ true → counted c h end ≡ zeros
+pub counted_cleared : (c : Counters) (h : Heard) (end : Ended) → clears h ≡ true → counters_after c h end ≡ zeros
 counted_cleared c h end cleared = ap (λ b. cond b zeros (stepped c h end)) cleared
 
 pub stepped_within : (c : Counters) (h : Heard) (end : Ended) → Within c → Within (stepped c h end)
@@ -92,10 +92,10 @@ module _ {Header : Type 0} (slave : Header → ℕ) (units : List ℕ) where
   from c xs = record {
     bus_messages = on c.bus_messages (λ x. is_message (heard_of slave units x)) xs;
     checksum_errors = on c.checksum_errors (λ x. not (is_message (heard_of slave units x))) xs;
-    exceptions = on c.exceptions (λ x. is_refused (heard_of slave units x) (end_of x.outcome)) xs;
+    exceptions = on c.exceptions (λ x. is_refused (heard_of slave units x) (outcome_counted x.outcome)) xs;
     own_messages = on c.own_messages (λ x. is_own (heard_of slave units x)) xs;
-    no_responses = on c.no_responses (λ x. is_silent (heard_of slave units x) (end_of x.outcome)) xs;
-    events = on c.events (λ x. is_event (heard_of slave units x) (end_of x.outcome)) xs;
+    no_responses = on c.no_responses (λ x. is_silent (heard_of slave units x) (outcome_counted x.outcome)) xs;
+    events = on c.events (λ x. is_event (heard_of slave units x) (outcome_counted x.outcome)) xs;
   }
 
   pub from_nil : (c : Counters) → Within c → from c [] ≡ c
@@ -104,30 +104,30 @@ module _ {Header : Type 0} (slave : Header → ℕ) (units : List ℕ) where
       made_of _ c.bus_messages _ c.checksum_errors _ c.exceptions _ c.own_messages _ c.no_responses _ c.events
       (on_nil c.bus_messages (λ (x : Exchange Header). is_message (heard_of slave units x)) within.bus_messages)
       (on_nil c.checksum_errors (λ (x : Exchange Header). not (is_message (heard_of slave units x))) within.checksum_errors)
-      (on_nil c.exceptions (λ (x : Exchange Header). is_refused (heard_of slave units x) (end_of x.outcome)) within.exceptions)
+      (on_nil c.exceptions (λ (x : Exchange Header). is_refused (heard_of slave units x) (outcome_counted x.outcome)) within.exceptions)
       (on_nil c.own_messages (λ (x : Exchange Header). is_own (heard_of slave units x)) within.own_messages)
-      (on_nil c.no_responses (λ (x : Exchange Header). is_silent (heard_of slave units x) (end_of x.outcome)) within.no_responses)
-      (on_nil c.events (λ (x : Exchange Header). is_event (heard_of slave units x) (end_of x.outcome)) within.events)
+      (on_nil c.no_responses (λ (x : Exchange Header). is_silent (heard_of slave units x) (outcome_counted x.outcome)) within.no_responses)
+      (on_nil c.events (λ (x : Exchange Header). is_event (heard_of slave units x) (outcome_counted x.outcome)) within.events)
 
   pub from_cons : (c : Counters) (x : Exchange Header) (xs : List (Exchange Header)) → Within c
-      → from c (x ∷ xs) ≡ from (stepped c (heard_of slave units x) (end_of x.outcome)) xs
+      → from c (x ∷ xs) ≡ from (stepped c (heard_of slave units x) (outcome_counted x.outcome)) xs
   unfolding from
   from_cons c x xs within =
       let a = on_cons c.bus_messages (λ (x : Exchange Header). is_message (heard_of slave units x)) x xs within.bus_messages in
       let b = on_cons c.checksum_errors (λ (x : Exchange Header). not (is_message (heard_of slave units x))) x xs within.checksum_errors in
-      let d = on_cons c.exceptions (λ (x : Exchange Header). is_refused (heard_of slave units x) (end_of x.outcome)) x xs within.exceptions in
+      let d = on_cons c.exceptions (λ (x : Exchange Header). is_refused (heard_of slave units x) (outcome_counted x.outcome)) x xs within.exceptions in
       let e = on_cons c.own_messages (λ (x : Exchange Header). is_own (heard_of slave units x)) x xs within.own_messages in
-      let f = on_cons c.no_responses (λ (x : Exchange Header). is_silent (heard_of slave units x) (end_of x.outcome)) x xs within.no_responses in
-      let h = on_cons c.events (λ (x : Exchange Header). is_event (heard_of slave units x) (end_of x.outcome)) x xs within.events in
+      let f = on_cons c.no_responses (λ (x : Exchange Header). is_silent (heard_of slave units x) (outcome_counted x.outcome)) x xs within.no_responses in
+      let h = on_cons c.events (λ (x : Exchange Header). is_event (heard_of slave units x) (outcome_counted x.outcome)) x xs within.events in
       cc
 
-  pub from_zeros : (xs : List (Exchange Header)) → from zeros xs ≡ counts slave units xs
+  pub from_zeros : (xs : List (Exchange Header)) → from zeros xs ≡ counters_of slave units xs
   unfolding from
   from_zeros xs =
       made_of _ _ _ _ _ _ _ _ _ _ _ _
       (on_zero (λ (x : Exchange Header). is_message (heard_of slave units x)) xs)
       (on_zero (λ (x : Exchange Header). not (is_message (heard_of slave units x))) xs)
-      (on_zero (λ (x : Exchange Header). is_refused (heard_of slave units x) (end_of x.outcome)) xs)
+      (on_zero (λ (x : Exchange Header). is_refused (heard_of slave units x) (outcome_counted x.outcome)) xs)
       (on_zero (λ (x : Exchange Header). is_own (heard_of slave units x)) xs)
-      (on_zero (λ (x : Exchange Header). is_silent (heard_of slave units x) (end_of x.outcome)) xs)
-      (on_zero (λ (x : Exchange Header). is_event (heard_of slave units x) (end_of x.outcome)) xs)
+      (on_zero (λ (x : Exchange Header). is_silent (heard_of slave units x) (outcome_counted x.outcome)) xs)
+      (on_zero (λ (x : Exchange Header). is_event (heard_of slave units x) (outcome_counted x.outcome)) xs)

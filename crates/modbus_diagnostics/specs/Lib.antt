@@ -1,4 +1,4 @@
 pub mod Queries
-pub mod Hearing
-pub mod Counting
+pub mod Heard
+pub mod Counters
 pub mod Port

@@ -15,8 +15,8 @@ use Rattle.modbus_diagnostics.specs.declared.heard.Heard.TheVariants.{Noise, Ask
 use Rattle.modbus_diagnostics.specs.declared.query.Query.{Query}
 use Rattle.modbus_diagnostics.specs.declared.port.Port.{Port}
 use Rattle.modbus_diagnostics.specs.Queries.{query_reply}
-use Rattle.modbus_diagnostics.specs.Hearing.{heard, heard_of, is_passed}
-use Rattle.modbus_diagnostics.specs.Counting.{zeros, with_this, end_of, counted, counts, AreSinceCleared}
+use Rattle.modbus_diagnostics.specs.Heard.{heard_as, heard_of, is_passed}
+use Rattle.modbus_diagnostics.specs.Counters.{zeros, with_this, outcome_counted, counters_after, counters_of, AreSinceCleared}
 
 -- how a message ended that was told so; untold where memory was refused
 abbrev pub told_end : Result (Option Response) ServiceError → Option Ended
@@ -45,20 +45,20 @@ hearing A c h = record { gives = Answers A c h; wants = Wants A h }
 -- the counters after what was heard ended, or memory was refused for it
 abbrev pub counted_when : Counters → Heard → Option Ended → Counters
 counted_when c h None = c
-counted_when c h (Some end) = counted c h end
+counted_when c h (Some end) = counters_after c h end
 
 -- and it counts it
 abbrev pub port_gives : {S : Type 0} → Answering S → Port S → ℕ → Asked → Outcome → Port S → Type 0
 port_gives A old slave request outcome new =
     (new.units ≡ old.units)
-    × (new.counters ≡ counted old.counters (heard old.units.items slave request) (end_of outcome))
-    × Answers A old.counters (heard old.units.items slave request) old.service slave request outcome new.service
+    × (new.counters ≡ counters_after old.counters (heard_as old.units.items slave request) (outcome_counted outcome))
+    × Answers A old.counters (heard_as old.units.items slave request) old.service slave request outcome new.service
 
 -- where memory is refused nothing is counted
 abbrev pub port_wants : {S : Type 0} → Answering S → Port S → ℕ → Asked → Port S → Type 0
 port_wants A old slave request new =
     (new.units ≡ old.units) × (new.counters ≡ old.counters)
-    × Wants A (heard old.units.items slave request) old.service slave request new.service
+    × Wants A (heard_as old.units.items slave request) old.service slave request new.service
 
 abbrev pub port_answering : {S : Type 0} → Answering S → Answering (Port S)
 port_answering A = record { gives = port_gives A; wants = port_wants A }
@@ -68,7 +68,7 @@ abbrev pub CountsAll : (Header : Type 0) → {S : Type 0} → Answering S → Ty
 CountsAll Header {S} A =
     (slave : Header → ℕ) (start last : Port S) (xs since : List (Exchange Header))
     → Run slave (port_answering A) start xs last → start.counters ≡ zeros → AreSinceCleared slave start.units.items xs since
-    → last.counters ≡ counts slave start.units.items since
+    → last.counters ≡ counters_of slave start.units.items since
 
 -- and what asks the port itself is answered of the counts so far, with this message
 abbrev pub TellsCounts : (Header : Type 0) → {S : Type 0} → Answering S → Type 0
@@ -76,15 +76,15 @@ TellsCounts Header {S} A =
     (slave : Header → ℕ) (start last : Port S) (xs since after : List (Exchange Header)) (x : Exchange Header) (query : Query)
     → Run slave (port_answering A) start (xs ++ x ∷ after) last → start.counters ≡ zeros → AreSinceCleared slave start.units.items xs since
     → heard_of slave start.units.items x ≡ Asks query
-    → x.outcome ≡ query_reply (with_this (counts slave start.units.items since)) x.request query
+    → x.outcome ≡ query_reply (with_this (counters_of slave start.units.items since)) x.request query
 
 -- the exchanges that a port does not keep from its service, in order
-abbrev pub passed : {Header : Type 0} → (Header → ℕ) → List ℕ → List (Exchange Header) → List (Exchange Header)
-passed slave units xs = filter (λ x. is_passed (heard_of slave units x)) xs
+abbrev pub exchanges_passed : {Header : Type 0} → (Header → ℕ) → List ℕ → List (Exchange Header) → List (Exchange Header)
+exchanges_passed slave units xs = filter (λ x. is_passed (heard_of slave units x)) xs
 
 -- a run of a port is a run of its service over these
 abbrev pub PortRuns : (Header : Type 0) → {S : Type 0} → Answering S → Type 0
 PortRuns Header {S} A =
     (slave : Header → ℕ) (start last : Port S) (xs : List (Exchange Header))
     → Run slave (port_answering A) start xs last
-    → (last.units ≡ start.units) × Run slave A start.service (passed slave start.units.items xs) last.service
+    → (last.units ≡ start.units) × Run slave A start.service (exchanges_passed slave start.units.items xs) last.service

@@ -5,7 +5,7 @@ use Rattle.modbus_frame.specs.declared.response.Response.{Response}
 use Rattle.modbus_frame.specs.declared.response.Response.TheVariants as response
 use Rattle.modbus_frame.specs.FunctionCodes.{read_exception_status, diagnostics, get_comm_event_counter}
 use Rattle.modbus_frame.specs.Meaning.{Asked, Custom}
-use Rattle.modbus_pdu.specs.Writing.{word}
+use Rattle.modbus_pdu.specs.Word.{word}
 use Rattle.modbus_service.specs.declared.service.ServiceError.{ServiceError}
 use Rattle.modbus_service.specs.declared.service.ServiceError.TheVariants.{Exception, NoMemory}
 use Rattle.modbus_service.specs.Outcome.{Outcome, silence, reply, exception}
@@ -57,22 +57,22 @@ query_of (Custom code bytes) =
 query_of _ = None
 
 -- the bytes after the function code of a request that has no layout of its own
-abbrev pub bytes_of : Asked → List ℕ
-bytes_of (Custom code bytes) = bytes
-bytes_of _ = []
+abbrev pub query_pdu : Asked → List ℕ
+query_pdu (Custom code bytes) = bytes
+query_pdu _ = []
 
 -- The answer to a query: no exception output; no busy state and the events; the request again; the sub-function and its counter.
 abbrev pub query_reply : Counters → Asked → Query → Outcome
 query_reply c request Status = reply (response.Custom read_exception_status (0 ∷ []))
 query_reply c request Events = reply (response.Custom get_comm_event_counter (0 ∷ 0 ∷ word c.events))
-query_reply c request Echo = reply (response.Custom diagnostics (bytes_of request))
-query_reply c request Clear = reply (response.Custom diagnostics (bytes_of request))
+query_reply c request Echo = reply (response.Custom diagnostics (query_pdu request))
+query_reply c request Clear = reply (response.Custom diagnostics (query_pdu request))
 query_reply c request (Counter sub) = reply (response.Custom diagnostics (0 ∷ sub ∷ word (counter_of c sub)))
 query_reply c request (Wrong code) = exception code
 
 -- what is told of an outcome; memory may be refused for it
-abbrev pub Tells : Outcome → Result (Option Response) ServiceError → Type 0
-Tells outcome (Ok None) = outcome ≡ silence
-Tells outcome (Ok (Some response)) = outcome ≡ reply response
-Tells outcome (Err (Exception code)) = outcome ≡ exception code
-Tells outcome (Err NoMemory) = Unit {0}
+abbrev pub TellsOutcome : Outcome → Result (Option Response) ServiceError → Type 0
+TellsOutcome outcome (Ok None) = outcome ≡ silence
+TellsOutcome outcome (Ok (Some response)) = outcome ≡ reply response
+TellsOutcome outcome (Err (Exception code)) = outcome ≡ exception code
+TellsOutcome outcome (Err NoMemory) = Unit {0}

@@ -1,7 +1,7 @@
 //! The counters of a port (sections 6.8.1 and 6.9). Each stays at 65535.
 ghost use Rattle.std.specs.Prelude.{◌≡◌};
-ghost use Rattle.modbus_diagnostics.specs.Hearing.{is_message, is_own, clears, asks_events};
-ghost use Rattle.modbus_diagnostics.specs.Counting.{zeros, next_if, with_this, counted};
+ghost use Rattle.modbus_diagnostics.specs.Heard.{is_message, is_own, clears, asks_events};
+ghost use Rattle.modbus_diagnostics.specs.Counters.{zeros, next_if, with_this, counters_after};
 
 use crate::heard::Heard;
 use crate::query::Query;
@@ -103,7 +103,7 @@ impl Counters {
 
     /// After what was heard ended so.
     pub(crate) fn after(self, heard: Heard, end: Ended) -> Counters
-        ensures { result ≡ counted self heard end }
+        ensures { result ≡ counters_after self heard end }
     {
         if heard.clears() {
             return Counters::zero();

@@ -1,7 +1,7 @@
 //! What a port hears of its line.
 ghost use Rattle.std.specs.Prelude.{◌≡◌};
 ghost use Rattle.modbus_frame.specs.Meaning.{meaning};
-ghost use Rattle.modbus_diagnostics.specs.Hearing.{is_noise, is_unit, own, heard};
+ghost use Rattle.modbus_diagnostics.specs.Heard.{is_noise, is_unit, own, heard_as};
 
 use crate::query::{Query, query_of};
 use modbus_frame::{Request, Slave, SlaveId, SlaveRequest};
@@ -49,7 +49,7 @@ fn own(request: &Request<'_>) -> Heard
 
 /// What a port with these units hears.
 pub(crate) fn hear(units: &[SlaveId], message: &SlaveRequest<'_>) -> Heard
-    ensures { result ≡ heard units.now message.now.slave (meaning message.now.request) }
+    ensures { result ≡ heard_as units.now message.now.slave (meaning message.now.request) }
 {
     if is_noise(&message.request) {
         Heard::Noise

@@ -1,7 +1,7 @@
 //! Laws on what a port counts, tells and leaves to its service, about definitions alone. Each is proved by its contract.
 ghost use Rattle.std.specs.Prelude.{◌≡◌, ℕ, List, [], ◌∷◌, true, false};
 ghost use Rattle.modbus_standard.specs.Unread.{any_request_of};
-ghost use Rattle.modbus_diagnostics.specs.Hearing.{is_noise};
+ghost use Rattle.modbus_diagnostics.specs.Heard.{is_noise};
 ghost use Rattle.modbus_diagnostics.specs.Port.{CountsAll, TellsCounts, PortRuns};
 
 use modbus_service::Answerer;

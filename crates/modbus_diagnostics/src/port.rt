@@ -2,7 +2,7 @@
 ghost use Rattle.std.specs.Prelude.{◌≡◌};
 ghost use Rattle.modbus_frame.specs.Meaning.{meaning};
 ghost use Rattle.modbus_service.specs.Answering.{Keeps};
-ghost use Rattle.modbus_diagnostics.specs.Counting.{zeros};
+ghost use Rattle.modbus_diagnostics.specs.Counters.{zeros};
 ghost use Rattle.modbus_diagnostics.specs.Port.{told_end, counted_when, hearing, port_answering};
 
 use crate::counters::{Counters, Ended};

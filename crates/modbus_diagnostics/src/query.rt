@@ -1,7 +1,7 @@
 //! What a message asks a port itself (sections 6.7 to 6.9), and the answer.
 ghost use Rattle.std.specs.Prelude.{◌≡◌};
 ghost use Rattle.modbus_frame.specs.Meaning.{meaning};
-ghost use Rattle.modbus_diagnostics.specs.Queries.{counter_of, is_known, is_zero_word, diagnostics_query, without_data, query_of, bytes_of, query_reply, Tells};
+ghost use Rattle.modbus_diagnostics.specs.Queries.{counter_of, is_known, is_zero_word, diagnostics_query, without_data, query_of, query_pdu, query_reply, TellsOutcome};
 
 use crate::counters::Counters;
 use bytes::Bytes;
@@ -113,7 +113,7 @@ pub(crate) fn query_of(request: &Request<'_>) -> Option<Query>
 
 /// The bytes after the function code of a request that has no layout of its own.
 fn bytes_of<'a>(request: &'a Request<'_>) -> &'a [u8]
-    ensures { result.now ≡ bytes_of (meaning request.now) }
+    ensures { result.now ≡ query_pdu (meaning request.now) }
 {
     match request {
         Request::Custom(_, bytes) => bytes.as_slice(),
@@ -131,7 +131,7 @@ pub(crate) fn reply(
     request: &Request<'_>,
     query: Query,
 ) -> Result<Option<Response>, ServiceError>
-    ensures { Tells (query_reply counters (meaning request.now) query) result }
+    ensures { TellsOutcome (query_reply counters (meaning request.now) query) result }
 {
     match query {
         Query::Status => {

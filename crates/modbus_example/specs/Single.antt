@@ -1,39 +1,40 @@
 -- Each byte is a message.
 use Rattle.std.specs.Prelude.{◌≡◌, ◌≢◌, ℕ, List, [], ◌∷◌, ◌++◌, map, All}
+use Rattle.modbus_pdu.specs.SlavePdu.{SlavePdu}
 use Rattle.modbus_server.specs.declared.error.ProcessError.{ProcessError}
 use Rattle.modbus_server.specs.declared.error.ProcessError.TheVariants.{InvalidLength}
 use Rattle.modbus_pdu.specs.Limits.{max_pdu}
 use Rattle.modbus_pdu.specs.RequestOf.{request_of}
 use Rattle.modbus_server.specs.Framing.{Framing}
 
-abbrev pub bytes_of : List (ℕ × List ℕ) → List ℕ
+abbrev pub bytes_of : List SlavePdu → List ℕ
 bytes_of messages = map (λ m. m.0) messages
 
 -- the PDU of a message is the byte alone
-abbrev pub IsAlone : ℕ × List ℕ → Type 0
+abbrev pub IsAlone : SlavePdu → Type 0
 IsAlone message = message.1 ≡ message.0 ∷ []
 
 -- the bytes are those of these messages, and what is held
-abbrev pub Follows : List ℕ → List ℕ → List ℕ → List (ℕ × List ℕ) → Type 0
+abbrev pub Follows : List ℕ → List ℕ → List ℕ → List SlavePdu → Type 0
 Follows bytes cuts held taken = (bytes ≡ bytes_of taken ++ held) × All IsAlone taken
 
-abbrev pub IsNextByte : List ℕ → List ℕ → List (ℕ × List ℕ) → ℕ × List ℕ → Type 0
+abbrev pub IsNextByte : List ℕ → List ℕ → List SlavePdu → SlavePdu → Type 0
 IsNextByte bytes cuts taken message = (others : List ℕ) × Follows bytes cuts others (taken ++ message ∷ [])
 
-abbrev pub AreAllBytes : List ℕ → List ℕ → List ℕ → List (ℕ × List ℕ) → Type 0
+abbrev pub AreAllBytes : List ℕ → List ℕ → List ℕ → List SlavePdu → Type 0
 AreAllBytes bytes cuts left taken = (bytes ≡ bytes_of taken ++ left) × (left ≡ [])
 
 -- a byte 0 comes after these
-abbrev pub IsZeroAfter : List ℕ → List ℕ → List (ℕ × List ℕ) → ProcessError → Type 0
+abbrev pub IsZeroAfter : List ℕ → List ℕ → List SlavePdu → ProcessError → Type 0
 IsZeroAfter bytes cuts taken InvalidLength = (others : List ℕ) × (bytes ≡ bytes_of taken ++ 0 ∷ others)
 IsZeroAfter bytes cuts taken _ = ⊥
 
 -- the byte of a message is not 0
-abbrev pub IsSome : ℕ × List ℕ → Type 0
+abbrev pub IsSome : SlavePdu → Type 0
 IsSome message = message.0 ≢ 0
 
 -- the bytes are those of these messages, with no byte 0
-pub record AreOnlyBytes (bytes : List ℕ) (messages : List (ℕ × List ℕ)) : Type 0 where
+pub record AreOnlyBytes (bytes : List ℕ) (messages : List SlavePdu) : Type 0 where
   pub joined : bytes ≡ bytes_of messages
   pub some : All IsSome messages
   pub alone : All IsAlone messages

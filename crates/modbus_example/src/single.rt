@@ -4,9 +4,9 @@ ghost use Rattle.modbus_server.specs.declared.error.ProcessError.TheVariants.{In
 ghost use Rattle.modbus_example.specs.Single.{singles};
 
 use bytes::BytesMut;
-use modbus_frame::{EncodeError, ExceptionResponse, PduError, Request, Response, SlaveId};
+use modbus_frame::{EncodeError, ExceptionResponse, Front, PduError, Request, Response, SlaveId};
 use modbus_pdu::{MAX_PDU, decode_request, encode_response_result_pdu, response_result_pdu_size};
-use modbus_server::{Framing, Front, ProcessError};
+use modbus_server::{Framing, ProcessError};
 use std::alloc::{AllocError, Global};
 
 /// How many bytes a read has room for.

@@ -2,18 +2,18 @@
 use Rattle.std.proofs.Common.{◌≡◌, ◌≢◌, ℕ, ◌==◌, Bool, List, [], ◌∷◌, ◌++◌, Option, Some, None, refl, sym, ap, ◌∙◌, subst, inl, inr, eq-eqb, ne_eqb}
 use Rattle.std.specs.Prelude.{if◌then◌else◌}
 use Rattle.std.proofs.lemmas.Bool.{cases_eq}
-use Rattle.modbus_client.specs.Matching.{Answer}
+use Rattle.modbus_client.specs.Matches.{Answer}
 use Rattle.slab.specs.Slab.{Slab, get, SameValues}
 use Rattle.modbus_fleet.specs.declared.fleet.Told.{Told}
 use Rattle.modbus_fleet.specs.Device.{DeviceState, FleetMeaning, Polls}
-use Rattle.modbus_fleet.specs.Fleet.{listed, Goes, rests, polls, GoesAt, answers_of, EachGoes, PollsAt, OthersStay}
+use Rattle.modbus_fleet.specs.Fleet.{answer_list, Goes, rests, polls, GoesAt, answers_of, EachGoes, PollsAt, OthersStay}
 
 -- the answer of a poll, with the key of its device
 abbrev pub told_at : ℕ → Option Answer → Option Told
 told_at key None = None
 told_at key (Some answer) = Some (record { key = key; answer = answer })
 
-answers_here : (key : ℕ) (told : Option Answer) → answers_of key (told_at key told) ≡ listed told
+answers_here : (key : ℕ) (told : Option Answer) → answers_of key (told_at key told) ≡ answer_list told
 answers_here key None = refl
 answers_here key (Some answer) = ap (λ (b : Bool). if b then answer ∷ [] else []) (eq-eqb key key refl)
 
@@ -38,8 +38,8 @@ module _ {H I L : Type 0} (m : FleetMeaning H L) where
   after_at (Some x) (Some y) None answers first second = absurd second
   after_at (Some x) (Some y) (Some z) answers first second = after x y z answers first second
 
-  polled_at : (a b : Option (DeviceState I L)) (told : Option Answer) → PollsAt m a told b → GoesAt m a (listed told) b
-  polled_at None None told p = ap listed p.0
+  polled_at : (a b : Option (DeviceState I L)) (told : Option Answer) → PollsAt m a told b → GoesAt m a (answer_list told) b
+  polled_at None None told p = ap answer_list p.0
   polled_at None (Some y) told p = absurd (no_some y p.1)
     where
       no_some : (y : DeviceState I L) → Some y ≡ None → ⊥

@@ -7,9 +7,9 @@ use Rattle.modbus_frame.specs.Meaning.{Asked}
 use Rattle.modbus_frame.specs.declared.fault.Error.{Error}
 use Rattle.modbus_client.specs.Protocol.{Protocol, Heading}
 use Rattle.modbus_client.specs.Call.{CallState}
-use Rattle.modbus_client.specs.Matching.{Answer}
-use Rattle.modbus_client.specs.Polled.{PolledState, OpensPolled, CallPolled, AsksWhole}
-use Rattle.modbus_reconnect.specs.Owing.{leaves_nothing}
+use Rattle.modbus_client.specs.Matches.{Answer}
+use Rattle.modbus_client.specs.Polled.{PolledCallState, OpensPolled, CallPolled, AsksWhole}
+use Rattle.modbus_reconnect.specs.Owes.{leaves_nothing}
 use Rattle.modbus_fleet.specs.declared.conversation.Stand.{Stand}
 use Rattle.modbus_fleet.specs.declared.conversation.Stand.TheVariants.{Away, Idle, Calling}
 use Rattle.modbus_link.specs.Outside.{outside}
@@ -53,12 +53,12 @@ IsDue now (Idle link) = ⊥
 IsDue now (Calling link conversation) = conversation.deadline ≤ now
 
 -- the call that was opened, with what it asks and its deadline
-abbrev pub conversing : Asked → ℕ → Result PolledState Error → Result ConversationState Error
+abbrev pub conversing : Asked → ℕ → Result PolledCallState Error → Result ConversationState Error
 conversing asked deadline (Ok polled) = Ok (record { call = polled.call; asked = asked; deadline = deadline })
 conversing asked deadline (Err error) = Err error
 
-pub record Opens {H : Type 0} (P : Protocol H) (header : H) (asked : Asked) (turns deadline : ℕ) (result : Result ConversationState Error) : Type 0 where
-  pub opened : Result PolledState Error
+pub record OpensConversation {H : Type 0} (P : Protocol H) (header : H) (asked : Asked) (turns deadline : ℕ) (result : Result ConversationState Error) : Type 0 where
+  pub opened : Result PolledCallState Error
   pub opens : OpensPolled P header asked turns opened
   pub is : result ≡ conversing asked deadline opened
 
@@ -67,15 +67,15 @@ abbrev pub stand_with : {L : Type 0} → L → Result ConversationState Error �
 stand_with link (Ok conversation) = Calling link conversation
 stand_with link (Err error) = Idle link
 
-abbrev pub told_of : Result ConversationState Error → Result (Unit {0}) Error
-told_of (Ok conversation) = Ok tt
-told_of (Err error) = Err error
+abbrev pub result_told : Result ConversationState Error → Result (Unit {0}) Error
+result_told (Ok conversation) = Ok tt
+result_told (Err error) = Err error
 
 -- On a link that is idle a call is opened under the next header, to be given up when its time is over. On another nothing is done.
 pub record BeginsOn {H I L : Type 0} (P : Protocol H) (N : Heading H I) (asked : Asked) (now : ℕ) (old : DeviceState I L) (link : L) (told : Option (Result (Unit {0}) Error)) (new : DeviceState I L) : Type 0 where
   pub opened : Result ConversationState Error
-  pub opens : Opens P (N.header old.ids old.slave) asked old.turns (min (now + old.timeout) (2 ^ 64 - 1)) opened
-  pub tells : told ≡ Some (told_of opened)
+  pub opens : OpensConversation P (N.header old.ids old.slave) asked old.turns (min (now + old.timeout) (2 ^ 64 - 1)) opened
+  pub tells : told ≡ Some (result_told opened)
   pub stands : new ≡ record old { stand = stand_with link opened; ids = N.next old.ids }
 
 abbrev pub BeginsAs : {H I L : Type 0} → Protocol H → Heading H I → Asked → ℕ → DeviceState I L → Stand ConversationState L → Option (Result (Unit {0}) Error) → DeviceState I L → Type 0
@@ -106,7 +106,7 @@ left_by old link call (Ready answer) = if leaves_nothing old.asked answer call.h
 
 -- One poll of a call over the device's own link: what it read and wrote there, and what it answers, is what a call over that link alone does
 -- that is polled.
-pub record GoesOn {H L : Type 0} (P : Protocol H) (M : LinkMeaning L) (idle : L → ℕ) (link : L) (old : ConversationState) (new : Stand ConversationState L) (told : Option Answer) : Type 0 where
+pub record ConversationGoesOn {H L : Type 0} (P : Protocol H) (M : LinkMeaning L) (idle : L → ℕ) (link : L) (old : ConversationState) (new : Stand ConversationState L) (told : Option Answer) : Type 0 where
   pub answer : Polled Answer
   pub after : L
   pub call : CallState
@@ -117,10 +117,10 @@ pub record GoesOn {H L : Type 0} (P : Protocol H) (M : LinkMeaning L) (idle : L 
   pub stands : new ≡ left_by old after call answer
 
 -- A device whose call is under way is polled, and nothing else of it changes; another does nothing.
-abbrev pub PollsAs : {H I L : Type 0} → FleetMeaning H L → DeviceState I L → Stand ConversationState L → Option Answer → DeviceState I L → Type 0
-PollsAs {L = L} m old (Calling link conversation) told new =
-    (stand : Stand ConversationState L) × GoesOn m.protocol m.link m.idle link conversation stand told × (new ≡ record old { stand = stand })
-PollsAs m old stand told new = (told ≡ None) × (new ≡ old)
+abbrev pub PollsDevice : {H I L : Type 0} → FleetMeaning H L → DeviceState I L → Stand ConversationState L → Option Answer → DeviceState I L → Type 0
+PollsDevice {L = L} m old (Calling link conversation) told new =
+    (stand : Stand ConversationState L) × ConversationGoesOn m.protocol m.link m.idle link conversation stand told × (new ≡ record old { stand = stand })
+PollsDevice m old stand told new = (told ≡ None) × (new ≡ old)
 
 abbrev pub Polls : {H I L : Type 0} → FleetMeaning H L → DeviceState I L → Option Answer → DeviceState I L → Type 0
-Polls m old told new = PollsAs m old old.stand told new
+Polls m old told new = PollsDevice m old old.stand told new

@@ -3,7 +3,7 @@ use Rattle.std.specs.Prelude.{◌≡◌, ◌≢◌, ℕ, ◌==◌, Bool, List, [
 use Rattle.modbus_frame.specs.Meaning.{Asked}
 use Rattle.modbus_frame.specs.declared.fault.Error.{Error}
 use Rattle.modbus_client.specs.Protocol.{Protocol, Heading}
-use Rattle.modbus_client.specs.Matching.{Answer}
+use Rattle.modbus_client.specs.Matches.{Answer}
 use Rattle.slab.specs.Slab.{Slab, get}
 use Rattle.modbus_fleet.specs.declared.conversation.Stand.TheVariants.{Away, Idle}
 use Rattle.modbus_fleet.specs.declared.fleet.Told.{Told}
@@ -13,14 +13,14 @@ pub record FleetState (I L S : Type 0) : Type 0 where
   pub devices : Slab (DeviceState I L)
   pub readiness : S
 
-abbrev pub listed : Option Answer → List Answer
-listed None = []
-listed (Some answer) = answer ∷ []
+abbrev pub answer_list : Option Answer → List Answer
+answer_list None = []
+answer_list (Some answer) = answer ∷ []
 
 -- A device goes on by polls alone, one after another, and these are just the answers that they gave.
 pub data Goes {H I L : Type 0} (m : FleetMeaning H L) (old : DeviceState I L) : List Answer → DeviceState I L → Type 0 where
   rests : Goes m old [] old
-  polls : (mid new : DeviceState I L) (answers : List Answer) (told : Option Answer) → Goes m old answers mid → Polls m mid told new → Goes m old (answers ++ listed told) new
+  polls : (mid new : DeviceState I L) (answers : List Answer) (told : Option Answer) → Goes m old answers mid → Polls m mid told new → Goes m old (answers ++ answer_list told) new
 
 -- the same of what stands under a key; where no device is, none comes and nothing is told
 abbrev pub GoesAt : {H I L : Type 0} → FleetMeaning H L → Option (DeviceState I L) → List Answer → Option (DeviceState I L) → Type 0
@@ -55,9 +55,9 @@ abbrev pub OthersStay : {X : Type 0} → ℕ → Slab X → Slab X → Type 0
 OthersStay key old new = (other : ℕ) → other ≢ key → get new other ≡ get old other
 
 -- a device under a key has a new link, on which nothing was sent
-abbrev pub linked : {I L : Type 0} → L → Option (DeviceState I L) → Option (DeviceState I L)
-linked link None = None
-linked link (Some device) = Some (record device { stand = Idle link })
+abbrev pub with_link : {I L : Type 0} → L → Option (DeviceState I L) → Option (DeviceState I L)
+with_link link None = None
+with_link link (Some device) = Some (record device { stand = Idle link })
 
 -- a call is under way under a key that is to be given up at this time
 abbrev pub IsDueAt : {I L : Type 0} → ℕ → Option (DeviceState I L) → Type 0

@@ -2,7 +2,7 @@
 ghost use Rattle.std.specs.Prelude.{◌≡◌, ◌↔◌, ◌≤◌, IsTrue};
 ghost use Rattle.modbus_frame.specs.Meaning.{meaning};
 ghost use Rattle.modbus_link.specs.Line.{meaning_of};
-ghost use Rattle.modbus_fleet.specs.Device.{Opens, GoesOn};
+ghost use Rattle.modbus_fleet.specs.Device.{OpensConversation, ConversationGoesOn};
 
 use modbus_client::{PolledCall, Protocol};
 use modbus_frame::{Error, Request, Response};
@@ -55,7 +55,7 @@ impl<'a, P: Protocol> Conversation<'a, P> {
         turns: u64,
         deadline: u64,
     ) -> Result<Conversation<'a, P>, Error>
-        ensures { Opens P.protocol header (meaning request.entry) turns deadline result }
+        ensures { OpensConversation P.protocol header (meaning request.entry) turns deadline result }
     {
         match PolledCall::open(alloc, header, &request, turns) {
             Err(error) => Err(error),
@@ -82,7 +82,7 @@ impl<'a, P: Protocol> Conversation<'a, P> {
         Stand<Conversation<'a, P>, L>,
         Option<modbus_frame::Result<Response>>,
     )
-        ensures { GoesOn P.protocol (meaning_of L.input L.output L.line) L.not_ready link
+        ensures { ConversationGoesOn P.protocol (meaning_of L.input L.output L.line) L.not_ready link
             self.entry result.0 result.1 }
     {
         let Conversation {

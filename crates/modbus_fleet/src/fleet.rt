@@ -5,7 +5,7 @@ ghost use Rattle.modbus_link.specs.Line.{meaning_of};
 ghost use Rattle.modbus_link.specs.Outside.{Rose};
 ghost use Rattle.slab.specs.Slab.{get, slab_len, Updates, SameValues};
 ghost use Rattle.modbus_fleet.specs.Device.{fleet_by};
-ghost use Rattle.modbus_fleet.specs.Fleet.{EachGoes, PollsAt, BeginsAt, OthersStay, linked, IsDueAt, given_up, ExpiresOne};
+ghost use Rattle.modbus_fleet.specs.Fleet.{EachGoes, PollsAt, BeginsAt, OthersStay, with_link, IsDueAt, given_up, ExpiresOne};
 
 use crate::device::Device;
 use modbus_client::Protocol;
@@ -102,7 +102,7 @@ impl<'a, P: Protocol, L: PolledLink + Drop, S: Readiness<L>> Fleet<'a, P, L, S> 
     /// `Failed`, only where the count of faults of the source of readiness rose: the link can't be watched, and is dropped.
     pub fn connect(&mut self, key: usize, mut link: L) -> Result<(), Failed>
         ensures connects { OnOk result (get self.new.devices key
-            ≡ linked link (get self.old.devices key)) }
+            ≡ with_link link (get self.old.devices key)) }
         ensures others { OthersStay key self.old.devices self.new.devices }
         ensures stays { OnErr result (SameValues self.old.devices self.new.devices) }
         ensures later { S.faults self.old.readiness ≤ S.faults self.new.readiness }

@@ -10,6 +10,7 @@ pub use bytes;
 
 mod code;
 mod fault;
+mod front;
 pub mod function_code;
 mod identification;
 pub mod laws;
@@ -27,6 +28,7 @@ pub use crate::fault::{
     ConnectFault, EncodeError, Error, HeaderSeen, PduError, ProtocolError, Reason, ShutdownFault,
     TransportError,
 };
+pub use crate::front::Front;
 pub use crate::identification::{
     DeviceIdObject, DeviceIdObjects, MoreFollows, NextObjectId, ObjectId,
     ReadDeviceIdentificationResponse,

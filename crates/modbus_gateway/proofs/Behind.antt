@@ -13,7 +13,7 @@ use Rattle.modbus_server.specs.Answer.{WantsFor}
 use Rattle.modbus_server.specs.Served.{past, Stands, Halt, remaining, broken, refused, too_long, Halts, Served, Unwritten, Wanting, WantsMemory, EndsAs}
 use Rattle.modbus_server.specs.Step.{Ran}
 use Rattle.modbus_server.specs.Complete.{Completes}
-use Rattle.modbus_gateway.specs.Forwarding.{behind}
+use Rattle.modbus_gateway.specs.Forwards.{behind}
 use Rattle.modbus_server.specs.Moment.{moment}
 
 -- what each step of an answerer does to what is viewed: it is a step of the other, and keeps the name

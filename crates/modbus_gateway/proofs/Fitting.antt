@@ -17,7 +17,7 @@ use Rattle.modbus_server.specs.Served.{Served, Halts, broken, too_long}
 use Rattle.modbus_server.specs.Complete.{RepliesFit}
 use Rattle.modbus_server.specs.Tcp.{tcp}
 use Rattle.modbus_gateway.specs.Answer.{LineAnswer, of_call, of_sending, outcome_of}
-use Rattle.modbus_gateway.specs.Forwarding.{LineState, forwards}
+use Rattle.modbus_gateway.specs.Forwards.{LineState, forwards}
 
 -- an outcome that fits, or none
 abbrev FitsIfSome : ℕ → Option Outcome → Type 0

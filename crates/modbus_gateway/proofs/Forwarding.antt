@@ -23,9 +23,9 @@ use Rattle.modbus_server.specs.Step.{Ran}
 use Rattle.modbus_server.specs.Tcp.{tcp, AreAllAdus}
 use Rattle.modbus_service.specs.Outcome.{Outcome, code_of}
 use Rattle.modbus_gateway.specs.Answer.{outcome_of}
-use Rattle.modbus_gateway.specs.Forwarding.{LineState, forwards}
-use Rattle.modbus_gateway.specs.Records.{LineView, line_of, LineRecord, AreJoined, told_of, told_in, reply_to, record_reply, replies}
-use Rattle.modbus_gateway.specs.Forwarded.{asked_by, StopsAfter, HasOutcome, last_reply, SendsAs, InRecords, Forwarded}
+use Rattle.modbus_gateway.specs.Forwards.{LineState, forwards}
+use Rattle.modbus_gateway.specs.Records.{LineView, view_of, LineRecord, AreJoined, record_told, told_in, reply_to, record_reply, replies}
+use Rattle.modbus_gateway.specs.Forwarded.{question_asked, StopsAfter, HasOutcome, last_reply, SendsAs, InRecords, Forwarded}
 use Rattle.modbus_gateway.proofs.Fitting.{none_too_long, none_crowded}
 use Rattle.modbus_gateway.proofs.Recording.{same_reply, joined_recorded, run_in_records, want_in_record}
 use Rattle.modbus_server.specs.Moment.{moment}
@@ -35,26 +35,26 @@ abbrev asks_told : Header × Asked × Option Outcome → server.Question tcp
 asks_told told = (told.0, Ok told.1)
 
 -- what the records of a run tell of its exchanges
-same_asks : (xs : List (Exchange tcp)) (rs : List LineRecord) → map told_of rs ≡ map told_in xs → map (asks tcp) xs ≡ map asked_by rs
+same_asks : (xs : List (Exchange tcp)) (rs : List LineRecord) → map record_told rs ≡ map told_in xs → map (asks tcp) xs ≡ map question_asked rs
 same_asks [] [] e = refl
 same_asks (x ∷ xs) [] e = cc
 same_asks [] (r ∷ rs) e = cc
 same_asks (x ∷ xs) (r ∷ rs) e =
-    let first : told_of r ≡ told_in x = cc in
-    let one : asks tcp x ≡ asked_by r = sym (ap asks_told first) in
-    let rest : map (asks tcp) xs ≡ map asked_by rs = same_asks xs rs (cc) in
+    let first : record_told r ≡ told_in x = cc in
+    let one : asks tcp x ≡ question_asked r = sym (ap asks_told first) in
+    let rest : map (asks tcp) xs ≡ map question_asked rs = same_asks xs rs (cc) in
     cc
 
-all_told : (xs : List (Exchange tcp)) (rs : List LineRecord) → map told_of rs ≡ map told_in xs → All HasOutcome rs
+all_told : (xs : List (Exchange tcp)) (rs : List LineRecord) → map record_told rs ≡ map told_in xs → All HasOutcome rs
 all_told xs [] e = All-nil HasOutcome
 all_told [] (r ∷ rs) e = cc
 all_told (x ∷ xs) (r ∷ rs) e =
-    let first : told_of r ≡ told_in x = cc in
+    let first : record_told r ≡ told_in x = cc in
     let told : outcome_of r.answer ≡ Some x.outcome = ap (λ (t : Header × Asked × Option Outcome). t.2) first in
     let one : HasOutcome r = λ none. cc in
     All-cons HasOutcome r rs one (all_told xs rs (cc))
 
-same_last : (xs : List (Exchange tcp)) (rs : List LineRecord) → map told_of rs ≡ map told_in xs → server.last_reply tcp xs ≡ last_reply rs
+same_last : (xs : List (Exchange tcp)) (rs : List LineRecord) → map record_told rs ≡ map told_in xs → server.last_reply tcp xs ≡ last_reply rs
 same_last [] [] e = refl
 same_last (x ∷ xs) [] e = cc
 same_last [] (r ∷ rs) e = cc
@@ -81,7 +81,7 @@ module _ {L : Type 0} (M : LinkMeaning L) (fed cuts : List ℕ) (old new : LineS
   -- by a run over the first ADUs
   by_run : (result : Result (Unit {0}) ProcessError) (adus : List (Message tcp)) (xs : List (Exchange tcp)) → map (asked_of tcp) adus ≡ map (asks tcp) xs
       → Run tcp (forwards M) old xs new → StopsAfter fed cuts adus result
-      → ((rs : List LineRecord) → map told_of rs ≡ map told_in xs → output tcp xs ≡ replies rs → SendsAs rs sent result)
+      → ((rs : List LineRecord) → map record_told rs ≡ map told_in xs → output tcp xs ≡ replies rs → SendsAs rs sent result)
       → InRecords M old new fed cuts sent result
   by_run result adus xs asked run stops sends =
       let r = run_in_records M old new xs run in
@@ -131,20 +131,20 @@ module _ {L : Type 0} (M : LinkMeaning L) (fed cuts : List ℕ) (old new : LineS
     by_want next request (rest, joined, whole) is wants =
         let r = run_in_records M old w.ends w.exchanges w.stood.run in
         let last = want_in_record M w.ends new next.0 request wants in
-        let view : AreJoined old.turns (line_of M w.ends) (last.row ∷ []) (line_of M new) =
-        subst (λ n. AreJoined n (line_of M w.ends) (last.row ∷ []) (line_of M new)) r.turns last.recorded.joined in
-        let all = joined_more old.turns (line_of M old) (line_of M w.ends) (line_of M new) r.records last.row r.recorded.joined view in
+        let view : AreJoined old.turns (view_of M w.ends) (last.row ∷ []) (view_of M new) =
+        subst (λ n. AreJoined n (view_of M w.ends) (last.row ∷ []) (view_of M new)) r.turns last.recorded.joined in
+        let all = joined_more old.turns (view_of M old) (view_of M w.ends) (view_of M new) r.records last.row r.recorded.joined view in
         let none : outcome_of last.row.answer ≡ None = ap (λ (t : Header × Asked × Option Outcome). t.2) last.told in
         let no_reply : record_reply last.row ≡ [] = ap (reply_to last.row.header (code_of last.row.request)) none in
-        let asked_last : asked_of tcp next ≡ asked_by last.row = ap (λ (request' : Result Asked Reason). (next.0, request')) is ∙ sym (ap asks_told last.told) in
+        let asked_last : asked_of tcp next ≡ question_asked last.row = ap (λ (request' : Result Asked Reason). (next.0, request')) is ∙ sym (ap asks_told last.told) in
         record {
           adus = w.stood.taken ++ next ∷ [];
           records = r.records ++ last.row ∷ [];
           asked = map-append (asked_of tcp) w.stood.taken (next ∷ [])
               ∙ ap (λ (front : List (server.Question tcp)). front ++ asked_of tcp next ∷ []) (w.stood.asked ∙ same_asks w.exchanges r.records r.told)
-              ∙ ap (λ (one : server.Question tcp). map asked_by r.records ++ one ∷ []) asked_last
-              ∙ sym (map-append asked_by r.records (last.row ∷ []));
-          recorded = joined_recorded old.turns (line_of M old) (r.records ++ last.row ∷ []) (line_of M new) all;
+              ∙ ap (λ (one : server.Question tcp). map question_asked r.records ++ one ∷ []) asked_last
+              ∙ sym (map-append question_asked r.records (last.row ∷ []));
+          recorded = joined_recorded old.turns (view_of M old) (r.records ++ last.row ∷ []) (view_of M new) all;
           turns = last.turns ∙ r.turns;
           timeout = last.timeout ∙ r.timeout;
           stops = (rest, joined, whole);

@@ -4,20 +4,20 @@ use Rattle.std.specs.Prelude.{Option, None}
 use Rattle.std.proofs.lemmas.List.Elements.{All-cons, All-nil, All-head, All-tail}
 use Rattle.std.proofs.lemmas.List.Concat.{flat_map-cons}
 use Rattle.modbus_link.specs.Line.{LinkMeaning}
-use Rattle.modbus_link.specs.Passing.{Passes, passes_none, passes_both}
+use Rattle.modbus_link.specs.Passes.{Passes, passes_none, passes_both}
 use Rattle.modbus_frame.specs.Meaning.{Asked}
 use Rattle.modbus_frame.specs.declared.tcp.Header.{Header}
 use Rattle.modbus_frame.specs.declared.fault.Error.{Error}
 use Rattle.modbus_service.specs.Outcome.{Outcome, code_of}
 use Rattle.modbus_server.specs.Exchanges.{Exchange, Run, output, reply_of}
 use Rattle.modbus_server.specs.Tcp.{tcp}
-use Rattle.modbus_client.specs.Matching.{Answer}
-use Rattle.modbus_client.specs.Calling.{Called, SentAlone}
+use Rattle.modbus_client.specs.Matches.{Answer}
+use Rattle.modbus_client.specs.Calls.{Called, SentAlone}
 use Rattle.modbus_client.specs.Rtu.{rtu_protocol, rtu_heading}
-use Rattle.modbus_client.specs.Sending.{WritesRequest}
+use Rattle.modbus_client.specs.Sends.{WritesRequest}
 use Rattle.modbus_gateway.specs.Answer.{LineAnswer, of_call, of_sending, outcome_of}
-use Rattle.modbus_gateway.specs.Forwarding.{LineState, addressed, AsksLine, Exchanges, forwards}
-use Rattle.modbus_gateway.specs.Records.{LineView, line_of, LineRecord, line_frame, AsksAs, IsUnconnected, IsIdle, ExchangesAs, IsRecord, AreJoined, written_in, read_in, cuts_in, WritesAs, WritesFrame, Stays, Recorded, told_of, told_in, reply_to, record_reply, replies, RunInRecords, WantInRecord}
+use Rattle.modbus_gateway.specs.Forwards.{LineState, to_unit, AsksLine, Exchanges, forwards}
+use Rattle.modbus_gateway.specs.Records.{LineView, view_of, LineRecord, line_frame, AsksAs, IsUnconnected, IsIdle, ExchangesAs, IsRecord, AreJoined, written_in, read_in, cuts_in, RecordWrites, WritesFrame, Stays, Recorded, record_told, told_in, reply_to, record_reply, replies, RunInRecords, WantInRecord}
 use Rattle.modbus_link.specs.Outside.{outside}
 
 -- what a record of an exchange tells of it
@@ -40,12 +40,12 @@ module _ {L : Type 0} (M : LinkMeaning L) (old new : LineState L) (header : Head
     sent = sent;
     fed = fed;
     made = made;
-    before = line_of M old;
-    after = line_of M new;
+    before = view_of M old;
+    after = view_of M new;
   }
 
   made_of : (answer : LineAnswer) (sent fed : List ℕ) (made : List (ℕ × ℕ)) → ExchangesAs old.turns old.is_connected (row_with answer sent fed made)
-      → RecordOf old.turns (line_of M old) (line_of M new) header request answer
+      → RecordOf old.turns (view_of M old) (view_of M new) header request answer
   made_of answer sent fed made is = record {
     row = row_with answer sent fed made;
     header_is = refl;
@@ -57,31 +57,31 @@ module _ {L : Type 0} (M : LinkMeaning L) (old new : LineState L) (header : Head
   }
 
   -- nothing was done over a line that is not connected
-  idle : (answer : LineAnswer) → old.is_connected ≡ false → IsUnconnected header.unit_id answer → line_of M new ≡ line_of M old
-      → RecordOf old.turns (line_of M old) (line_of M new) header request answer
+  idle : (answer : LineAnswer) → old.is_connected ≡ false → IsUnconnected header.unit_id answer → view_of M new ≡ view_of M old
+      → RecordOf old.turns (view_of M old) (view_of M new) header request answer
   idle answer off none same =
       let is : IsIdle (row_with answer [] [] []) = record { answer = none; sent = refl; fed = refl; made = refl; line = same } in
       made_of answer [] [] [] (subst (λ on. ExchangesAs old.turns on (row_with answer [] [] [])) (sym off) is)
 
-  by_call : (answer : Answer) (on : Bool) → old.is_connected ≡ on → header.unit_id ≢ 0 → Called rtu_protocol rtu_heading M (addressed header.unit_id old) request answer new
-      → RecordOf old.turns (line_of M old) (line_of M new) header request (of_call answer)
+  by_call : (answer : Answer) (on : Bool) → old.is_connected ≡ on → header.unit_id ≢ 0 → Called rtu_protocol rtu_heading M (to_unit header.unit_id old) request answer new
+      → RecordOf old.turns (view_of M old) (view_of M new) header request (of_call answer)
   by_call answer true e single c =
       let ran = c.ran e in
       let row = row_with (of_call answer) ran.sent ran.fed ran.made in
       let asks : AsksAs old.turns row (of_call answer) = (single, new.held, ran, refl, refl, refl) in
       made_of (of_call answer) ran.sent ran.fed ran.made (subst (λ on. ExchangesAs old.turns on row) (sym e) (asks, c.connected e))
-  by_call answer false e single c = idle (of_call answer) e (single, (c.disconnected e).0) (ap (line_of M) (c.disconnected e).1)
+  by_call answer false e single c = idle (of_call answer) e (single, (c.disconnected e).0) (ap (view_of M) (c.disconnected e).1)
 
-  by_sending : (answer : Result (Unit {0}) Error) (on : Bool) → old.is_connected ≡ on → header.unit_id ≡ 0 → SentAlone rtu_protocol rtu_heading M (addressed header.unit_id old) request answer new
-      → RecordOf old.turns (line_of M old) (line_of M new) header request (of_sending answer)
+  by_sending : (answer : Result (Unit {0}) Error) (on : Bool) → old.is_connected ≡ on → header.unit_id ≡ 0 → SentAlone rtu_protocol rtu_heading M (to_unit header.unit_id old) request answer new
+      → RecordOf old.turns (view_of M old) (view_of M new) header request (of_sending answer)
   by_sending answer true e all c =
       let ran = c.sent e in
       let row = row_with (of_sending answer) ran.sent [] [] in
       let asks : AsksAs old.turns row (of_sending answer) = (all, new.held, ran, refl, refl, refl) in
       made_of (of_sending answer) ran.sent [] [] (subst (λ on. ExchangesAs old.turns on row) (sym e) (asks, c.connected e))
-  by_sending answer false e all c = idle (of_sending answer) e (all, (c.disconnected e).0) (ap (line_of M) (c.disconnected e).1)
+  by_sending answer false e all c = idle (of_sending answer) e (all, (c.disconnected e).0) (ap (view_of M) (c.disconnected e).1)
 
-  pub record_of : (answer : LineAnswer) → AsksLine M old header.unit_id request answer new → RecordOf old.turns (line_of M old) (line_of M new) header request answer
+  pub record_of : (answer : LineAnswer) → AsksLine M old header.unit_id request answer new → RecordOf old.turns (view_of M old) (view_of M new) header request answer
   record_of (of_call answer) (single, c) = by_call answer old.is_connected refl single c
   record_of (of_sending answer) (all, c) = by_sending answer old.is_connected refl all c
 
@@ -93,7 +93,7 @@ module _ {L : Type 0} (M : LinkMeaning L) (old new : LineState L) (header : Head
 pub record RecordsOf (turns : ℕ) (start end : LineView) (exchanges : List (Exchange tcp)) : Type 0 where
   pub rows : List LineRecord
   pub joined : AreJoined turns start rows end
-  pub told : map told_of rows ≡ map told_in exchanges
+  pub told : map record_told rows ≡ map told_in exchanges
 
 module _ {L : Type 0} (M : LinkMeaning L) where
   pub run_keeps : (xs : List (Exchange tcp)) (start end : LineState L) → Run tcp (forwards M) start xs end → (end.turns ≡ start.turns) × (end.timeout ≡ start.timeout)
@@ -103,16 +103,16 @@ module _ {L : Type 0} (M : LinkMeaning L) where
       let later = run_keeps xs next end rest in
       (later.0 ∙ first.0, later.1 ∙ first.1)
 
-  pub run_records : (xs : List (Exchange tcp)) (start end : LineState L) → Run tcp (forwards M) start xs end → RecordsOf start.turns (line_of M start) (line_of M end) xs
-  run_records [] start end e = record { rows = []; joined = ap (line_of M) e; told = refl }
+  pub run_records : (xs : List (Exchange tcp)) (start end : LineState L) → Run tcp (forwards M) start xs end → RecordsOf start.turns (view_of M start) (view_of M end) xs
+  run_records [] start end e = record { rows = []; joined = ap (view_of M) e; told = refl }
   run_records (x ∷ xs) start end (next, (answer, asks, told), rest) =
       let first = record_of M start next x.header x.request answer asks in
       let turns : next.turns ≡ start.turns = (keeps M start next x.header x.request answer asks).0 in
       let later = run_records xs next end rest in
-      let tail : AreJoined start.turns first.row.after later.rows (line_of M end) =
-      subst (λ view. AreJoined start.turns view later.rows (line_of M end)) (sym first.ends)
-      (subst (λ n. AreJoined n (line_of M next) later.rows (line_of M end)) turns later.joined) in
-      let head : told_of first.row ≡ told_in x = cc (ap outcome_of first.answer_is ∙ told, first.header_is, first.request_is) in
+      let tail : AreJoined start.turns first.row.after later.rows (view_of M end) =
+      subst (λ view. AreJoined start.turns view later.rows (view_of M end)) (sym first.ends)
+      (subst (λ n. AreJoined n (view_of M next) later.rows (view_of M end)) turns later.joined) in
+      let head : record_told first.row ≡ told_in x = cc (ap outcome_of first.answer_is ∙ told, first.header_is, first.request_is) in
       record {
         rows = first.row ∷ later.rows;
         joined = (first.begins, first.is_record, tail);
@@ -138,11 +138,11 @@ module _ (turns : ℕ) (r : LineRecord) where
       (subst (λ bytes. Passes (outside r.before.input r.before.output) (outside r.after.input r.after.output) [] [] bytes) (sym i.sent)
       (subst (λ (view : LineView). Passes (outside r.before.input r.before.output) (outside view.input view.output) [] [] []) (sym i.line) (passes_none (outside r.before.input r.before.output)))))
 
-  frame_of : (answer : LineAnswer) → AsksAs turns r answer → WritesAs r answer
+  frame_of : (answer : LineAnswer) → AsksAs turns r answer → RecordWrites r answer
   frame_of (of_call answer) (single, held, ran, fed, made, sent) = subst (λ bytes. WritesRequest (line_frame r) bytes answer) sent ran.writes
   frame_of (of_sending answer) (all, held, ran, fed, made, sent) = subst (λ bytes. WritesRequest (line_frame r) bytes answer) sent ran.writes
 
-  no_frame : (answer : LineAnswer) → IsUnconnected r.header.unit_id answer → r.sent ≡ [] → WritesAs r answer
+  no_frame : (answer : LineAnswer) → IsUnconnected r.header.unit_id answer → r.sent ≡ [] → RecordWrites r answer
   no_frame (of_call answer) (single, e) none = subst (λ a. WritesRequest (line_frame r) r.sent a) (sym e) none
   no_frame (of_sending answer) (all, e) none = subst (λ a. WritesRequest (line_frame r) r.sent a) (sym e) none
 
@@ -203,19 +203,19 @@ joined_recorded turns start (r ∷ rs) end (begins, is, later) =
     }
 
 -- the reply to an exchange is that to its record
-pub same_reply : (x : Exchange tcp) (r : LineRecord) → told_of r ≡ told_in x → reply_of tcp x ≡ record_reply r
+pub same_reply : (x : Exchange tcp) (r : LineRecord) → record_told r ≡ told_in x → reply_of tcp x ≡ record_reply r
 same_reply x r e = ap reply_told (sym e)
   where
     reply_told : Header × Asked × Option Outcome → List ℕ
     reply_told (header, request, told) = reply_to header (code_of request) told
 
 -- the output of exchanges is the replies to their records
-pub same_output : (xs : List (Exchange tcp)) (rs : List LineRecord) → map told_of rs ≡ map told_in xs → output tcp xs ≡ replies rs
+pub same_output : (xs : List (Exchange tcp)) (rs : List LineRecord) → map record_told rs ≡ map told_in xs → output tcp xs ≡ replies rs
 same_output [] [] e = refl
 same_output (x ∷ xs) [] e = cc
 same_output [] (r ∷ rs) e = cc
 same_output (x ∷ xs) (r ∷ rs) e =
-    let first : told_of r ≡ told_in x = cc in
+    let first : record_told r ≡ told_in x = cc in
     let one : reply_of tcp x ≡ record_reply r = same_reply x r first in
     let rest : output tcp xs ≡ replies rs = same_output xs rs (cc) in
     flat_map-cons (reply_of tcp) x xs ∙ ap (λ bytes. bytes ++ output tcp xs) one ∙ ap (λ bytes. record_reply r ++ bytes) rest ∙ sym (flat_map-cons record_reply r rs)
@@ -226,7 +226,7 @@ run_in_records M old new xs run =
     let kept = run_keeps M xs old new run in
     record {
       records = rs.rows;
-      recorded = joined_recorded old.turns (line_of M old) rs.rows (line_of M new) rs.joined;
+      recorded = joined_recorded old.turns (view_of M old) rs.rows (view_of M new) rs.joined;
       told = rs.told;
       output = same_output xs rs.rows rs.told;
       turns = kept.0;
@@ -240,7 +240,7 @@ want_in_record M old new header request (answer, asks, none) =
     let kept = keeps M old new header request answer asks in
     record {
       row = row.row;
-      recorded = joined_recorded old.turns (line_of M old) (row.row ∷ []) (line_of M new) (row.begins, row.is_record, sym row.ends);
+      recorded = joined_recorded old.turns (view_of M old) (row.row ∷ []) (view_of M new) (row.begins, row.is_record, sym row.ends);
       told = cc (ap outcome_of row.answer_is ∙ none, row.header_is, row.request_is);
       turns = kept.0;
       timeout = kept.1;

@@ -12,7 +12,7 @@ use Rattle.modbus_pdu.specs.ResponsePdu.{response_pdu}
 use Rattle.modbus_service.specs.declared.service.ServiceError.{ServiceError}
 use Rattle.modbus_service.specs.declared.service.ServiceError.TheVariants as service
 use Rattle.modbus_service.specs.Outcome.{Outcome, silence, reply, exception}
-use Rattle.modbus_client.specs.Matching.{Answer}
+use Rattle.modbus_client.specs.Matches.{Answer}
 
 -- what the client of the line answers: to a call of one slave, or to a request that was sent to all of them
 pub data LineAnswer : Type 0 where
@@ -20,22 +20,22 @@ pub data LineAnswer : Type 0 where
   of_sending : Result (Unit {0}) Error → LineAnswer
 
 -- a response of the line goes back as it is; one whose PDU does not fit is no answer of the device
-abbrev pub returned : Response → Outcome
-returned response = if nat_le (length (response_pdu response)) max_pdu then reply response else exception GatewayTargetDevice
+abbrev pub outcome_of_response : Response → Outcome
+outcome_of_response response = if nat_le (length (response_pdu response)) max_pdu then reply response else exception GatewayTargetDevice
 
 -- which exception tells a fault of the line: a request that is too long has a value that is not allowed; a line that is not connected is
 -- no path; for each other fault the device did not answer
-abbrev pub exception_for : TransportError → ExceptionCode
-exception_for transport.NotConnected = GatewayPathUnavailable
-exception_for (transport.RequestTooLong size) = IllegalDataValue
-exception_for _ = GatewayTargetDevice
+abbrev pub exception_of_error : TransportError → ExceptionCode
+exception_of_error transport.NotConnected = GatewayPathUnavailable
+exception_of_error (transport.RequestTooLong size) = IllegalDataValue
+exception_of_error _ = GatewayTargetDevice
 
 -- the outcome of a call; none where memory was wanting
 abbrev pub outcome_of_call : Answer → Option Outcome
-outcome_of_call (Ok (Ok response)) = Some (returned response)
+outcome_of_call (Ok (Ok response)) = Some (outcome_of_response response)
 outcome_of_call (Ok (Err code)) = Some (exception code)
 outcome_of_call (Err (Protocol fault)) = Some (exception GatewayTargetDevice)
-outcome_of_call (Err (Transport fault)) = Some (exception (exception_for fault))
+outcome_of_call (Err (Transport fault)) = Some (exception (exception_of_error fault))
 outcome_of_call (Err NoMemory) = None
 
 -- the outcome of a broadcast, which nobody answers, whatever the line did; none where memory was wanting
@@ -50,8 +50,8 @@ outcome_of (of_call answer) = outcome_of_call answer
 outcome_of (of_sending answer) = outcome_of_sending answer
 
 -- an outcome, or that memory was wanting, as what answers requests gives it
-abbrev pub given : Option Outcome → Result (Option Response) ServiceError
-given (Some silence) = Ok None
-given (Some (reply response)) = Ok (Some response)
-given (Some (exception code)) = Err (service.Exception code)
-given None = Err service.NoMemory
+abbrev pub result_given : Option Outcome → Result (Option Response) ServiceError
+result_given (Some silence) = Ok None
+result_given (Some (reply response)) = Ok (Some response)
+result_given (Some (exception code)) = Err (service.Exception code)
+result_given None = Err service.NoMemory

@@ -17,16 +17,16 @@ use Rattle.modbus_server.specs.Served.{IsEndOf}
 use Rattle.modbus_server.specs.Step.{Ran}
 use Rattle.modbus_server.specs.Tcp.{tcp, AreAllAdus, IsNextAdu, IsFaultAfter}
 use Rattle.modbus_gateway.specs.Answer.{outcome_of}
-use Rattle.modbus_gateway.specs.Forwarding.{LineState, forwards}
-use Rattle.modbus_gateway.specs.Records.{line_of, LineRecord, Recorded, record_reply, replies}
+use Rattle.modbus_gateway.specs.Forwards.{LineState, forwards}
+use Rattle.modbus_gateway.specs.Records.{view_of, LineRecord, Recorded, record_reply, replies}
 use Rattle.modbus_server.specs.Moment.{Moment}
 
 abbrev Adus : Type 0
 Adus = List (Header × List ℕ)
 
 -- what was asked in a record
-abbrev pub asked_by : LineRecord → Header × Result Asked Reason
-asked_by r = (r.header, Ok r.request)
+abbrev pub question_asked : LineRecord → Header × Result Asked Reason
+question_asked r = (r.header, Ok r.request)
 
 -- the bytes begin with these ADUs
 abbrev pub BeginWith : List ℕ → Adus → Type 0
@@ -73,8 +73,8 @@ SendsAs records sent _ = All HasOutcome records × (sent ≡ replies records)
 pub record InRecords {L : Type 0} (M : LinkMeaning L) (old new : LineState L) (fed cuts sent : List ℕ) (result : Result (Unit {0}) ProcessError) : Type 0 where
   pub adus : Adus
   pub records : List LineRecord
-  pub asked : map (asked_of tcp) adus ≡ map asked_by records
-  pub recorded : Recorded old.turns (line_of M old) records (line_of M new)
+  pub asked : map (asked_of tcp) adus ≡ map question_asked records
+  pub recorded : Recorded old.turns (view_of M old) records (view_of M new)
   -- what only calls of the client set
   pub turns : new.turns ≡ old.turns
   pub timeout : new.timeout ≡ old.timeout

@@ -1,4 +1,4 @@
 pub mod Answer
-pub mod Forwarding
+pub mod Forwards
 pub mod Records
 pub mod Forwarded

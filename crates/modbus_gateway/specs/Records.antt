@@ -1,9 +1,9 @@
 -- The records of a gateway: what each request of the TCP side led to on the line, joined end to end.
 use Rattle.std.specs.Prelude.{◌≡◌, ◌≢◌, ◌↔◌, ℕ, Bool, true, false, List, [], ◌∷◌, ◌++◌, length, map, All, IsTrue, Option, Some, None, Err}
 use Rattle.std.specs.List.{flat_map}
-use Rattle.modbus_link.specs.Outside.{outside, Input, Output, shifted}
+use Rattle.modbus_link.specs.Outside.{Cut, outside, Input, Output, cuts_from}
 use Rattle.modbus_link.specs.Line.{LinkMeaning}
-use Rattle.modbus_link.specs.Passing.{Passes}
+use Rattle.modbus_link.specs.Passes.{Passes}
 use Rattle.modbus_frame.specs.Meaning.{Asked}
 use Rattle.modbus_frame.specs.declared.tcp.Header.{Header}
 use Rattle.modbus_frame.specs.declared.fault.Error.TheVariants.{Transport}
@@ -11,13 +11,13 @@ use Rattle.modbus_frame.specs.declared.fault.TransportError.TheVariants.{NotConn
 use Rattle.modbus_pdu.specs.RequestPdu.{request_pdu}
 use Rattle.modbus_rtu.specs.Frame.{frame}
 use Rattle.modbus_service.specs.Outcome.{Outcome, code_of}
-use Rattle.modbus_server.specs.Exchanges.{Exchange, Run, framed, output}
+use Rattle.modbus_server.specs.Exchanges.{Exchange, Run, framed_outcome, output}
 use Rattle.modbus_server.specs.Tcp.{tcp}
-use Rattle.modbus_client.specs.Calling.{Exchanged, Sent}
+use Rattle.modbus_client.specs.Calls.{Exchanged, Sent}
 use Rattle.modbus_client.specs.Rtu.{rtu_protocol}
-use Rattle.modbus_client.specs.Sending.{WritesRequest, stays_connected}
+use Rattle.modbus_client.specs.Sends.{WritesRequest, stays_connected}
 use Rattle.modbus_gateway.specs.Answer.{LineAnswer, of_call, of_sending, outcome_of}
-use Rattle.modbus_gateway.specs.Forwarding.{LineState, forwards}
+use Rattle.modbus_gateway.specs.Forwards.{LineState, forwards}
 
 -- the line as it is seen between two exchanges: what it gives and how often its reads failed, what it took and how often its writes
 -- failed, and whether the client is connected to it
@@ -27,8 +27,8 @@ pub record LineView : Type 0 where
   pub is_connected : Bool
 
 -- the line that a client stands on
-abbrev pub line_of : {L : Type 0} → LinkMeaning L → LineState L → LineView
-line_of M client = record { input = M.input client.link; output = M.output client.link; is_connected = client.is_connected }
+abbrev pub view_of : {L : Type 0} → LinkMeaning L → LineState L → LineView
+view_of M client = record { input = M.input client.link; output = M.output client.link; is_connected = client.is_connected }
 
 -- one request of the TCP side, and its exchange on the line
 pub record LineRecord : Type 0 where
@@ -39,7 +39,7 @@ pub record LineRecord : Type 0 where
   -- the bytes that were written to the line, those that were read from it, and the cuts and rooms of the reads that gave them
   pub sent : List ℕ
   pub fed : List ℕ
-  pub made : List (ℕ × ℕ)
+  pub made : List Cut
   -- the line before it and after it
   pub before : LineView
   pub after : LineView
@@ -97,18 +97,18 @@ abbrev pub read_in : List LineRecord → List ℕ
 read_in [] = []
 read_in (r ∷ rs) = r.fed ++ read_in rs
 
-abbrev pub cuts_in : List LineRecord → List (ℕ × ℕ)
+abbrev pub cuts_in : List LineRecord → List Cut
 cuts_in [] = []
-cuts_in (r ∷ rs) = r.made ++ shifted (length r.fed) (cuts_in rs)
+cuts_in (r ∷ rs) = r.made ++ cuts_from (length r.fed) (cuts_in rs)
 
 -- By its answer, how much of the frame a record wrote: the whole; nothing for a request that is too long, and where the client is not
 -- connected; a front of it where a write failed or memory was wanting.
-abbrev pub WritesAs : LineRecord → LineAnswer → Type 0
-WritesAs r (of_call answer) = WritesRequest (line_frame r) r.sent answer
-WritesAs r (of_sending answer) = WritesRequest (line_frame r) r.sent answer
+abbrev pub RecordWrites : LineRecord → LineAnswer → Type 0
+RecordWrites r (of_call answer) = WritesRequest (line_frame r) r.sent answer
+RecordWrites r (of_sending answer) = WritesRequest (line_frame r) r.sent answer
 
 abbrev pub WritesFrame : LineRecord → Type 0
-WritesFrame r = WritesAs r r.answer
+WritesFrame r = RecordWrites r r.answer
 
 -- no write of the line failed in this record
 abbrev pub Stays : LineRecord → Type 0
@@ -122,8 +122,8 @@ pub record Recorded (turns : ℕ) (start : LineView) (records : List LineRecord)
   pub connected : IsTrue end.is_connected ↔ (IsTrue start.is_connected × All Stays records)
 
 -- what a record was asked, and what is told of it
-abbrev pub told_of : LineRecord → Header × Asked × Option Outcome
-told_of r = (r.header, r.request, outcome_of r.answer)
+abbrev pub record_told : LineRecord → Header × Asked × Option Outcome
+record_told r = (r.header, r.request, outcome_of r.answer)
 
 abbrev pub told_in : Exchange tcp → Header × Asked × Option Outcome
 told_in x = (x.header, x.request, Some x.outcome)
@@ -131,7 +131,7 @@ told_in x = (x.header, x.request, Some x.outcome)
 -- the ADU that answers a record, under the transaction and the unit of its request; none where there is nothing to answer
 abbrev pub reply_to : Header → ℕ → Option Outcome → List ℕ
 reply_to header code None = []
-reply_to header code (Some outcome) = framed tcp header code outcome
+reply_to header code (Some outcome) = framed_outcome tcp header code outcome
 
 abbrev pub record_reply : LineRecord → List ℕ
 record_reply r = reply_to r.header (code_of r.request) (outcome_of r.answer)
@@ -143,8 +143,8 @@ replies records = flat_map record_reply records
 -- a run of a gateway over exchanges, as records: one for each exchange, with its outcome
 pub record RunInRecords {L : Type 0} (M : LinkMeaning L) (old new : LineState L) (exchanges : List (Exchange tcp)) : Type 0 where
   pub records : List LineRecord
-  pub recorded : Recorded old.turns (line_of M old) records (line_of M new)
-  pub told : map told_of records ≡ map told_in exchanges
+  pub recorded : Recorded old.turns (view_of M old) records (view_of M new)
+  pub told : map record_told records ≡ map told_in exchanges
   pub output : output tcp exchanges ≡ replies records
   pub turns : new.turns ≡ old.turns
   pub timeout : new.timeout ≡ old.timeout
@@ -152,8 +152,8 @@ pub record RunInRecords {L : Type 0} (M : LinkMeaning L) (old new : LineState L)
 -- one request for which memory was wanting, as a record
 pub record WantInRecord {L : Type 0} (M : LinkMeaning L) (old new : LineState L) (header : Header) (request : Asked) : Type 0 where
   pub row : LineRecord
-  pub recorded : Recorded old.turns (line_of M old) (row ∷ []) (line_of M new)
-  pub told : told_of row ≡ (header, request, None)
+  pub recorded : Recorded old.turns (view_of M old) (row ∷ []) (view_of M new)
+  pub told : record_told row ≡ (header, request, None)
   pub turns : new.turns ≡ old.turns
   pub timeout : new.timeout ≡ old.timeout
 

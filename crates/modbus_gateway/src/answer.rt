@@ -1,6 +1,6 @@
 //! What a gateway answers to TCP, by what the client of its line answers.
 ghost use Rattle.std.specs.Prelude.{◌≡◌, Some};
-ghost use Rattle.modbus_gateway.specs.Answer.{exception_for, outcome_of_call, outcome_of_sending, returned, given};
+ghost use Rattle.modbus_gateway.specs.Answer.{exception_of_error, outcome_of_call, outcome_of_sending, outcome_of_response, result_given};
 
 use modbus_frame::{Error, ExceptionCode, Response, Result, TransportError};
 use modbus_pdu::response_pdu_size;
@@ -8,7 +8,7 @@ use modbus_service::ServiceError;
 
 /// A response of the line goes back where its PDU fits; else the device is told not to have answered.
 fn fitting(response: Response) -> std::result::Result<Option<Response>, ServiceError>
-    ensures { result ≡ given (Some (returned response)) }
+    ensures { result ≡ result_given (Some (outcome_of_response response)) }
 {
     match response_pdu_size(&response) {
         Ok(_) => Ok(Some(response)),
@@ -18,7 +18,7 @@ fn fitting(response: Response) -> std::result::Result<Option<Response>, ServiceE
 
 /// The exception that tells a fault of the line.
 fn exception(fault: TransportError) -> ExceptionCode
-    ensures { result ≡ exception_for fault }
+    ensures { result ≡ exception_of_error fault }
 {
     match fault {
         TransportError::NotConnected => ExceptionCode::GatewayPathUnavailable,
@@ -32,7 +32,7 @@ fn exception(fault: TransportError) -> ExceptionCode
 /// # Errors
 /// The exception of the slave, or one that tells the fault of the line; `NoMemory` where memory was refused.
 pub fn answer_call(answer: Result<Response>) -> std::result::Result<Option<Response>, ServiceError>
-    ensures { result ≡ given (outcome_of_call answer) }
+    ensures { result ≡ result_given (outcome_of_call answer) }
 {
     match answer {
         Ok(Ok(response)) => fitting(response),
@@ -52,7 +52,7 @@ pub fn answer_call(answer: Result<Response>) -> std::result::Result<Option<Respo
 pub fn answer_broadcast(
     answer: std::result::Result<(), Error>,
 ) -> std::result::Result<Option<Response>, ServiceError>
-    ensures { result ≡ given (outcome_of_sending answer) }
+    ensures { result ≡ result_given (outcome_of_sending answer) }
 {
     match answer {
         Err(Error::NoMemory) => Err(ServiceError::NoMemory),

@@ -3,7 +3,7 @@ ghost use Rattle.std.specs.Prelude.{◌≡◌};
 ghost use Rattle.modbus_link.specs.Line.{meaning_of};
 ghost use Rattle.modbus_frame.specs.Meaning.{meaning};
 ghost use Rattle.modbus_service.specs.Answering.{Answering, Keeps};
-ghost use Rattle.modbus_gateway.specs.Forwarding.{forwards, behind};
+ghost use Rattle.modbus_gateway.specs.Forwards.{forwards, behind};
 
 use crate::answer::{answer_broadcast, answer_call};
 use modbus_client::{Client, rtu};

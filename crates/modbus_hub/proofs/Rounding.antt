@@ -1,18 +1,18 @@
 -- One round after another, and the links that came in them.
 use Rattle.std.proofs.Common.{◌≡◌, ℕ, List, [], ◌∷◌, ◌++◌, Option, Some, None, Result, Ok, Err, ◌≤◌, refl, sym, ap, ◌∙◌, subst, arith}
 use Rattle.std.proofs.Math.Nat.{le_trans, le_refl}
-use Rattle.modbus_link.specs.Memory.{counted}
+use Rattle.modbus_link.specs.Memory.{next_count}
 use Rattle.modbus_link.specs.declared.outside.Failed.{Failed}
 use Rattle.modbus_link.specs.declared.polled.Polled.{Polled}
 use Rattle.modbus_link.specs.declared.polled.Polled.TheVariants.{Ready, Pending}
 use Rattle.modbus_turn.specs.declared.turn.Turn.{Turn}
-use Rattle.modbus_hub.specs.Accepting.{with_given, GivesByPolls, GivesLinks}
+use Rattle.modbus_hub.specs.Accepts.{with_given, GivesByPolls, GivesLinks}
 use Rattle.modbus_hub.specs.Events.{Event, Refusal, no_watch, no_memory, came, refused, told, turned, dropped, by_key, links_of, counted_if, counted_over}
 use Rattle.modbus_hub.specs.Seats.{SeatsState, IsTurnOf, IsDrop}
-use Rattle.modbus_hub.specs.Turns.{ServerState, Serves, Counts, Brings, ServesLeft, Comes, TakesRound}
+use Rattle.modbus_hub.specs.Turns.{ServerState, ServesInTurn, Counts, Brings, ServesLeft, Comes, TakesRound}
 use Rattle.modbus_hub.proofs.Histories.{links_more, links_told, turn_after}
 
-counted_up : (a b : ℕ) → a ≤ b → counted a ≤ counted b
+counted_up : (a b : ℕ) → a ≤ b → next_count a ≤ next_count b
 counted_up a b h = grind (arith)
 
 -- a server of these parts
@@ -20,15 +20,15 @@ abbrev pub state : {A S L : Type 0} → A → S → SeatsState L → ℕ → Ser
 state acceptor readiness seats unseated = record { acceptor = acceptor; readiness = readiness; seats = seats; unseated = unseated }
 
 module _ {L : Type 0} where
-  pub turn_serves : (key : ℕ) (turn : Option Turn) (history more : List (Event L)) → IsTurnOf key turn history more → Serves history more
+  pub turn_serves : (key : ℕ) (turn : Option Turn) (history more : List (Event L)) → IsTurnOf key turn history more → ServesInTurn history more
   turn_serves key None history more (none, account) = ap links_of none
   turn_serves key (Some turn) history more (fresh, last, e) =
       ap links_of e ∙ links_more (by_key key fresh) (turned key last turn ∷ []) ∙ ap (λ (l : List L). l ++ []) (links_told key fresh)
 
-  pub serves_both : (history xs ys : List (Event L)) → Serves history xs → Serves (history ++ xs) ys → Serves history (xs ++ ys)
+  pub serves_both : (history xs ys : List (Event L)) → ServesInTurn history xs → ServesInTurn (history ++ xs) ys → ServesInTurn history (xs ++ ys)
   serves_both history xs ys first second = links_more xs ys ∙ ap (λ (l : List L). l ++ links_of ys) first ∙ second
 
-  pub left_both : (seats : SeatsState L) (history xs ys : List (Event L)) → ServesLeft seats history xs → Serves (history ++ xs) ys → ServesLeft seats history (xs ++ ys)
+  pub left_both : (seats : SeatsState L) (history xs ys : List (Event L)) → ServesLeft seats history xs → ServesInTurn (history ++ xs) ys → ServesLeft seats history (xs ++ ys)
   left_both seats history xs ys first second = (serves_both history xs ys first.0 second, λ left key spent. turn_after key xs ys (first.1 left key spent))
 
   pub drops_links : (history more : List (Event L)) → IsDrop history more → links_of more ≡ []
@@ -101,7 +101,7 @@ module _ {A S L : Type 0} (faults : S → ℕ) where
   }
 
   -- one that could not be watched
-  pub brings_unwatched : (a b : ServerState A S L) (link : L) (history more : List (Event L)) → counted (faults a.readiness) ≤ faults b.readiness → b.unseated ≡ a.unseated
+  pub brings_unwatched : (a b : ServerState A S L) (link : L) (history more : List (Event L)) → next_count (faults a.readiness) ≤ faults b.readiness → b.unseated ≡ a.unseated
       → more ≡ refused no_watch link ∷ [] → Brings faults link a b history more
   brings_unwatched a b link history more rose count e = record {
     links = ap links_of e;
@@ -112,7 +112,7 @@ module _ {A S L : Type 0} (faults : S → ℕ) where
   }
 
   -- one for which memory was refused
-  pub brings_unseated : (a b : ServerState A S L) (link : L) (history more : List (Event L)) → faults a.readiness ≤ faults b.readiness → b.unseated ≡ counted a.unseated
+  pub brings_unseated : (a b : ServerState A S L) (link : L) (history more : List (Event L)) → faults a.readiness ≤ faults b.readiness → b.unseated ≡ next_count a.unseated
       → more ≡ refused no_memory link ∷ [] → Brings faults link a b history more
   brings_unseated a b link history more later count e = record {
     links = ap links_of e;

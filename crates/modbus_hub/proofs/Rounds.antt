@@ -2,14 +2,14 @@
 use Rattle.std.proofs.Common.{◌≡◌, ◌≢◌, inl, inr, ◌<◌, ◌≤◌, ◌+◌, ℕ, List, [], ◌∷◌, ◌++◌, Option, ap, ◌∙◌, sym, subst, arith, IsTrue}
 use Rattle.std.proofs.lemmas.Bool.{cases_eq}
 use Rattle.slab.specs.Slab.{Slab, get, Updates}
-use Rattle.modbus_hub.specs.Events.{Event, came, refused, told, turned, dropped, Place, HasTurn, links_of}
+use Rattle.modbus_hub.specs.Events.{Event, came, refused, told, turned, dropped, Place, HasAnyTurn, links_of}
 use Rattle.modbus_hub.specs.Seats.{is_spent_at, IsDrop, TurnsIfSpent, kept}
 use Rattle.modbus_hub.proofs.Histories.{links_more, turn_before, turn_after}
 
 module _ {L : Type 0} where
   -- those below a key had their turn
   abbrev pub ServesBelow : ℕ → Slab (Place L) → List (Event L) → List (Event L) → Type 0
-  ServesBelow below old history more = (links_of more ≡ []) × ((key : ℕ) → key < below → IsTrue (is_spent_at (get old key)) → HasTurn key more)
+  ServesBelow below old history more = (links_of more ≡ []) × ((key : ℕ) → key < below → IsTrue (is_spent_at (get old key)) → HasAnyTurn key more)
 
   abbrev LikeAbove : ℕ → Slab (Place L) → Slab (Place L) → Type 0
   LikeAbove key old now = (k : ℕ) → key ≤ k → get now k ≡ get old k
@@ -24,7 +24,7 @@ module _ {L : Type 0} where
     λ k low spent.
         elim (cases_eq k key) [
           | inl same ↦
-              turn_before k xs ys (subst (λ (n : ℕ). HasTurn n ys) (sym same)
+              turn_before k xs ys (subst (λ (n : ℕ). HasAnyTurn n ys) (sym same)
               (second.1 (subst (λ (slot : Option (Place L)). IsTrue (is_spent_at slot)) (sym (above key (omega arith))) (subst (λ (n : ℕ). IsTrue (is_spent_at (get old n))) same spent))))
           | inr differs ↦ turn_after k xs ys (first.1 k (omega (arith, low, differs)) spent)
         ],

@@ -3,7 +3,7 @@ use Rattle.std.proofs.Common.{◌≡◌, ◌≢◌, inl, inr, ℕ, List, [], ◌
 use Rattle.std.proofs.lemmas.Bool.{cases_eq}
 use Rattle.std.proofs.lemmas.List.Elements.{All-nil}
 use Rattle.modbus_link.specs.Line.{LinkMeaning}
-use Rattle.modbus_link.specs.Passing.{Passes, passes_none}
+use Rattle.modbus_link.specs.Passes.{Passes, passes_none}
 use Rattle.modbus_server.specs.Framing.{Framing}
 use Rattle.modbus_server.specs.Exchanges.{ReplyFits}
 use Rattle.modbus_service.specs.Answering.{Answering}
@@ -12,7 +12,7 @@ use Rattle.modbus_turn.specs.declared.turn.Turn.TheVariants.{Waiting, Spent, Ove
 use Rattle.modbus_turn.specs.InTurn.{Said}
 use Rattle.modbus_turn.specs.Turn.{StandsAlone, TurnLeaves, TakesTurn, is_going_on}
 use Rattle.slab.specs.Slab.{Slab, get, Updates}
-use Rattle.modbus_hub.specs.Events.{Event, Refusal, came, refused, turned, dropped, Place, Account, after_turn, account_of, by_key, HasTurn, links_of}
+use Rattle.modbus_hub.specs.Events.{Event, Refusal, came, refused, turned, dropped, Place, KeyAccount, after_turn, account_of, by_key, HasAnyTurn, links_of}
 use Rattle.modbus_hub.specs.Seats.{turns, EndsTurn, RunsOn, IsSeatedAs, AreSeated, SeatsGoOn, IsTurnOf, Admits, IsDrop, is_spent_at}
 use Rattle.modbus_hub.proofs.Histories.{at_key, off_key, account_more, account_told, account_other, runs_both, runs_told, links_more, links_told}
 use Rattle.modbus_link.specs.Outside.{outside}
@@ -28,22 +28,22 @@ pub updates_both : {X : Type 0} (a b c : Slab X) (key : ℕ) (x y : Option X) �
 updates_both a b c key x y first second = record { changed = second.changed; others = λ other differs. second.others other differs ∙ first.others other differs }
 
 module _ (F : Framing) {S : Type 0} (A : Answering S) {L : Type 0} (M : LinkMeaning L) where
-  abbrev Seated : Account L → Option (Place L) → Type 0
+  abbrev Seated : KeyAccount L → Option (Place L) → Type 0
   Seated account slot = IsSeatedAs F A M account slot
 
-  abbrev Entry : Account L → Place L → Type 0
+  abbrev Entry : KeyAccount L → Place L → Type 0
   Entry account place = (first : L) × (own : List Said) × (account ≡ Some (first, own)) × IsTrue place.seat.process.connection.is_open × StandsAlone F A M turns first own place.seat
 
-  seated_some : (account : Account L) (place : Place L) → Seated account (Some place) → Entry account place
+  seated_some : (account : KeyAccount L) (place : Place L) → Seated account (Some place) → Entry account place
   seated_some None place s = absurd s
   seated_some (Some (first, own)) place (is_open, stands) = (first, own, refl, is_open, stands)
 
-  seated_none : (account : Account L) → Seated account None → account ≡ None
+  seated_none : (account : KeyAccount L) → Seated account None → account ≡ None
   seated_none None s = refl
   seated_none (Some account) s = absurd s
 
-  reseated : (a b : Account L) (p q : Option (Place L)) → a ≡ b → p ≡ q → Seated a p → Seated b q
-  reseated a b p q e f s = subst (λ (x : Account L). Seated x q) e (subst (λ (x : Option (Place L)). Seated a x) f s)
+  reseated : (a b : KeyAccount L) (p q : Option (Place L)) → a ≡ b → p ≡ q → Seated a p → Seated b q
+  reseated a b p q e f s = subst (λ (x : KeyAccount L). Seated x q) e (subst (λ (x : Option (Place L)). Seated a x) f s)
 
   -- nothing more happens, or some more and then some more
   pub go_same : (P : List (Event L) → List (Event L) → Type 0) (a b : Slab (Place L)) (s : S) → ((key : ℕ) → get b key ≡ get a key)
@@ -126,7 +126,7 @@ module _ (F : Framing) {S : Type 0} (A : Answering S) {L : Type 0} (M : LinkMean
         came key link ∷ [],
         one_event (came key link) key olds news (Some place) s start history u all (s, (none, refl), refl)
             (λ k differs. off_key k key (Some (link, [])) (account_of k None history) (λ e. differs (sym e)))
-            (subst (λ (a : Account L). Seated a (Some place)) (sym account) (is_open, begun link place is held waiting left stands)),
+            (subst (λ (a : KeyAccount L). Seated a (Some place)) (sym account) (is_open, begun link place is held waiting left stands)),
         refl,
       )
 
@@ -152,7 +152,7 @@ module _ (F : Framing) {S : Type 0} (A : Answering S) {L : Type 0} (M : LinkMean
         dropped key ∷ [],
         one_event (dropped key) key olds news None s start history u all (s, refl, refl)
             (λ k differs. off_key k key None (account_of k None history) (λ e. differs (sym e)))
-            (subst (λ (a : Account L). Seated a None) (sym account) tt),
+            (subst (λ (a : KeyAccount L). Seated a None) (sym account) tt),
         tt,
       )
 
@@ -175,7 +175,7 @@ module _ (F : Framing) {S : Type 0} (A : Answering S) {L : Type 0} (M : LinkMean
     tt,
   )
     where
-      unmarked : (account : Account L) → Seated account (Some place) → Seated account (Some (record place { is_fresh = false }))
+      unmarked : (account : KeyAccount L) → Seated account (Some place) → Seated account (Some (record place { is_fresh = false }))
       unmarked None s = absurd s
       unmarked (Some account) s = (s.0, s.1)
 
@@ -197,12 +197,12 @@ module _ (F : Framing) {S : Type 0} (A : Answering S) {L : Type 0} (M : LinkMean
 
   -- the turn of a key is one of a connection that is there
   abbrev pub Turned : ℕ → List (Event L) → List (Event L) → Type 0
-  Turned key history more = (links_of more ≡ []) × HasTurn key more
+  Turned key history more = (links_of more ≡ []) × HasAnyTurn key more
 
   turned_by : (key : ℕ) (turn : Option Turn) (olds : Slab (Place L)) (history more : List (Event L)) → ((key : ℕ) → Seated (account_of key None history) (get olds key))
       → IsTrue (is_spent_at (get olds key)) → IsTurnOf key turn history more → Turned key history more
   turned_by key None olds history more each spent (none, account) =
-      absurd (unspent (get olds key) (none_seated (get olds key) (subst (λ (a : Account L). Seated a (get olds key)) account (each key))) spent)
+      absurd (unspent (get olds key) (none_seated (get olds key) (subst (λ (a : KeyAccount L). Seated a (get olds key)) account (each key))) spent)
   turned_by key (Some turn) olds history more each spent (fresh, last, e) = (
     ap links_of e ∙ links_more (by_key key fresh) (turned key last turn ∷ []) ∙ ap (λ (l : List L). l ++ []) (links_told key fresh),
     (by_key key fresh, [], last, turn, e),
@@ -245,16 +245,16 @@ module _ (F : Framing) {S : Type 0} (A : Answering S) {L : Type 0} (M : LinkMean
         let last : List (Event L) = turned key new.seat.link turn ∷ [] in
         let more : List (Event L) = by_key key fresh ++ last in
         let then_told : account_of key None (history ++ by_key key fresh) ≡ Some (first, own) =
-        account_more key None history (by_key key fresh) ∙ ap (λ (a : Account L). account_of key a (by_key key fresh)) entry.2 ∙ account_told key first entry.1 fresh in
+        account_more key None history (by_key key fresh) ∙ ap (λ (a : KeyAccount L). account_of key a (by_key key fresh)) entry.2 ∙ account_told key first entry.1 fresh in
         let then_ends : account_of key None (history ++ more) ≡ after_turn turn (Some (first, own)) =
         ap (λ (h : List (Event L)). account_of key None h) (sym (append_assoc history (by_key key fresh) last))
-        ∙ account_more key None (history ++ by_key key fresh) last ∙ ap (λ (a : Account L). account_of key a last) then_told
+        ∙ account_more key None (history ++ by_key key fresh) last ∙ ap (λ (a : KeyAccount L). account_of key a last) then_told
         ∙ at_key key key (after_turn turn (Some (first, own))) (Some (first, own)) refl in
         let others : (k : ℕ) → k ≢ key → account_of k None (history ++ more) ≡ account_of k None history =
         λ k differs. account_more k None history more ∙ account_more k (account_of k None history) (by_key key fresh) last
-        ∙ ap (λ (a : Account L). account_of k a last) (account_other k key (account_of k None history) fresh (λ e. differs (sym e)))
+        ∙ ap (λ (a : KeyAccount L). account_of k a last) (account_other k key (account_of k None history) fresh (λ e. differs (sym e)))
         ∙ off_key k key (after_turn turn (account_of k None history)) (account_of k None history) (λ e. differs (sym e)) in
-        let ending = subst (λ (a : Account L). EndsTurn F A M a new.seat.link on.1 after turn) (sym then_told) (ends_so first own on.1 turn on.3) in (
+        let ending = subst (λ (a : KeyAccount L). EndsTurn F A M a new.seat.link on.1 after turn) (sym then_told) (ends_so first own on.1 turn on.3) in (
           more,
           record {
             run = runs_both F A M [] history more start before after all.run

@@ -1,6 +1,6 @@
 -- What happens to the connections of one thread, in order, and what that says of the connection under each key.
 use Rattle.std.specs.Prelude.{◌≡◌, ℕ, ◌==◌, List, [], ◌∷◌, ◌++◌, map, Option, Some, None, Bool, if◌then◌else◌}
-use Rattle.modbus_link.specs.Memory.{counted}
+use Rattle.modbus_link.specs.Memory.{next_count}
 use Rattle.modbus_turn.specs.declared.turn.Turn.{Turn}
 use Rattle.modbus_turn.specs.declared.turn.Turn.TheVariants.{Waiting, Spent, Over}
 use Rattle.modbus_turn.specs.InTurn.{Said}
@@ -34,21 +34,21 @@ pub record Place (L : Type 0) : Type 0 where
   pub is_spent : Bool
 
 -- The account of a key: the link with which its connection came, and all that it was told since; none where there is no connection.
-abbrev pub Account : Type 0 → Type 0
-Account L = Option (L × List Said)
+abbrev pub KeyAccount : Type 0 → Type 0
+KeyAccount L = Option (L × List Said)
 
 -- it was told this too
-abbrev pub told_more : {L : Type 0} → Said → Account L → Account L
+abbrev pub told_more : {L : Type 0} → Said → KeyAccount L → KeyAccount L
 told_more x None = None
 told_more x (Some account) = Some (account.0, account.1 ++ x ∷ [])
 
 -- a connection that is over has no account any more
-abbrev pub after_turn : {L : Type 0} → Turn → Account L → Account L
+abbrev pub after_turn : {L : Type 0} → Turn → KeyAccount L → KeyAccount L
 after_turn Waiting account = account
 after_turn Spent account = account
 after_turn (Over result) account = None
 
-abbrev pub account_after : {L : Type 0} → ℕ → Account L → Event L → Account L
+abbrev pub account_after : {L : Type 0} → ℕ → KeyAccount L → Event L → KeyAccount L
 account_after key account (came j link) = if j == key then Some (link, []) else account
 account_after key account (refused cause link) = account
 account_after key account (told j x) = if j == key then told_more x account else account
@@ -56,7 +56,7 @@ account_after key account (turned j link turn) = if j == key then after_turn tur
 account_after key account (dropped j) = if j == key then None else account
 
 -- the account of a key after these events
-abbrev pub account_of : {L : Type 0} → ℕ → Account L → List (Event L) → Account L
+abbrev pub account_of : {L : Type 0} → ℕ → KeyAccount L → List (Event L) → KeyAccount L
 account_of key account [] = account
 account_of key account (e ∷ es) = account_of key (account_after key account e) es
 
@@ -65,8 +65,8 @@ abbrev pub by_key : {L : Type 0} → ℕ → List Said → List (Event L)
 by_key {L} key xs = map (λ (x : Said). let e : Event L = told key x in e) xs
 
 -- the connection under a key had a turn
-abbrev pub HasTurn : {L : Type 0} → ℕ → List (Event L) → Type 0
-HasTurn {L} key events = (earlier later : List (Event L)) × (link : L) × (turn : Turn) × (events ≡ earlier ++ turned key link turn ∷ later)
+abbrev pub HasAnyTurn : {L : Type 0} → ℕ → List (Event L) → Type 0
+HasAnyTurn {L} key events = (earlier later : List (Event L)) × (link : L) × (turn : Turn) × (events ≡ earlier ++ turned key link turn ∷ later)
 
 -- the links that came, in order
 abbrev pub links_of : {L : Type 0} → List (Event L) → List L
@@ -79,8 +79,8 @@ links_of (dropped key ∷ es) = links_of es
 
 -- a counter after an event, which counts each link that is dropped at once for this
 abbrev pub counted_if : {L : Type 0} → Refusal → Event L → ℕ → ℕ
-counted_if no_watch (refused no_watch link) count = counted count
-counted_if no_memory (refused no_memory link) count = counted count
+counted_if no_watch (refused no_watch link) count = next_count count
+counted_if no_memory (refused no_memory link) count = next_count count
 counted_if cause e count = count
 
 -- the same after these events

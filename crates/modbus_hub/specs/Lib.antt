@@ -1,4 +1,4 @@
-pub mod Accepting
+pub mod Accepts
 pub mod Events
 pub mod Seats
 pub mod Turns

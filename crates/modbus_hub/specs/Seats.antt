@@ -10,7 +10,7 @@ use Rattle.modbus_turn.specs.declared.turn.Turn.TheVariants.{Waiting, Spent, Ove
 use Rattle.modbus_turn.specs.InTurn.{Said}
 use Rattle.modbus_turn.specs.Turn.{StandsAlone, RanAlone}
 use Rattle.slab.specs.Slab.{Slab, get}
-use Rattle.modbus_hub.specs.Events.{Event, came, refused, told, turned, dropped, no_memory, Place, Account, account_of, by_key, HasTurn, links_of}
+use Rattle.modbus_hub.specs.Events.{Event, came, refused, told, turned, dropped, no_memory, Place, KeyAccount, account_of, by_key, HasAnyTurn, links_of}
 
 -- the connections of one thread
 pub record SeatsState (L : Type 0) : Type 0 where
@@ -27,7 +27,7 @@ turns = 2 ^ 64 - 1
 module _ (F : Framing) {S : Type 0} (A : Answering S) {L : Type 0} (M : LinkMeaning L) where
   -- Where the connection with this account had a turn that ended so, the service goes from one state to another. It stays, but where the
   -- connection is over for want of memory, which may leave the service in another state.
-  abbrev pub EndsTurn : Account L → L → S → S → Turn → Type 0
+  abbrev pub EndsTurn : KeyAccount L → L → S → S → Turn → Type 0
   EndsTurn account last old new Waiting = new ≡ old
   EndsTurn account last old new Spent = new ≡ old
   EndsTurn None last old new (Over result) = ⊥
@@ -47,7 +47,7 @@ module _ (F : Framing) {S : Type 0} (A : Answering S) {L : Type 0} (M : LinkMean
   RunsOn earlier old (e ∷ es) new = (next : S) × Happens earlier old e next × RunsOn (earlier ++ e ∷ []) next es new
 
   -- there is a connection exactly where there is an account, and it stands for that
-  abbrev pub IsSeatedAs : Account L → Option (Place L) → Type 0
+  abbrev pub IsSeatedAs : KeyAccount L → Option (Place L) → Type 0
   IsSeatedAs None None = Unit {0}
   IsSeatedAs None (Some place) = ⊥
   IsSeatedAs (Some account) None = ⊥
@@ -80,11 +80,11 @@ module _ {L : Type 0} where
 
   -- no link came, and the connection under a key had another turn, where the reads of its last turn were used up
   abbrev pub TurnsIfSpent : ℕ → Option (Place L) → List (Event L) → List (Event L) → Type 0
-  TurnsIfSpent key slot history more = (links_of more ≡ []) × (IsTrue (is_spent_at slot) → HasTurn key more)
+  TurnsIfSpent key slot history more = (links_of more ≡ []) × (IsTrue (is_spent_at slot) → HasAnyTurn key more)
 
   -- no link came, and each connection of which the reads were used up had another turn
   abbrev pub ServesSpent : Slab (Place L) → List (Event L) → List (Event L) → Type 0
-  ServesSpent old history more = (links_of more ≡ []) × ((key : ℕ) → IsTrue (is_spent_at (get old key)) → HasTurn key more)
+  ServesSpent old history more = (links_of more ≡ []) × ((key : ℕ) → IsTrue (is_spent_at (get old key)) → HasAnyTurn key more)
 
   -- a connection stays where it had a turn, or came, since this was last asked
   abbrev pub kept : Option (Place L) → Option (Place L)

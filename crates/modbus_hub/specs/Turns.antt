@@ -3,8 +3,8 @@ use Rattle.std.specs.Prelude.{◌≡◌, ℕ, ◌≤◌, List, [], ◌∷◌, Re
 use Rattle.modbus_link.specs.declared.outside.Failed.{Failed}
 use Rattle.modbus_link.specs.declared.polled.Polled.{Polled}
 use Rattle.slab.specs.Slab.{get}
-use Rattle.modbus_hub.specs.Accepting.{GivesLinks}
-use Rattle.modbus_hub.specs.Events.{Event, no_watch, no_memory, HasTurn, links_of, counted_over}
+use Rattle.modbus_hub.specs.Accepts.{GivesLinks}
+use Rattle.modbus_hub.specs.Events.{Event, no_watch, no_memory, HasAnyTurn, links_of, counted_over}
 use Rattle.modbus_hub.specs.Seats.{SeatsState, is_spent_at}
 
 -- a server over such an acceptor and source of readiness, with such links
@@ -16,12 +16,12 @@ pub record ServerState (A S L : Type 0) : Type 0 where
   pub unseated : ℕ
 
 -- no link came
-abbrev pub Serves : {L : Type 0} → List (Event L) → List (Event L) → Type 0
-Serves history more = links_of more ≡ []
+abbrev pub ServesInTurn : {L : Type 0} → List (Event L) → List (Event L) → Type 0
+ServesInTurn history more = links_of more ≡ []
 
 -- each connection whose reads were used up had another turn
 abbrev pub TurnsLeft : {L : Type 0} → SeatsState L → List (Event L) → Type 0
-TurnsLeft seats more = IsTrue seats.has_spent → (key : ℕ) → IsTrue (is_spent_at (get seats.seats key)) → HasTurn key more
+TurnsLeft seats more = IsTrue seats.has_spent → (key : ℕ) → IsTrue (is_spent_at (get seats.seats key)) → HasAnyTurn key more
 
 -- the same, and no link came
 abbrev pub ServesLeft : {L : Type 0} → SeatsState L → List (Event L) → List (Event L) → Type 0

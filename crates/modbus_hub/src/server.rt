@@ -4,7 +4,7 @@ ghost use Rattle.modbus_link.specs.Line.{meaning_of};
 ghost use Rattle.modbus_link.specs.Outside.{Rose};
 ghost use Rattle.slab.specs.Slab.{get};
 ghost use Rattle.modbus_hub.specs.Seats.{SeatsGoOn, IsDrop, kept};
-ghost use Rattle.modbus_hub.specs.Turns.{Brings, Comes, Serves, ServesLeft, TakesRound};
+ghost use Rattle.modbus_hub.specs.Turns.{Brings, Comes, ServesInTurn, ServesLeft, TakesRound};
 
 use crate::seats::{Limits, Seats};
 use modbus_frame::Terminated;
@@ -158,7 +158,7 @@ where
         ensures readiness { self.new.readiness ≡ self.old.readiness }
         ensures unseated { self.new.unseated ≡ self.old.unseated }
         ensures goes_on { SeatsGoOn I.framing V.answering
-            (meaning_of A.Link.input A.Link.output A.Link.line) Serves self.old.seats.seats
+            (meaning_of A.Link.input A.Link.output A.Link.line) ServesInTurn self.old.seats.seats
             self.new.seats.seats service.old.service service.new.service }
     {
         match ready {
@@ -182,7 +182,7 @@ where
         ensures readiness { self.new.readiness ≡ self.old.readiness }
         ensures unseated { self.new.unseated ≡ self.old.unseated }
         ensures goes_on { SeatsGoOn I.framing V.answering
-            (meaning_of A.Link.input A.Link.output A.Link.line) Serves self.old.seats.seats
+            (meaning_of A.Link.input A.Link.output A.Link.line) ServesInTurn self.old.seats.seats
             self.new.seats.seats service.old.service service.new.service }
     {
         let _before = service.service();

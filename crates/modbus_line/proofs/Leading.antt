@@ -6,7 +6,7 @@ use Rattle.modbus_frame.specs.declared.response.Response.{Response}
 use Rattle.modbus_service.specs.declared.service.ServiceError.{ServiceError}
 use Rattle.modbus_service.specs.declared.service.ServiceError.TheVariants.{Exception, NoMemory}
 use Rattle.modbus_service.specs.Answering.{Answering, Keeps}
-use Rattle.modbus_line.specs.Turns.{Turns, untouched, exchanged, IsLed, TakesTurn, in_turn}
+use Rattle.modbus_line.specs.Turns.{Turns, untouched, exchanged, IsLed, TakesTurn, served_in_turn}
 
 -- a line that was opened
 pub led_by_none : {S : Type 0} (opens : S → Type 0) (A : Answering S) (line : S) (count : ℕ) → opens line → count ≡ 0 → IsLed opens A count line
@@ -20,7 +20,7 @@ led_on opens A count more before after unit request told led keeps is =
 
 -- what a service tells that took a turn
 pub keeps_turn : {S : Type 0} (opens : S → Type 0) (A : Answering S) (old new unit : ℕ) (request : Asked) (told : Result (Option Response) ServiceError)
-    → TakesTurn opens A unit request told → new ≡ old + 1 → Keeps (in_turn opens A) old unit request told new
+    → TakesTurn opens A unit request told → new ≡ old + 1 → Keeps (served_in_turn opens A) old unit request told new
 keeps_turn opens A old new unit request (Ok None) turn is = (is, turn)
 keeps_turn opens A old new unit request (Ok (Some response)) turn is = (is, turn)
 keeps_turn opens A old new unit request (Err (Exception code)) turn is = (is, turn)

@@ -4,9 +4,9 @@ use Rattle.modbus_frame.specs.Meaning.{Asked}
 use Rattle.modbus_frame.specs.declared.rtu.Header.{Header}
 use Rattle.modbus_service.specs.Outcome.{Outcome}
 use Rattle.modbus_service.specs.Answering.{Answering}
-use Rattle.modbus_reconnect.specs.SettlingState.{SettlingState, LineMeaning}
+use Rattle.modbus_reconnect.specs.SettleState.{SettlingState, LineMeaning}
 use Rattle.modbus_reconnect.specs.OnLine.{IsStanding, CallsStanding}
-use Rattle.modbus_reconnect.specs.Telling.{SendsStanding}
+use Rattle.modbus_reconnect.specs.Tells.{SendsStanding}
 use Rattle.modbus_gateway.specs.Answer.{LineAnswer, of_call, of_sending, outcome_of}
 use Rattle.modbus_line.specs.Turns.{Turns}
 
@@ -18,15 +18,15 @@ abbrev pub SerialMeaning : Type 0 → Type 1
 SerialMeaning L = LineMeaning Header (Unit {0}) L
 
 -- the same client, whose requests go to this slave
-abbrev pub addressed : {L : Type 0} → ℕ → SerialState L → SerialState L
-addressed slave line = record line { settings = record line.settings { slave = slave } }
+abbrev pub to_unit : {L : Type 0} → ℕ → SerialState L → SerialState L
+to_unit slave line = record line { settings = record line.settings { slave = slave } }
 
 -- One exchange on the line, by the unit identifier and the request. Unit 0 is the broadcast address of the line: the request is sent to all
 -- slaves, and no reply is waited for. Each other unit is the slave of that number, which is called. Either way a line in doubt is settled
 -- first, and where that fails nothing is sent.
 abbrev pub AsksSerial : {L : Type 0} → SerialMeaning L → SerialState L → ℕ → Asked → LineAnswer → SerialState L → Type 0
-AsksSerial m old unit request (of_call answer) new = (unit ≢ 0) × CallsStanding m (addressed unit old) request answer new
-AsksSerial m old unit request (of_sending told) new = (unit ≡ 0) × SendsStanding m (addressed unit old) request told new
+AsksSerial m old unit request (of_call answer) new = (unit ≢ 0) × CallsStanding m (to_unit unit old) request answer new
+AsksSerial m old unit request (of_sending told) new = (unit ≡ 0) × SendsStanding m (to_unit unit old) request told new
 
 -- The exchange that a request leads to, with this answer of the line.
 abbrev pub ExchangesSerial : {L : Type 0} → SerialMeaning L → SerialState L → ℕ → Asked → Option Outcome → SerialState L → Type 0

@@ -30,8 +30,8 @@ TakesTurn opens A unit request told = InOneTurn opens A (λ before after. Keeps 
 
 -- A service of one of many connections, by how many exchanges it made: for each request it makes one, and tells what that gave. Between two
 -- of them others may have made any number.
-abbrev pub in_turn : {S : Type 0} → (S → Type 0) → Answering S → Answering ℕ
-in_turn opens A = record {
+abbrev pub served_in_turn : {S : Type 0} → (S → Type 0) → Answering S → Answering ℕ
+served_in_turn opens A = record {
   gives = λ old unit request outcome new. (new ≡ old + 1) × InOneTurn opens A (λ before after. A.gives before unit request outcome after);
   wants = λ old unit request new. (new ≡ old + 1) × InOneTurn opens A (λ before after. A.wants before unit request after);
 }

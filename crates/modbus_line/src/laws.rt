@@ -1,7 +1,7 @@
 //! A law on shared serial lines, about definitions alone. It is proved by its contract.
 ghost use Rattle.modbus_link.specs.Line.{meaning_of};
 ghost use Rattle.modbus_client.specs.Rtu.{rtu_protocol, rtu_heading};
-ghost use Rattle.modbus_reconnect.specs.SettlingState.{line_by};
+ghost use Rattle.modbus_reconnect.specs.SettleState.{line_by};
 ghost use Rattle.modbus_line.specs.Serial.{NothingIsOwed};
 
 use modbus_link::TimedLink;

@@ -2,7 +2,7 @@
 ghost use Rattle.std.specs.Prelude.{◌≡◌};
 ghost use Rattle.modbus_link.specs.Line.{meaning_of};
 ghost use Rattle.modbus_client.specs.Rtu.{rtu_protocol, rtu_heading};
-ghost use Rattle.modbus_reconnect.specs.SettlingState.{line_by};
+ghost use Rattle.modbus_reconnect.specs.SettleState.{line_by};
 ghost use Rattle.modbus_line.specs.Serial.{forwards_settled};
 
 use modbus_client::Client;

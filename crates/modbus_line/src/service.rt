@@ -1,6 +1,6 @@
 //! The services of many connections over one line.
 ghost use Rattle.std.specs.Prelude.{◌≡◌, ℕ, ◌+◌, ◌-◌, ◌^◌, IfOk, IfErr};
-ghost use Rattle.modbus_line.specs.Turns.{in_turn};
+ghost use Rattle.modbus_line.specs.Turns.{served_in_turn};
 
 use crate::turns::{CONNECTIONS, Opening, SharedLine};
 use modbus_frame::{Response, SlaveRequest};
@@ -32,7 +32,7 @@ impl<'l, R, C: Forwarder, J: Opening<C>> Model for LineService<'l, R, C, J> {
 
 /// Each request is one whole exchange on the line, and is answered by what that exchange gave.
 impl<'l, R: Wait, C: Forwarder, J: Opening<C>> Answerer for LineService<'l, R, C, J> {
-    ghost answering = { in_turn J.opens C.forwarding };
+    ghost answering = { served_in_turn J.opens C.forwarding };
 
     #[tactic(auto, using(crate::proofs::Leading::keeps_turn))]
     fn ask(

@@ -1,9 +1,9 @@
 pub mod Outside
 pub mod Runs
 pub mod Reads
-pub mod Passing
+pub mod Passes
 pub mod Through
-pub mod Together
+pub mod TwoRuns
 pub mod Memory
 pub mod Line
 pub mod Polled

@@ -2,7 +2,7 @@
 use Rattle.std.specs.Prelude.{◌≡◌, ◌≤◌, ℕ, Bool, true, false, None, Option, Result, Ok, Err, IsTrue, OnOk, OnErr}
 use Rattle.std.specs.declared.time.Duration.{Duration}
 use Rattle.modbus_link.specs.Outside.{Input, Output, Rose}
-use Rattle.modbus_link.specs.Memory.{SourceState, SinkState, counted}
+use Rattle.modbus_link.specs.Memory.{SourceState, SinkState, next_count}
 
 pub record Line : Type 0 where
   -- how often a shutdown failed
@@ -26,7 +26,7 @@ pub record LinkState : Type 0 where
 -- the line after a shutdown with this result
 abbrev pub shut : {T E : Type 0} → Result T E → Line → Line
 shut (Ok _) line = record line { is_down = true }
-shut (Err _) line = record line { faults = counted line.faults }
+shut (Err _) line = record line { faults = next_count line.faults }
 
 -- What a shutdown of any link does to its line: it leaves the timeout, and the count of faults never falls. One that answers Ok leaves the
 -- link down, and counts no fault; one that fails counts it, and leaves the link down or up as it was.

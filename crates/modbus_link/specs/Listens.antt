@@ -2,11 +2,11 @@
 use Rattle.std.specs.Prelude.{◌≡◌, ◌↔◌, ℕ, Bool, IsTrue, List, [], ◌∷◌, Result, Ok, Err}
 use Rattle.std.specs.declared.net.SocketAddr.{SocketAddr}
 use Rattle.modbus_link.specs.declared.outside.Failed.{Failed}
-use Rattle.modbus_link.specs.Memory.{counted, faults_after}
+use Rattle.modbus_link.specs.Memory.{next_count, faults_after}
 
 -- the count of what succeeded after a call with this result: one that succeeds raises it by one
 abbrev pub given_after : {T E : Type 0} → Result T E → ℕ → ℕ
-given_after (Ok _) given = counted given
+given_after (Ok _) given = next_count given
 given_after (Err _) given = given
 
 -- how often an object of the outside succeeded, and how often it failed; both stay at the last number of a counter

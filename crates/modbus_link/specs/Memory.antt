@@ -1,6 +1,6 @@
 -- What the objects in memory keep, and what they mean as a source and a sink.
 use Rattle.std.specs.Prelude.{◌-◌, ◌^◌, ◌<◌, ◌≤◌, ◌+◌, ◌≡◌, ◌↔◌, ◌⊎◌, min, All, Contains, ℕ, true, List, [], length, drop, ◌==◌, if◌then◌else◌, Result, Ok, Err, IsErr, IfOk}
-use Rattle.modbus_link.specs.Outside.{Input, Output}
+use Rattle.modbus_link.specs.Outside.{Cut, Input, Output}
 
 -- a source in memory
 pub record SourceState : Type 0 where
@@ -11,7 +11,7 @@ pub record SourceState : Type 0 where
   -- the numbers of the reads that fail, from 0
   pub fails : List ℕ
   -- of each read that gave bytes, the total after it and the length of its room
-  pub cuts : List (ℕ × ℕ)
+  pub cuts : List Cut
   -- how many bytes were given
   pub given : ℕ
   -- how many reads were made, and how many of them failed; both stay at the last number of a counter
@@ -43,13 +43,13 @@ source_input source = record {
 }
 
 -- the number after a call, of a counter that stays at its last number
-abbrev pub counted : ℕ → ℕ
-counted calls = min (calls + 1) (2 ^ 64 - 1)
+abbrev pub next_count : ℕ → ℕ
+next_count calls = min (calls + 1) (2 ^ 64 - 1)
 
 -- the count of faults after a call with this result: one that fails raises it by one
 abbrev pub faults_after : {T E : Type 0} → Result T E → ℕ → ℕ
 faults_after (Ok _) faults = faults
-faults_after (Err _) faults = counted faults
+faults_after (Err _) faults = next_count faults
 
 -- the next call is one that fails
 abbrev pub FailsNow : List ℕ → ℕ → Type 0
@@ -65,7 +65,7 @@ pub record KeepsSource (old new : SourceState) : Type 0 where
   pub bytes : new.bytes ≡ old.bytes
   pub stops : new.stops ≡ old.stops
   pub fails : new.fails ≡ old.fails
-  pub calls : new.calls ≡ counted old.calls
+  pub calls : new.calls ≡ next_count old.calls
 
 -- what one read of a source in memory does, beside what a read of any source does
 pub record MemoryReads {E : Type 0} (old new : SourceState) (room : ℕ) (result : Result ℕ E) : Type 0 where
@@ -121,7 +121,7 @@ pub record KeepsSink (old new : SinkState) : Type 0 where
   pub capacity : new.capacity ≡ old.capacity
   pub most : new.most ≡ old.most
   pub fails : new.fails ≡ old.fails
-  pub calls : new.calls ≡ counted old.calls
+  pub calls : new.calls ≡ next_count old.calls
 
 -- what one write of a sink in memory does, beside what a write of any sink does
 pub record MemoryWrites {E : Type 0} (old new : SinkState) (size : ℕ) (result : Result ℕ E) : Type 0 where

@@ -1,6 +1,10 @@
 -- What a source and a sink mean, and what a call above them says of a whole run of reads and writes.
 use Rattle.std.specs.Prelude.{◌≡◌, ℕ, ◌+◌, ◌-◌, ◌^◌, ◌<◌, ◌≤◌, ◌↔◌, min, Bool, false, if◌then◌else◌, ◌==◌, List, [], ◌∷◌, ◌++◌, length, take, drop, map, IsTrue, Result, Ok, Err, IfOk}
 
+-- a read that gave bytes: the total after it, and the length of its room
+abbrev pub Cut : Type 0
+Cut = ℕ × ℕ
+
 -- What a source means. Where it is not told, the three fields on content say nothing.
 pub record Input : Type 0 where
   pub told : Bool
@@ -8,8 +12,7 @@ pub record Input : Type 0 where
   pub left : List ℕ
   -- how many it gave
   pub given : ℕ
-  -- of each read that gave bytes, the total after it and the length of its room
-  pub cuts : List (ℕ × ℕ)
+  pub cuts : List Cut
   pub faults : ℕ
   -- whether it never fails
   pub sure : Bool
@@ -50,15 +53,15 @@ abbrev pub bytes_read : Input → Input → List ℕ
 bytes_read old new = take (new.given - old.given) old.left
 
 -- the cuts of the reads between two states: the total since the first state, and the room
-abbrev pub cuts_made : Input → Input → List (ℕ × ℕ)
+abbrev pub cuts_made : Input → Input → List Cut
 cuts_made old new = map (λ cut. (cut.0 - old.given, cut.1)) (drop (length old.cuts) new.cuts)
 
 -- the same cuts, of a run that began so many bytes earlier
-abbrev pub shifted : ℕ → List (ℕ × ℕ) → List (ℕ × ℕ)
-shifted by cuts = map (λ cut. (by + cut.0, cut.1)) cuts
+abbrev pub cuts_from : ℕ → List Cut → List Cut
+cuts_from by cuts = map (λ cut. (by + cut.0, cut.1)) cuts
 
 -- these cuts rise from one total to another
-abbrev pub RisesTo : ℕ → List (ℕ × ℕ) → ℕ → Type 0
+abbrev pub RisesTo : ℕ → List Cut → ℕ → Type 0
 RisesTo start [] end = start ≡ end
 RisesTo start (cut ∷ cuts) end = (start < cut.0) × RisesTo cut.0 cuts end
 
@@ -109,11 +112,11 @@ front_of (Ok n) bytes = take n bytes
 front_of (Err _) bytes = []
 
 -- the cut of one read of n bytes into a room of this length
-abbrev pub one_cut : ℕ → ℕ → List (ℕ × ℕ)
+abbrev pub one_cut : ℕ → ℕ → List Cut
 one_cut n room = if n == 0 then [] else (n, room) ∷ []
 
 -- the same, none where the read failed
-abbrev pub cut_of : {E : Type 0} → Result ℕ E → ℕ → List (ℕ × ℕ)
+abbrev pub cut_of : {E : Type 0} → Result ℕ E → ℕ → List Cut
 cut_of (Ok n) room = one_cut n room
 cut_of (Err _) room = []
 

@@ -3,7 +3,7 @@ use Rattle.std.specs.Prelude.{◌≡◌, ◌↔◌, ℕ, List, Option, Some, Non
 use Rattle.modbus_link.specs.declared.polled.Polled.{Polled}
 use Rattle.modbus_link.specs.declared.polled.Polled.TheVariants.{Ready, Pending}
 use Rattle.modbus_link.specs.Outside.{Rose}
-use Rattle.modbus_link.specs.Memory.{counted, FailsNow, MemoryReads, MemoryWrites}
+use Rattle.modbus_link.specs.Memory.{next_count, FailsNow, MemoryReads, MemoryWrites}
 use Rattle.modbus_link.specs.Line.{LinkState}
 
 abbrev pub is_pending : {T : Type 0} → Polled T → Bool
@@ -23,7 +23,7 @@ Waited (Ok Pending) before now = Rose before now
 Waited (Err error) before now = Unit {0}
 
 -- a polled link in memory
-pub record PolledState : Type 0 where
+pub record PolledLinkState : Type 0 where
   pub link : LinkState
   -- the numbers of the polls that find it not ready, from 0
   pub pending : List ℕ
@@ -32,19 +32,19 @@ pub record PolledState : Type 0 where
   pub not_ready : ℕ
 
 -- a polled link that nothing was done to
-abbrev pub polled_at_start : LinkState → List ℕ → PolledState
+abbrev pub polled_at_start : LinkState → List ℕ → PolledLinkState
 polled_at_start link pending = record { link = link; pending = pending; polls = 0; not_ready = 0 }
 
 -- the count of polls that found it not ready, after a poll with this result
 abbrev pub waits_after : {E : Type 0} → Result (Polled ℕ) E → ℕ → ℕ
 waits_after (Ok (Ready count)) not_ready = not_ready
-waits_after (Ok Pending) not_ready = counted not_ready
+waits_after (Ok Pending) not_ready = next_count not_ready
 waits_after (Err error) not_ready = not_ready
 
 -- a poll is counted, and finds the link not ready exactly where it is named
-pub record IsPolled (old new : PolledState) (is_named : Bool) : Type 0 where
+pub record IsPolled (old new : PolledLinkState) (is_named : Bool) : Type 0 where
   pub named : IsTrue is_named ↔ FailsNow old.pending old.polls
-  pub counts : new ≡ record old { polls = counted old.polls; not_ready = if is_named then counted old.not_ready else old.not_ready }
+  pub counts : new ≡ record old { polls = next_count old.polls; not_ready = if is_named then next_count old.not_ready else old.not_ready }
 
 -- what a poll did with the link, where it was ready
 abbrev pub DoesUnlessPending : {E : Type 0} → (Result ℕ (Option E) → LinkState → LinkState → Type 0) → Result (Polled ℕ) E → LinkState → LinkState → Type 0
@@ -54,11 +54,11 @@ DoesUnlessPending Does (Err error) old new = Does (Err (Some error)) old new
 
 -- One poll of a polled link in memory: it is not ready exactly where the poll is named, and then the link is as it was; else it does
 -- what the link does.
-pub record MemoryPolls {E : Type 0} (Does : Result ℕ (Option E) → LinkState → LinkState → Type 0) (old new : PolledState) (result : Result (Polled ℕ) E) : Type 0 where
+pub record MemoryPolls {E : Type 0} (Does : Result ℕ (Option E) → LinkState → LinkState → Type 0) (old new : PolledLinkState) (result : Result (Polled ℕ) E) : Type 0 where
   pub waits : (result ≡ Ok Pending) ↔ FailsNow old.pending old.polls
   pub does : DoesUnlessPending Does result old.link new.link
   pub pending : new.pending ≡ old.pending
-  pub polls : new.polls ≡ counted old.polls
+  pub polls : new.polls ≡ next_count old.polls
   pub not_ready : new.not_ready ≡ waits_after result old.not_ready
 
 -- a read into a room of this length, and a write of so many bytes

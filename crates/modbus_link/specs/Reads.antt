@@ -1,10 +1,10 @@
 -- What a server and a client say of the reads of a call: the totals after those that gave bytes, their rooms, and how many of the
 -- turns they spent.
 use Rattle.std.specs.Prelude.{◌≡◌, ◌↔◌, ◌⊎◌, ℕ, ◌<◌, ◌≤◌, List, [], ◌∷◌, length, map, take, IsTrue, Result, Ok, Err, IfOk}
-use Rattle.modbus_link.specs.Outside.{Input, Advances, bytes_read, cuts_made, cut_of}
+use Rattle.modbus_link.specs.Outside.{Cut, Input, Advances, bytes_read, cuts_made, cut_of}
 
 -- the totals after the reads, without their rooms
-abbrev pub totals : List (ℕ × ℕ) → List ℕ
+abbrev pub totals : List Cut → List ℕ
 totals cuts = map (λ cut. cut.0) cuts
 
 -- The totals after the reads that gave bytes. The first of these reads begins at the given total.
@@ -33,7 +33,7 @@ pub record AreCuts (bytes cuts : List ℕ) : Type 0 where
   pub all : last_cut 0 cuts ≡ length bytes
 
 -- Each of these reads, the first of them from a total, has a room that fits the bytes before it.
-abbrev pub HaveRooms : (List ℕ → ℕ → Type 0) → List ℕ → ℕ → List (ℕ × ℕ) → Type 0
+abbrev pub HaveRooms : (List ℕ → ℕ → Type 0) → List ℕ → ℕ → List Cut → Type 0
 HaveRooms HasRoom bytes total [] = Unit {0}
 HaveRooms HasRoom bytes total (cut ∷ cuts) = HasRoom (take total bytes) cut.1 × HaveRooms HasRoom bytes cut.0 cuts
 

@@ -2,20 +2,20 @@
 use Rattle.std.proofs.Common.{Ok, ◌≡◌, ℕ, ◌+◌, ◌-◌, ◌<◌, ◌≤◌, List, [], ◌∷◌, ◌++◌, length, take, drop, map, refl, sym, ◌∙◌, ap, append_assoc, add-zero, length-append, arith, IsTrue}
 use Rattle.std.proofs.lemmas.Grind.{common_steps}
 use Rattle.std.proofs.lemmas.List.{take-take, take_all, length-take, length-take-le, drop_at, take_at, map-append, append-nil, take-append-drop, drop-append-le}
-use Rattle.modbus_link.specs.Outside.{Input, Gives, Advances, Output, Extends, bytes_appended, bytes_read, cuts_made, shifted, RisesTo, ReadIsTold, one_cut}
+use Rattle.modbus_link.specs.Outside.{Cut, Input, Gives, Advances, Output, Extends, bytes_appended, bytes_read, cuts_made, cuts_from, RisesTo, ReadIsTold, one_cut}
 
-pub RisesTo-append : (start middle end : ℕ) (xs ys : List (ℕ × ℕ)) → RisesTo start xs middle → RisesTo middle ys end → RisesTo start (xs ++ ys) end
+pub RisesTo-append : (start middle end : ℕ) (xs ys : List Cut) → RisesTo start xs middle → RisesTo middle ys end → RisesTo start (xs ++ ys) end
 RisesTo-append start middle end [] ys p q = rw p q
 RisesTo-append start middle end (x ∷ xs) ys p q = (p.0, RisesTo-append x.0 middle end xs ys p.1 q)
 
-pub RisesTo-shifted : (by start end : ℕ) (xs : List (ℕ × ℕ)) → RisesTo start xs end → RisesTo (by + start) (shifted by xs) (by + end)
+pub RisesTo-shifted : (by start end : ℕ) (xs : List Cut) → RisesTo start xs end → RisesTo (by + start) (cuts_from by xs) (by + end)
 RisesTo-shifted by start end [] p = omega arith
 RisesTo-shifted by start end (x ∷ xs) p = (omega (arith, p.0), RisesTo-shifted by x.0 end xs p.1)
 
 -- cuts above a total, counted from an earlier one
-pub earlier : (from by middle start end : ℕ) (cuts : List (ℕ × ℕ)) → middle ≡ from + by
+pub earlier : (from by middle start end : ℕ) (cuts : List Cut) → middle ≡ from + by
     → RisesTo start (map (λ cut. (cut.0 - middle, cut.1)) cuts) end
-    → map (λ cut. (cut.0 - from, cut.1)) cuts ≡ shifted by (map (λ cut. (cut.0 - middle, cut.1)) cuts)
+    → map (λ cut. (cut.0 - from, cut.1)) cuts ≡ cuts_from by (map (λ cut. (cut.0 - middle, cut.1)) cuts)
 earlier from by middle start end [] m p = refl
 earlier from by middle start end (cut ∷ cuts) m p =
     let h : start < cut.0 - middle = p.0 in
@@ -23,11 +23,11 @@ earlier from by middle start end (cut ∷ cuts) m p =
     let rest = earlier from by middle (cut.0 - middle) end cuts m p.1 in
     cc
 
-pub RisesTo-both : (cuts xs ys : List (ℕ × ℕ)) (n m total : ℕ) → cuts ≡ xs ++ shifted n ys → total ≡ n + m
+pub RisesTo-both : (cuts xs ys : List Cut) (n m total : ℕ) → cuts ≡ xs ++ cuts_from n ys → total ≡ n + m
     → RisesTo 0 xs n → RisesTo 0 ys m → RisesTo 0 cuts total
 RisesTo-both cuts xs ys n m total e f p q =
-    let after : RisesTo n (shifted n ys) (n + m) = rw add-zero at (RisesTo-shifted n 0 m ys q) in
-    rw (e, f) (RisesTo-append 0 n (n + m) xs (shifted n ys) p after)
+    let after : RisesTo n (cuts_from n ys) (n + m) = rw add-zero at (RisesTo-shifted n 0 m ys q) in
+    rw (e, f) (RisesTo-append 0 n (n + m) xs (cuts_from n ys) p after)
 
 -- the front of a list in two parts
 pub front_both : (whole xs ys zs : List ℕ) (n : ℕ) → whole ≡ xs ++ (ys ++ zs) → n ≡ length xs + length ys → take n whole ≡ xs ++ ys
@@ -37,13 +37,13 @@ front_both whole xs ys zs n e m =
     rw joined (take_at (xs ++ ys) zs n count)
 
 -- what was added to a list in two steps
-pub added_both : (xs ys zs : List (ℕ × ℕ)) → take (length xs) ys ≡ xs → take (length ys) zs ≡ ys → drop (length xs) zs ≡ drop (length xs) ys ++ drop (length ys) zs
+pub added_both : (xs ys zs : List Cut) → take (length xs) ys ≡ xs → take (length ys) zs ≡ ys → drop (length xs) zs ≡ drop (length xs) ys ++ drop (length ys) zs
 added_both xs ys zs e f =
     let whole : zs ≡ ys ++ drop (length ys) zs = sym (take-append-drop (length ys) zs) ∙ ap (λ front. front ++ drop (length ys) zs) f in
     let short : length xs ≤ length ys = omega (arith, simp length-take at (ap length e)) in
     ap (drop (length xs)) whole ∙ drop-append-le (length xs) ys (drop (length ys) zs) short
 
-pub front_kept : (xs ys zs : List (ℕ × ℕ)) → take (length xs) ys ≡ xs → take (length ys) zs ≡ ys → take (length xs) zs ≡ xs
+pub front_kept : (xs ys zs : List Cut) → take (length xs) ys ≡ xs → take (length ys) zs ≡ ys → take (length xs) zs ≡ xs
 front_kept xs ys zs e f =
     let short : length xs ≤ length ys = omega (arith, simp length-take at (ap length e)) in
     sym (take-take (length xs) (length ys) zs short) ∙ ap (take (length xs)) f ∙ e
@@ -59,12 +59,12 @@ module _ (a b c : Input) (first : Gives a b) (second : Gives b c) where
   pub bytes_read-both : bytes_read a c ≡ bytes_read a b ++ bytes_read b c
   bytes_read-both = front_both a.left (bytes_read a b) (bytes_read b c) c.left (c.given - a.given) left-both given-both
 
-  pub cuts_made-both : cuts_made a c ≡ cuts_made a b ++ shifted (length (bytes_read a b)) (cuts_made b c)
+  pub cuts_made-both : cuts_made a c ≡ cuts_made a b ++ cuts_from (length (bytes_read a b)) (cuts_made b c)
   cuts_made-both =
-      let later : map (λ (cut : ℕ × ℕ). (cut.0 - a.given, cut.1)) (drop (length b.cuts) c.cuts) ≡ shifted (length (bytes_read a b)) (cuts_made b c) =
+      let later : map (λ (cut : Cut). (cut.0 - a.given, cut.1)) (drop (length b.cuts) c.cuts) ≡ cuts_from (length (bytes_read a b)) (cuts_made b c) =
       earlier a.given (length (bytes_read a b)) b.given 0 (length (bytes_read b c)) (drop (length b.cuts) c.cuts) first.given second.rising in
-      ap (map (λ (cut : ℕ × ℕ). (cut.0 - a.given, cut.1))) (added_both a.cuts b.cuts c.cuts first.cuts second.cuts)
-      ∙ map-append (λ (cut : ℕ × ℕ). (cut.0 - a.given, cut.1)) (drop (length a.cuts) b.cuts) (drop (length b.cuts) c.cuts)
+      ap (map (λ (cut : Cut). (cut.0 - a.given, cut.1))) (added_both a.cuts b.cuts c.cuts first.cuts second.cuts)
+      ∙ map-append (λ (cut : Cut). (cut.0 - a.given, cut.1)) (drop (length a.cuts) b.cuts) (drop (length b.cuts) c.cuts)
       ∙ ap (λ cuts. cuts_made a b ++ cuts) later
 
   pub count-both : length (bytes_read a c) ≡ length (bytes_read a b) + length (bytes_read b c)
@@ -83,13 +83,13 @@ module _ (a b c : Input) (first : Gives a b) (second : Gives b c) where
 pub bytes_read-none : (a b : Input) → b.given ≡ a.given → bytes_read a b ≡ []
 bytes_read-none a b e = let none : b.given - a.given ≡ 0 = omega arith in rw none
 
-pub added_none : (xs ys : List (ℕ × ℕ)) → ys ≡ xs → drop (length xs) ys ≡ []
+pub added_none : (xs ys : List Cut) → ys ≡ xs → drop (length xs) ys ≡ []
 added_none xs ys e = rw e (grind (arith, common_steps))
 
 pub cuts_made-none : (a b : Input) → b.cuts ≡ a.cuts → cuts_made a b ≡ []
-cuts_made-none a b e = ap (map (λ (cut : ℕ × ℕ). (cut.0 - a.given, cut.1))) (added_none a.cuts b.cuts e)
+cuts_made-none a b e = ap (map (λ (cut : Cut). (cut.0 - a.given, cut.1))) (added_none a.cuts b.cuts e)
 
-pub RisesTo-none : (cuts : List (ℕ × ℕ)) (bytes : List ℕ) → cuts ≡ [] → bytes ≡ [] → RisesTo 0 cuts (length bytes)
+pub RisesTo-none : (cuts : List Cut) (bytes : List ℕ) → cuts ≡ [] → bytes ≡ [] → RisesTo 0 cuts (length bytes)
 RisesTo-none cuts bytes e f = rw (e, f) refl
 
 pub Gives-same : (a : Input) → Gives a a
@@ -165,13 +165,13 @@ read_more a b c xs ys first second p q told =
     ∙ ap (λ front. front ++ bytes_read b c) (p told)
     ∙ ap (λ rest. xs ++ rest) (q (first.told ∙ told))
 
-pub cuts_more : (a b c : Input) (xs ys : List (ℕ × ℕ)) → Advances a b → Advances b c
+pub cuts_more : (a b c : Input) (xs ys : List Cut) → Advances a b → Advances b c
     → (IsTrue a.told → cuts_made a b ≡ xs) → (IsTrue b.told → cuts_made b c ≡ ys)
-    → IsTrue a.told → cuts_made a c ≡ xs ++ shifted (length (bytes_read a b)) ys
+    → IsTrue a.told → cuts_made a c ≡ xs ++ cuts_from (length (bytes_read a b)) ys
 cuts_more a b c xs ys first second p q told =
     cuts_made-both a b c (first.content told) (second.content (first.told ∙ told))
-    ∙ ap (λ front. front ++ shifted (length (bytes_read a b)) (cuts_made b c)) (p told)
-    ∙ ap (λ rest. xs ++ shifted (length (bytes_read a b)) rest) (q (first.told ∙ told))
+    ∙ ap (λ front. front ++ cuts_from (length (bytes_read a b)) (cuts_made b c)) (p told)
+    ∙ ap (λ rest. xs ++ cuts_from (length (bytes_read a b)) rest) (q (first.told ∙ told))
 
 pub one_cut-none : (n room : ℕ) → n ≡ 0 → one_cut n room ≡ []
 one_cut-none n room e = rw e refl
@@ -194,7 +194,7 @@ pub cuts_made-gave : {E : Type 0} (a b c : Input) (before after : List ℕ) (n :
 cuts_made-gave {E} a b c before after n first second read some told =
     cuts_more a b c (cuts_made a b) ((n, length before) ∷ []) first second (λ told. refl) (λ told. (read told).cuts ∙ one_cut-one n (length before) some) told
 
-pub RisesTo-one : (cuts : List (ℕ × ℕ)) (total n room : ℕ) → cuts ≡ (n, room) ∷ [] → total ≡ n → 0 < n → RisesTo 0 cuts total
+pub RisesTo-one : (cuts : List Cut) (total n room : ℕ) → cuts ≡ (n, room) ∷ [] → total ≡ n → 0 < n → RisesTo 0 cuts total
 RisesTo-one cuts total n room e f some = rw (e, f) (some, refl)
 
 -- a source that gives n of the bytes that were left, in one read
@@ -207,7 +207,7 @@ module _ (old new : Input) (n room : ℕ) (some : 0 < n) (within : n ≤ length 
   cuts_made-once =
       let e : new.given - old.given ≡ n = omega arith in
       let last : drop (length old.cuts) new.cuts ≡ (new.given, room) ∷ [] = rw cuts (drop_at old.cuts ((new.given, room) ∷ []) (length old.cuts) refl) in
-      ap (map (λ (cut : ℕ × ℕ). (cut.0 - old.given, cut.1))) last ∙ ap (λ (total : ℕ). (total, room) ∷ []) e
+      ap (map (λ (cut : Cut). (cut.0 - old.given, cut.1))) last ∙ ap (λ (total : ℕ). (total, room) ∷ []) e
 
   pub Gives-once : Gives old new
   Gives-once =
@@ -220,7 +220,7 @@ module _ (old new : Input) (n room : ℕ) (some : 0 < n) (within : n ≤ length 
       }
 
 -- each cut is of a byte at least
-pub RisesTo-count : (start end : ℕ) (cuts : List (ℕ × ℕ)) → RisesTo start cuts end → start + length cuts ≤ end
+pub RisesTo-count : (start end : ℕ) (cuts : List Cut) → RisesTo start cuts end → start + length cuts ≤ end
 RisesTo-count start end [] p = omega arith
 RisesTo-count start end (cut ∷ cuts) p = omega (arith, p.0, RisesTo-count cut.0 end cuts p.1)
 

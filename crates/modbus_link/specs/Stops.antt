@@ -1,6 +1,6 @@
 -- What a signal in memory keeps.
 use Rattle.std.specs.Prelude.{ℕ, ◌-◌, ◌==◌, Bool, true, false}
-use Rattle.modbus_link.specs.Memory.{counted}
+use Rattle.modbus_link.specs.Memory.{next_count}
 
 pub record StopState : Type 0 where
   -- how often it is looked at before it is set
@@ -14,7 +14,7 @@ stop_at_start after = record { left = after; stops = 0 }
 
 -- the count of stops after a look with this answer
 abbrev pub stops_after : Bool → ℕ → ℕ
-stops_after true stops = counted stops
+stops_after true stops = next_count stops
 stops_after false stops = stops
 
 -- a look uses one of those that are left up, or counts a stop where none is

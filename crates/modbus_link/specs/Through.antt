@@ -1,7 +1,7 @@
 -- What is said of an object that is reached through a reference is said of the object.
 use Rattle.std.proofs.Common.{◌≡◌, ℕ, List, [], ◌∷◌, ap, subst}
-use Rattle.modbus_link.specs.Outside.{Input, Output, Outside, outside, Advances, Extends, input_through, output_through}
-use Rattle.modbus_link.specs.Passing.{Passes}
+use Rattle.modbus_link.specs.Outside.{Cut, Input, Output, Outside, outside, Advances, Extends, input_through, output_through}
+use Rattle.modbus_link.specs.Passes.{Passes}
 
 abbrev pub tail_of : List ℕ → List ℕ
 tail_of [] = []
@@ -24,7 +24,7 @@ advances_through n m a b s = record {
 pub extends_through : (n m : ℕ) (k l : Output) → Extends (output_through n k) (output_through m l) → Extends k l
 extends_through n m k l s = record { told = s.told; later = s.later; names = ap tail_of s.names; sure = s.sure; no_fault = s.no_fault; content = s.content }
 
-pub passes_through : (n m n' m' : ℕ) (a b : Outside) (fed : List ℕ) (made : List (ℕ × ℕ)) (sent : List ℕ)
+pub passes_through : (n m n' m' : ℕ) (a b : Outside) (fed : List ℕ) (made : List Cut) (sent : List ℕ)
     → Passes (outside (input_through n a.input) (output_through n' a.output)) (outside (input_through m b.input) (output_through m' b.output)) fed made sent
     → Passes a b fed made sent
 passes_through n m n' m' a b fed made sent p = record {

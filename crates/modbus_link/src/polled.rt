@@ -97,9 +97,9 @@ pub struct PolledMemoryLink {
 }
 
 impl Model for PolledMemoryLink {
-    ghost use Rattle.modbus_link.specs.Polled.{PolledState};
+    ghost use Rattle.modbus_link.specs.Polled.{PolledLinkState};
 
-    ghost Value = { PolledState };
+    ghost Value = { PolledLinkState };
 
     ghost view = { λ polled. record { link = polled.link; pending = polled.pending.items; polls = polled.polls; not_ready = polled.not_ready } };
 }

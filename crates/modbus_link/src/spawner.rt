@@ -2,7 +2,7 @@
 ghost use Rattle.std.specs.Prelude.{◌≡◌, ℕ, ◌≤◌, Result, Ok, OnErr};
 ghost use Rattle.modbus_link.specs.declared.outside.Failed.{Failed};
 ghost use Rattle.modbus_link.specs.Outside.{Rose};
-ghost use Rattle.modbus_link.specs.Memory.{counted};
+ghost use Rattle.modbus_link.specs.Memory.{next_count};
 ghost use Rattle.modbus_link.specs.Listens.{given_after, tally_at_start, StartsBy};
 
 use crate::outside::Failed;
@@ -77,7 +77,7 @@ impl<W: Worker> Spawner<W> for InlineSpawner {
 
     ghost started = { λ spawner. spawner };
 
-    ghost starts = { λ old worker result new. (result ≡ Ok tt) × (new ≡ counted old) };
+    ghost starts = { λ old worker result new. (result ≡ Ok tt) × (new ≡ next_count old) };
 
     /// Runs the worker, and never fails.
     fn start(&mut self, worker: W) -> Result<(), Failed> {

@@ -4,7 +4,7 @@
 ghost use Rattle.std.specs.Prelude.{◌≡◌, ◌<◌, ◌≤◌, length, IfOk, OnErr};
 ghost use Rattle.std.specs.Io.{ReadsAtMost, WritesAtMost};
 ghost use Rattle.modbus_link.specs.Outside.{Rose, Advances, Extends, untold_input, untold_output};
-ghost use Rattle.modbus_link.specs.Memory.{counted, faults_after};
+ghost use Rattle.modbus_link.specs.Memory.{next_count, faults_after};
 ghost use Rattle.modbus_link.specs.Line.{shut, Shuts};
 ghost use Rattle.modbus_link.specs.Polled.{at_once};
 ghost use Rattle.modbus_link.specs.Tcp.{tcp_at_start};
@@ -83,7 +83,7 @@ impl TcpLink {
     fn count_read_fault(&mut self) -> Failed
         ensures source { Advances (untold_input self.old.read_faults)
             (untold_input self.new.read_faults) }
-        ensures counts { self.new ≡ record self.old { read_faults = counted self.old.read_faults } }
+        ensures counts { self.new ≡ record self.old { read_faults = next_count self.old.read_faults } }
     {
         self.read_faults = self.read_faults.saturating_add(1);
         Failed

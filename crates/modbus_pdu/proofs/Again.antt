@@ -10,8 +10,8 @@ use Rattle.modbus_frame.specs.Codes.{read_code_number}
 use Rattle.modbus_frame.specs.Meaning.{Asked, ReadCoils, ReadDiscreteInputs, WriteSingleCoil, WriteMultipleCoils, ReadInputRegisters, ReadHoldingRegisters, WriteSingleRegister, WriteMultipleRegisters, ReportServerId, MaskWriteRegister, ReadWriteMultipleRegisters, ReadFifoQueue, ReadDeviceIdentification, Custom}
 use Rattle.modbus_frame.specs.FunctionCodes as number
 use Rattle.modbus_pdu.specs.Limits.{max_pdu, mei_device_identification}
-use Rattle.modbus_pdu.specs.Fields.{word_at, words_of, coils_of, packed, packed_size}
-use Rattle.modbus_pdu.specs.Writing.{word, words}
+use Rattle.modbus_pdu.specs.Fields.{word_at, words_of, coils_of, packed_bytes, packed_size}
+use Rattle.modbus_pdu.specs.Word.{word, words}
 use Rattle.modbus_pdu.specs.RequestPdu.{request_pdu}
 use Rattle.modbus_pdu.specs.RequestOf.{request_of, asked_by, two_words_of, single_coil_of, three_words_of, only_code_of, one_word_of, identification_of, registers_at, words_written_of, coils_written_of, read_write_of, IsModelled}
 use Rattle.modbus_pdu.specs.Laws.{IsWord, IsInRange, ReadsBack}
@@ -88,7 +88,7 @@ again (WriteMultipleCoils a coils) is readable fits =
     let len = packed_length coils in
     let n = length coils in
     let few : n < 2 ^ 16 = omega (arith, fits, len) in
-    rw (coils_written_back number.write_multiple_coils (a / 256 % 256) (a % 256) (n / 256 % 256) (n % 256) (packed_size n) (packed coils) (omega arith) len (omega (arith, fits, len)), word_back a is, word_back n few, packed_back coils) refl
+    rw (coils_written_back number.write_multiple_coils (a / 256 % 256) (a % 256) (n / 256 % 256) (n % 256) (packed_size n) (packed_bytes coils) (omega arith) len (omega (arith, fits, len)), word_back a is, word_back n few, packed_back coils) refl
 again (ReadInputRegisters a q) is readable fits = rw (word_back a is.0, word_back q is.1) refl
 again (ReadHoldingRegisters a q) is readable fits = rw (word_back a is.0, word_back q is.1) refl
 again (WriteSingleRegister a w) is readable fits = rw (word_back a is.0, word_back w is.1) refl

@@ -2,7 +2,7 @@
 use Rattle.std.proofs.Common.{◌≡◌, ℕ, suc, ◌-◌, ◌+◌, ◌≤◌, ◌<◌, List, ◌∷◌, Result, Ok, Err, refl, sym, ◌∙◌, arith}
 use Rattle.modbus_frame.specs.declared.fault.Reason.{Reason}
 use Rattle.modbus_frame.specs.declared.identification.DeviceIdObject.{DeviceIdObject}
-use Rattle.modbus_pdu.specs.Decoding.{◌>>=◌}
+use Rattle.modbus_pdu.specs.Decodes.{◌>>=◌}
 use Rattle.modbus_pdu.specs.ResponseOf.{object_at, objects_at, place_after}
 
 -- what was read first doesn't change the place

@@ -5,7 +5,7 @@ use Rattle.modbus_frame.specs.declared.fault.Reason.{Reason}
 use Rattle.modbus_frame.specs.declared.fault.PduError.{PduError}
 use Rattle.modbus_frame.specs.declared.fault.PduError.TheVariants as error
 use Rattle.modbus_frame.specs.declared.identification.DeviceIdObject.{DeviceIdObject}
-use Rattle.modbus_pdu.specs.Decoding.{◌>>=◌, Fails}
+use Rattle.modbus_pdu.specs.Decodes.{◌>>=◌, Fails}
 use Rattle.modbus_pdu.specs.ResponseOf.{object_at, objects_at}
 
 -- what was read before, and what is still read

@@ -14,14 +14,14 @@ use Rattle.modbus_frame.specs.Answered.{function_answered}
 use Rattle.modbus_frame.specs.Codes.{function_number, read_code_number, level_number}
 use Rattle.modbus_frame.specs.FunctionCodes as number
 use Rattle.modbus_pdu.specs.Limits.{max_pdu, mei_device_identification, fifo_count_size}
-use Rattle.modbus_pdu.specs.Fields.{words_of, coils_of, packed, packed_size}
+use Rattle.modbus_pdu.specs.Fields.{words_of, coils_of, packed_bytes, packed_size}
 use Rattle.modbus_pdu.specs.Laws.{IsWord}
-use Rattle.modbus_pdu.specs.Decoding.{◌>>=◌, read_code_or}
+use Rattle.modbus_pdu.specs.Decodes.{◌>>=◌, read_code_or}
 use Rattle.modbus_pdu.specs.RequestOf.{two_words_of, single_coil_of, three_words_of, IsModelled}
-use Rattle.modbus_pdu.specs.Writing.{word, words}
+use Rattle.modbus_pdu.specs.Word.{word, words}
 use Rattle.modbus_pdu.specs.ResponseOf.{objects_at, level_or, coils_read_of, words_read_of, queue_of, server_id_of, device_identification_of, answered_by, response_of, exception_response_of, response_result_of}
 use Rattle.modbus_pdu.specs.ResponsePdu.{flag, objects, device_identification_pdu, response_pdu}
-use Rattle.modbus_pdu.specs.ResponseLaws.{filled, ResponseReadsBack, ResultReadsBack, ExceptionReadsBack}
+use Rattle.modbus_pdu.specs.ResponseLaws.{with_whole_bytes, ResponseReadsBack, ResultReadsBack, ExceptionReadsBack}
 use Rattle.modbus_pdu.proofs.Again.{word_back, words_back, other_code}
 use Rattle.modbus_pdu.proofs.FilledCoils.{filled_back}
 use Rattle.modbus_pdu.proofs.ObjectsBack.{objects_back}
@@ -113,10 +113,10 @@ with_words f ns are fits =
     rw (words_read_back f (length ns) (words ns) len (omega (arith, fits, len)), words_back ns are) refl
 
 -- the fields of a response with coils
-with_coils : (f : ℕ) (coils : List Bool) → 2 + length (packed coils) ≤ max_pdu → coils_read_of (f ∷ packed_size (length coils) ∷ packed coils) ≡ Ok (filled coils)
+with_coils : (f : ℕ) (coils : List Bool) → 2 + length (packed_bytes coils) ≤ max_pdu → coils_read_of (f ∷ packed_size (length coils) ∷ packed_bytes coils) ≡ Ok (with_whole_bytes coils)
 with_coils f coils fits =
     let len = packed_length coils in
-    rw (coils_read_back f (packed_size (length coils)) (packed coils) len (omega (arith, fits, len)), filled_back coils) refl
+    rw (coils_read_back f (packed_size (length coils)) (packed_bytes coils) len (omega (arith, fits, len)), filled_back coils) refl
 
 -- the fields of a queue
 with_queue : (ns : List ℕ) → AllByRecursion IsWord ns → 5 + length (words ns) ≤ max_pdu → queue_of (number.read_fifo_queue ∷ word (fifo_count_size + 2 * length ns) ++ word (length ns) ++ words ns) ≡ Ok ns

@@ -2,7 +2,7 @@
 use Rattle.std.proofs.Common.{◌≡◌, ℕ, ◌+◌, ◌*◌, sum_by, Bool, List, [], ◌∷◌, length, refl, arith, length-append}
 use Rattle.std.proofs.lemmas.List.Sums.{sum_by-cons}
 use Rattle.std.proofs.lemmas.List.FromFn.{length-map-range_with_len}
-use Rattle.modbus_pdu.specs.Fields.{bits_at, packed, packed_size}
+use Rattle.modbus_pdu.specs.Fields.{bits_at, packed_bytes, packed_size}
 use Rattle.modbus_frame.specs.Meaning.{Asked, ReadCoils, ReadDiscreteInputs, WriteSingleCoil, WriteMultipleCoils, ReadInputRegisters, ReadHoldingRegisters, WriteSingleRegister, WriteMultipleRegisters, ReportServerId, MaskWriteRegister, ReadWriteMultipleRegisters, ReadFifoQueue, ReadDeviceIdentification, Custom}
 use Rattle.modbus_frame.specs.declared.identification.DeviceIdObject.{DeviceIdObject}
 use Rattle.modbus_frame.specs.declared.response.Response.{Response}
@@ -11,15 +11,15 @@ use Rattle.modbus_pdu.specs.Laws.{request_size}
 use Rattle.modbus_pdu.specs.ResponseLaws.{response_size}
 use Rattle.modbus_pdu.specs.ResponsePdu.{object, objects, device_identification_pdu, response_pdu}
 use Rattle.modbus_pdu.specs.RequestPdu.{request_pdu}
-use Rattle.modbus_pdu.specs.Writing.{word, words}
+use Rattle.modbus_pdu.specs.Word.{word, words}
 
 pub words_length : (ns : List ℕ) → length (words ns) ≡ 2 * length ns
 unfolding words
 words_length [] = refl
 words_length (n ∷ ns) = omega (arith, length-append (word n) (words ns), words_length ns)
 
-pub packed_length : (coils : List Bool) → length (packed coils) ≡ packed_size (length coils)
-unfolding packed
+pub packed_length : (coils : List Bool) → length (packed_bytes coils) ≡ packed_size (length coils)
+unfolding packed_bytes
 packed_length coils = length-map-range_with_len (λ (k : ℕ). bits_at coils (8 * k) 8) 0 (packed_size (length coils))
 
 pub request_length : (r : Asked) → length (request_pdu r) ≡ request_size r

@@ -6,7 +6,7 @@ use Rattle.std.proofs.lemmas.Bool.{cases_lt}
 use Rattle.std.proofs.lemmas.List.FromFn.{fill_by_all, get_or-map-range_with_len}
 use Rattle.std.proofs.Math.Pow.{pow_pos}
 use native.Mathlib.Numerals.{unary_clauses}
-use Rattle.modbus_pdu.specs.Fields.{bit_of, bits_at, coil_at, coils_of, packed, packed_size}
+use Rattle.modbus_pdu.specs.Fields.{bit_of, bits_at, coil_at, coils_of, packed_bytes, packed_size}
 
 one_more_bit : (b n : ℕ) (w : Bool) → b < 2 ^ n → b + bit_of w * 2 ^ n < 2 ^ suc n
 one_more_bit b n true lt = simp unary_clauses (omega arith)
@@ -59,13 +59,13 @@ is_one true = refl
 is_one false = refl
 
 -- a place of the packed bytes holds its coil, and off past the last one
-pub packed_bit : (coils : List Bool) (k : ℕ) → k < 8 * packed_size (length coils) → coil_at (packed coils) k ≡ get_or coils k false
-unfolding packed
+pub packed_bit : (coils : List Bool) (k : ℕ) → k < 8 * packed_size (length coils) → coil_at (packed_bytes coils) k ≡ get_or coils k false
+unfolding packed_bytes
 packed_bit coils k h =
     let byte = get_or-map-range_with_len (λ (i : ℕ). bits_at coils (8 * i) 8) 0 (packed_size (length coils)) (k / 8) (k / 8) 0 (omega arith) (omega arith) in
     let place : 8 * (k / 8) + k % 8 ≡ k = omega arith in
     let bit = bits_read coils (8 * (k / 8)) 8 (k % 8) (omega arith) in
     rw (byte, bit, place) (is_one (get_or coils k false))
 
-pub packed_back : (coils : List Bool) → coils_of (packed coils) (length coils) ≡ coils
-packed_back coils = sym (fill_by_all (coil_at (packed coils)) coils (length coils) false refl (λ k h. sym (packed_bit coils k (omega (arith, h)))))
+pub packed_back : (coils : List Bool) → coils_of (packed_bytes coils) (length coils) ≡ coils
+packed_back coils = sym (fill_by_all (coil_at (packed_bytes coils)) coils (length coils) false refl (λ k h. sym (packed_bit coils k (omega (arith, h)))))

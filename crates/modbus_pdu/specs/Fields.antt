@@ -35,8 +35,8 @@ abbrev pub packed_size : ℕ → ℕ
 packed_size count = (count + 7) / 8
 
 -- the coils as bytes: byte k holds the eight coils from 8 k on, unused bits are 0 (V1.1b3, 6.11)
-unfoldable pub packed : List Bool → List ℕ
-packed coils = map (λ k. bits_at coils (8 * k) 8) (range_with_len 0 (packed_size (length coils)))
+unfoldable pub packed_bytes : List Bool → List ℕ
+packed_bytes coils = map (λ k. bits_at coils (8 * k) 8) (range_with_len 0 (packed_size (length coils)))
 
 -- the word that stands for a coil: FF00 is on, 0000 is off (V1.1b3, 6.5)
 abbrev pub coil_word : Bool → ℕ

@@ -1,11 +1,12 @@
-pub mod Coding
+pub mod Encodes
 pub mod Fields
 pub mod Laws
 pub mod Limits
-pub mod Decoding
+pub mod Decodes
 pub mod RequestOf
 pub mod RequestPdu
-pub mod Writing
+pub mod Word
 pub mod ResponseLaws
 pub mod ResponseOf
 pub mod ResponsePdu
+pub mod SlavePdu

@@ -9,7 +9,7 @@ use Rattle.modbus_frame.specs.Meaning.{Asked, ReadCoils, ReadDiscreteInputs, Wri
 use Rattle.modbus_frame.specs.FunctionCodes as number
 use Rattle.modbus_pdu.specs.Limits.{max_pdu, mei_device_identification, code_pdu, one_word_pdu, two_words_pdu, three_words_pdu, write_head, identification_request}
 use Rattle.modbus_pdu.specs.Fields.{word_at, words_of, coils_of, coil_of}
-use Rattle.modbus_pdu.specs.Decoding.{◌>>=◌, read_code_or}
+use Rattle.modbus_pdu.specs.Decodes.{◌>>=◌, read_code_or}
 
 -- Read Coils, Read Discrete Inputs, Read Holding Registers, Read Input Registers, Write Single
 -- Register (6.1 to 6.4, 6.6): an address at place 1, a quantity or a value at place 3.

@@ -4,8 +4,8 @@ use Rattle.modbus_frame.specs.Codes.{read_code_number}
 use Rattle.modbus_frame.specs.Meaning.{Asked, ReadCoils, ReadDiscreteInputs, WriteSingleCoil, WriteMultipleCoils, ReadInputRegisters, ReadHoldingRegisters, WriteSingleRegister, WriteMultipleRegisters, ReportServerId, MaskWriteRegister, ReadWriteMultipleRegisters, ReadFifoQueue, ReadDeviceIdentification, Custom}
 use Rattle.modbus_frame.specs.FunctionCodes as number
 use Rattle.modbus_pdu.specs.Limits.{mei_device_identification}
-use Rattle.modbus_pdu.specs.Fields.{packed, packed_size, coil_word}
-use Rattle.modbus_pdu.specs.Writing.{word, words}
+use Rattle.modbus_pdu.specs.Fields.{packed_bytes, packed_size, coil_word}
+use Rattle.modbus_pdu.specs.Word.{word, words}
 
 -- registers as they are written: their number, the byte count and their words (6.12, 6.17)
 abbrev pub counted_registers : List ℕ → List ℕ
@@ -20,7 +20,7 @@ request_pdu (ReadHoldingRegisters address quantity) = number.read_holding_regist
 request_pdu (ReadInputRegisters address quantity) = number.read_input_registers ∷ word address ++ word quantity
 request_pdu (WriteSingleCoil address coil) = number.write_single_coil ∷ word address ++ word (coil_word coil)
 request_pdu (WriteSingleRegister address register) = number.write_single_register ∷ word address ++ word register
-request_pdu (WriteMultipleCoils address coils) = number.write_multiple_coils ∷ word address ++ word (length coils) ++ packed_size (length coils) ∷ packed coils
+request_pdu (WriteMultipleCoils address coils) = number.write_multiple_coils ∷ word address ++ word (length coils) ++ packed_size (length coils) ∷ packed_bytes coils
 request_pdu (WriteMultipleRegisters address registers) = number.write_multiple_registers ∷ word address ++ counted_registers registers
 request_pdu ReportServerId = number.report_server_id ∷ []
 request_pdu (MaskWriteRegister address and_mask or_mask) = number.mask_write_register ∷ word address ++ word and_mask ++ word or_mask

@@ -7,7 +7,7 @@ use Rattle.modbus_frame.specs.declared.response.Response.{Response}
 use Rattle.modbus_frame.specs.declared.response.Response.TheVariants as response
 use Rattle.modbus_frame.specs.declared.response.ExceptionResponse.{ExceptionResponse}
 use Rattle.modbus_frame.specs.FunctionCodes as number
-use Rattle.modbus_pdu.specs.Coding.{Fits}
+use Rattle.modbus_pdu.specs.Encodes.{Fits}
 use Rattle.modbus_pdu.specs.Fields.{packed_size}
 use Rattle.modbus_pdu.specs.Laws.{IsWord}
 use Rattle.modbus_pdu.specs.Limits.{code_pdu, two_words_pdu, three_words_pdu, read_head, server_id_head, fifo_head, fifo_count_size, identification_head}
@@ -33,14 +33,14 @@ IsResponse (response.ReadDeviceIdentification found) = ⊤
 IsResponse (response.Custom code bytes) = IsModelled code → ⊥
 
 -- the coils, and after them as many that are false as fill the last byte
-abbrev pub filled : List Bool → List Bool
-filled coils = coils ++ replicate (8 * packed_size (length coils) - length coils) false
+abbrev pub with_whole_bytes : List Bool → List Bool
+with_whole_bytes coils = coils ++ replicate (8 * packed_size (length coils) - length coils) false
 
 -- the response, with its coils filled: a PDU tells how many bytes of coils it has, and not how many
 -- of them were asked for (MODBUS Application Protocol V1.1b3, section 6.1)
 abbrev pub with_filled_coils : Response → Response
-with_filled_coils (response.ReadCoils coils) = response.ReadCoils (filled coils)
-with_filled_coils (response.ReadDiscreteInputs coils) = response.ReadDiscreteInputs (filled coils)
+with_filled_coils (response.ReadCoils coils) = response.ReadCoils (with_whole_bytes coils)
+with_filled_coils (response.ReadDiscreteInputs coils) = response.ReadDiscreteInputs (with_whole_bytes coils)
 with_filled_coils other = other
 
 -- what is written is read again, but for the coils that fill the last byte

@@ -15,7 +15,7 @@ use Rattle.modbus_frame.specs.Codes.{function_of, exception_of, level_of}
 use Rattle.modbus_frame.specs.FunctionCodes as number
 use Rattle.modbus_pdu.specs.Limits.{max_pdu, mei_device_identification, one_byte_pdu, read_head, server_id_head, fifo_head, fifo_count_size, identification_head}
 use Rattle.modbus_pdu.specs.Fields.{word_at, words_of, coils_of}
-use Rattle.modbus_pdu.specs.Decoding.{◌>>=◌, read_code_or}
+use Rattle.modbus_pdu.specs.Decodes.{◌>>=◌, read_code_or}
 use Rattle.modbus_pdu.specs.ResponsePdu.{flag}
 use Rattle.modbus_pdu.specs.RequestOf.{two_words_of, single_coil_of, three_words_of}
 

@@ -10,8 +10,8 @@ use Rattle.modbus_frame.specs.declared.response.Response.TheVariants as response
 use Rattle.modbus_frame.specs.declared.response.ExceptionResponse.{ExceptionResponse}
 use Rattle.modbus_frame.specs.FunctionCodes as number
 use Rattle.modbus_pdu.specs.Limits.{mei_device_identification, fifo_count_size}
-use Rattle.modbus_pdu.specs.Fields.{packed, packed_size, coil_word}
-use Rattle.modbus_pdu.specs.Writing.{word, words}
+use Rattle.modbus_pdu.specs.Fields.{packed_bytes, packed_size, coil_word}
+use Rattle.modbus_pdu.specs.Word.{word, words}
 
 -- FF for true, 00 for false: a run indicator, and whether more objects follow
 -- (sections 6.13, 6.21)
@@ -35,8 +35,8 @@ device_identification_pdu r = number.encapsulated_interface_transport ∷ mei_de
 -- the PDU of a response: its function code, and its fields (section 6). Words are big-endian; coils
 -- are packed, eight a byte, the first one in the lowest bit
 unfoldable pub response_pdu : Response → List ℕ
-response_pdu (response.ReadCoils coils) = number.read_coils ∷ packed_size (length coils) ∷ packed coils
-response_pdu (response.ReadDiscreteInputs coils) = number.read_discrete_inputs ∷ packed_size (length coils) ∷ packed coils
+response_pdu (response.ReadCoils coils) = number.read_coils ∷ packed_size (length coils) ∷ packed_bytes coils
+response_pdu (response.ReadDiscreteInputs coils) = number.read_discrete_inputs ∷ packed_size (length coils) ∷ packed_bytes coils
 response_pdu (response.ReadHoldingRegisters registers) = number.read_holding_registers ∷ (2 * length registers) ∷ words registers
 response_pdu (response.ReadInputRegisters registers) = number.read_input_registers ∷ (2 * length registers) ∷ words registers
 response_pdu (response.WriteSingleCoil address coil) = number.write_single_coil ∷ word address ++ word (coil_word coil)

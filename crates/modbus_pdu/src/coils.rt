@@ -1,7 +1,7 @@
 //! Coils as words, and packed eight a byte (V1.1b3, sections 6.1, 6.5 and 6.11).
 ghost use Rattle.std.specs.Prelude.{◌≡◌, ◌+◌, ◌*◌, ◌≤◌, ◌++◌, ◌∷◌, [], length, slice_index_or, false, OnErr, OnOk, IfOk};
 ghost use Rattle.bytes.specs.Filled.{UsesSpare};
-ghost use Rattle.modbus_pdu.specs.Fields.{bits_at, coil_of, coil_word, coils_of, packed, packed_size};
+ghost use Rattle.modbus_pdu.specs.Fields.{bits_at, coil_of, coil_word, coils_of, packed_bytes, packed_size};
 
 use bytes::BytesMut;
 use modbus_frame::{Coil, Coils, Reason};
@@ -97,10 +97,10 @@ pub fn encode_packed_coils(
     buf: &mut BytesMut,
     coils: &[Coil],
 ) -> Result<usize, AllocError>
-    ensures ok { OnOk result (buf.new.items ≡ buf.old.items ++ packed coils.now) }
-    ensures size { IfOk result (λ size. size ≡ length (packed coils.now)) }
+    ensures ok { OnOk result (buf.new.items ≡ buf.old.items ++ packed_bytes coils.now) }
+    ensures size { IfOk result (λ size. size ≡ length (packed_bytes coils.now)) }
     ensures err { OnErr result (buf.new.items ≡ buf.old.items) }
-    ensures spare { UsesSpare result buf.old.spare buf.new.spare (length (packed coils.now)) }
+    ensures spare { UsesSpare result buf.old.spare buf.new.spare (length (packed_bytes coils.now)) }
 {
     let size = packed_coils_size(coils);
     buf.reserve(size)?;
@@ -111,7 +111,7 @@ pub fn encode_packed_coils(
 /// Appends the coils packed, where the buffer has room for them.
 pub(crate) fn put_packed_coils(buf: &mut BytesMut, coils: &[Coil])
     requires { packed_size (length coils.now) ≤ buf.old.spare }
-    ensures items { buf.new.items ≡ buf.old.items ++ packed coils.now }
+    ensures items { buf.new.items ≡ buf.old.items ++ packed_bytes coils.now }
     ensures spare { buf.new.spare + packed_size (length coils.now) ≡ buf.old.spare }
 {
     let start = buf.len();
@@ -122,7 +122,7 @@ pub(crate) fn put_packed_coils(buf: &mut BytesMut, coils: &[Coil])
 /// Writes the coils packed, over as many bytes as they take, each whole byte at once.
 fn write_packed_coils(bytes: &mut [u8], coils: &[Coil])
     requires { length bytes.old ≡ packed_size (length coils.now) }
-    ensures { bytes.new ≡ packed coils.now }
+    ensures { bytes.new ≡ packed_bytes coils.now }
 {
     let whole = coils.len() / 8;
     for k in 0..whole {

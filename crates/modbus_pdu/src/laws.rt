@@ -2,7 +2,7 @@
 ghost use Rattle.std.specs.Prelude.{◌≡◌, ℕ, ◌*◌, ◌<◌, Bool, false, List, length, slice_index_or};
 ghost use Rattle.std.specs.List.{AllByRecursion};
 ghost use Rattle.modbus_frame.specs.Meaning.{Asked, meaning};
-ghost use Rattle.modbus_pdu.specs.Fields.{coil_at, coils_of, packed, packed_size};
+ghost use Rattle.modbus_pdu.specs.Fields.{coil_at, coils_of, packed_bytes, packed_size};
 ghost use Rattle.modbus_pdu.specs.Laws.{IsInRange, IsWord, ReadsBack, request_size};
 ghost use Rattle.modbus_pdu.specs.RequestPdu.{request_pdu};
 
@@ -29,10 +29,10 @@ pub fn requests_have_sizes()
 
 /// Coil i of packed coils is bit `i % 8` of byte `i / 8`, and the bits after the last coil are 0.
 pub fn coils_are_packed()
-    ensures size { (coils : List Bool) → length (packed coils) ≡ packed_size (length coils) }
+    ensures size { (coils : List Bool) → length (packed_bytes coils) ≡ packed_size (length coils) }
     ensures bits { (coils : List Bool) (i : ℕ) → i < 8 * packed_size (length coils)
-        → coil_at (packed coils) i ≡ slice_index_or coils i false }
-    ensures unpacked { (coils : List Bool) → coils_of (packed coils) (length coils) ≡ coils }
+        → coil_at (packed_bytes coils) i ≡ slice_index_or coils i false }
+    ensures unpacked { (coils : List Bool) → coils_of (packed_bytes coils) (length coils) ≡ coils }
 {}
 
 /// Each number of a request is in the range of its type.

@@ -6,7 +6,7 @@ ghost use Rattle.std.specs.Prelude.{◌≡◌, ◌≢◌, ◌<◌, IfOk, IsOk, I
 ghost use Rattle.modbus_frame.specs.Codes.{function_number};
 ghost use Rattle.modbus_frame.specs.FunctionCodes.{exception_bit, read_coils, read_discrete_inputs, read_holding_registers, read_input_registers, write_single_coil, write_single_register};
 ghost use Rattle.modbus_frame.specs.Meaning.{meaning, function_asked};
-ghost use Rattle.modbus_pdu.specs.Decoding.{Decodes};
+ghost use Rattle.modbus_pdu.specs.Decodes.{Decodes};
 ghost use Rattle.modbus_pdu.specs.RequestOf.{CarriesList, asked_by, coils_written_of, identification_of, one_word_of, read_write_of, registers_at, request_of, single_coil_of, three_words_of, two_words_of, words_written_of};
 
 use crate::coils::{coil_to_bool, decode_packed_coils};

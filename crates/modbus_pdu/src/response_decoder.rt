@@ -3,7 +3,7 @@
 //! A PDU is read from the left by a cursor. What it stands for, and which of several reasons is told,
 //! is defined by places of the whole PDU (MODBUS Application Protocol V1.1b3, section 6).
 ghost use Rattle.std.specs.Prelude.{◌≡◌, ◌≤◌, length, Err, IfOk, IsOk, IsOkAnd};
-ghost use Rattle.modbus_pdu.specs.Decoding.{Decodes};
+ghost use Rattle.modbus_pdu.specs.Decodes.{Decodes};
 ghost use Rattle.modbus_pdu.specs.ResponseOf.{AnswerCarriesMemory, CarriesMemory, coils_read_of, words_read_of, queue_of, run_status_of, server_id_of, object_at, objects_at, place_after, device_identification_of, answered_by, response_of, response_result_of};
 
 use crate::coils::decode_packed_coils;

@@ -9,10 +9,10 @@ ghost use Rattle.std.specs.Result.{ForErr};
 ghost use Rattle.bytes.specs.Filled.{UsesSpare};
 ghost use Rattle.modbus_frame.specs.Codes.{function_number};
 ghost use Rattle.modbus_frame.specs.FunctionCodes.{exception_bit, read_fifo_queue};
-ghost use Rattle.modbus_pdu.specs.Coding.{Fits, told_size};
-ghost use Rattle.modbus_pdu.specs.Fields.{packed, packed_size};
+ghost use Rattle.modbus_pdu.specs.Encodes.{Fits, told_size};
+ghost use Rattle.modbus_pdu.specs.Fields.{packed_bytes, packed_size};
 ghost use Rattle.modbus_pdu.specs.Limits.{fifo_count_size, max_pdu};
-ghost use Rattle.modbus_pdu.specs.Writing.{word, words};
+ghost use Rattle.modbus_pdu.specs.Word.{word, words};
 ghost use Rattle.modbus_pdu.specs.ResponsePdu.{flag, objects, device_identification_pdu, response_pdu, response_result_pdu};
 
 use crate::coils::{bool_to_coil, packed_coils_size, put_packed_coils};
@@ -115,7 +115,7 @@ fn put_coils_read(buf: &mut BytesMut, code: u8, coils: &[Coil])
     requires fits { packed_size (length coils.now) < 256 }
     requires room { 2 + packed_size (length coils.now) ≤ buf.old.spare }
     ensures items { buf.new.items ≡ buf.old.items
-        ++ code ∷ packed_size (length coils.now) ∷ packed coils.now }
+        ++ code ∷ packed_size (length coils.now) ∷ packed_bytes coils.now }
     ensures spare { buf.new.spare + 2 + packed_size (length coils.now) ≡ buf.old.spare }
 {
     put_byte(buf, code);

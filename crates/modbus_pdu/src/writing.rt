@@ -1,6 +1,6 @@
 //! Fields appended to a buffer that has room for them.
 ghost use Rattle.std.specs.Prelude.{◌≡◌, ◌+◌, ◌*◌, ◌≤◌, ◌++◌, ◌∷◌, [], length};
-ghost use Rattle.modbus_pdu.specs.Writing.{word, words};
+ghost use Rattle.modbus_pdu.specs.Word.{word, words};
 
 use bytes::BytesMut;
 use modbus_frame::Word;
@@ -37,7 +37,7 @@ pub(crate) fn put_words(buf: &mut BytesMut, numbers: &[Word])
 }
 
 /// Writes numbers one after another, over as many bytes as they take.
-#[tactic(auto, unfolding(crate::specs::Writing::words))]
+#[tactic(auto, unfolding(crate::specs::Word::words))]
 fn write_words(bytes: &mut [u8], numbers: &[Word])
     requires { length bytes.old ≡ 2 * length numbers.now }
     ensures { bytes.new ≡ words numbers.now }

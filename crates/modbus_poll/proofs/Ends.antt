@@ -5,7 +5,7 @@ use Rattle.std.proofs.lemmas.List.{get_or_default}
 use Rattle.std.proofs.lemmas.List.Elements.{Contains-get_or}
 use Rattle.std.specs.List.{AllWithin}
 use Rattle.std.specs.List.Sorted.{IsNonDecreasing}
-use Rattle.modbus_poll.specs.Planning.{IsGreatestEnd}
+use Rattle.modbus_poll.specs.InOrder.{IsGreatestEnd}
 
 module _ (ends : List ℕ) (limit allowed : ℕ) (past : AllWithin (λ (y : ℕ). leb y limit ≡ false) ends allowed (length ends)) where
   -- where one is allowed, so is the first

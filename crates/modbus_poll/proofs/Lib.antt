@@ -9,3 +9,4 @@ pub mod Making
 pub mod Served
 pub mod Digits
 pub mod Prefixes
+pub mod Trimmed

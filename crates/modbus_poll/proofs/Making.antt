@@ -6,13 +6,13 @@ use Rattle.modbus_poll.specs.declared.read.Read.{Read}
 use Rattle.modbus_poll.specs.Words.{AreWordsOf}
 use Rattle.modbus_poll.specs.declared.polling.PollError.{PollError}
 use Rattle.modbus_poll.specs.declared.polling.PollError.TheVariants as poll
-use Rattle.modbus_poll.specs.Polls.{WordsAnswer, Reads, AnswersAt, AnswersOther, Stops, TakesAnswer}
+use Rattle.modbus_poll.specs.Polls.{WordsAnswer, ReadsEach, AnswersAt, AnswersOther, Stops, TakesAnswer}
 
 module _ {S : Type 0} (asks : S → Read → WordsAnswer → S → Type 0) where
   -- one read more
   pub reads_more : (reads : List Read) (place : ℕ) (found : List (List ℕ)) (old before new : S) (d : Read) (words : List ℕ) → place < length reads
-      → Reads asks old (take place reads) found before → asks before (get_or reads place d) (Ok (Ok words)) new → length words ≡ (get_or reads place d).count
-      → Reads asks old (take (suc place) reads) (found ++ words ∷ []) new
+      → ReadsEach asks old (take place reads) found before → asks before (get_or reads place d) (Ok (Ok words)) new → length words ≡ (get_or reads place d).count
+      → ReadsEach asks old (take (suc place) reads) (found ++ words ∷ []) new
   reads_more [] place found old before new d words less made asked count = absurd (omega arith)
   reads_more (r ∷ rs) zero [] old before new d words less made asked count = (new, subst (λ s. asks s r (Ok (Ok words)) new) made asked, count, refl)
   reads_more (r ∷ rs) zero (w ∷ ws) old before new d words less made asked count = absurd made
@@ -21,7 +21,7 @@ module _ {S : Type 0} (asks : S → Read → WordsAnswer → S → Type 0) where
       (made.0, made.1, made.2, reads_more rs place ws made.0 before new d words (omega arith) made.3 asked count)
 
   -- each gave as many words as it asks for
-  pub words_made : (reads : List Read) (found : List (List ℕ)) (old new : S) → Reads asks old reads found new → AreWordsOf reads found
+  pub words_made : (reads : List Read) (found : List (List ℕ)) (old new : S) → ReadsEach asks old reads found new → AreWordsOf reads found
   words_made [] [] old new made = tt
   words_made [] (w ∷ ws) old new made = absurd made
   words_made (r ∷ rs) [] old new made = absurd made
@@ -32,13 +32,13 @@ module _ {S : Type 0} (asks : S → Read → WordsAnswer → S → Type 0) where
   lacks_first reads old = record { place = 0; found = []; stands = inl refl }
 
   -- no memory after the last one
-  pub lacks_last : (reads : List Read) (found : List (List ℕ)) (old new : S) → Reads asks old reads found new → Stops asks old reads poll.NoMemory new
+  pub lacks_last : (reads : List Read) (found : List (List ℕ)) (old new : S) → ReadsEach asks old reads found new → Stops asks old reads poll.NoMemory new
   lacks_last reads found old new made =
-      record { place = length reads; found = found; stands = inl (subst (λ rs. Reads asks old rs found new) (sym (take-length reads)) made) }
+      record { place = length reads; found = found; stands = inl (subst (λ rs. ReadsEach asks old rs found new) (sym (take-length reads)) made) }
 
   -- what an answer stops
   pub stops_at : (reads : List Read) (place : ℕ) (found : List (List ℕ)) (old before new : S) (read : Read) (answer : WordsAnswer) (fault : PollError)
-      → slice_get reads place ≡ Some read → Reads asks old (take place reads) found before → asks before read answer new → TakesAnswer place read answer (Err fault)
+      → slice_get reads place ≡ Some read → ReadsEach asks old (take place reads) found before → asks before read answer new → TakesAnswer place read answer (Err fault)
       → Stops asks old reads fault new
   stops_at reads place found old before new read answer (poll.Call at fault) is made asked takes = (
     takes.2,
@@ -70,7 +70,7 @@ module _ {S : Type 0} (asks : S → Read → WordsAnswer → S → Type 0) where
   stops_with reads old new fault (Err e) told stops = subst (λ e. Stops asks old reads e new) (sym told) stops
 
   -- as many lists of words as reads
-  pub length_made : (reads : List Read) (found : List (List ℕ)) (old new : S) → Reads asks old reads found new → length found ≡ length reads
+  pub length_made : (reads : List Read) (found : List (List ℕ)) (old new : S) → ReadsEach asks old reads found new → length found ≡ length reads
   length_made [] [] old new made = refl
   length_made [] (w ∷ ws) old new made = absurd made
   length_made (r ∷ rs) [] old new made = absurd made

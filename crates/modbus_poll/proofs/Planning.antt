@@ -13,7 +13,7 @@ use Rattle.modbus_poll.specs.declared.item.Kind.TheVariants.{U16}
 use Rattle.modbus_poll.specs.declared.read.Read.{Read}
 use Rattle.modbus_poll.specs.Items.{width, item_end, read_end, is_count, is_readable, lies_in, is_covered}
 use Rattle.modbus_poll.specs.Plans.{IsPlan, IsLeft, IsNextRead, Follow}
-use Rattle.modbus_poll.specs.Planning.{IsGreatestEnd}
+use Rattle.modbus_poll.specs.InOrder.{IsGreatestEnd}
 use Rattle.modbus_poll.proofs.Tests.{lies, ends_before, readable_width}
 
 -- These reads were planned for the first items, and the last of them ends there.

@@ -7,7 +7,7 @@ use Rattle.std.proofs.lemmas.Bool.Decides.{nat_tests}
 use Rattle.modbus_poll.specs.declared.item.Item.{Item}
 use Rattle.modbus_poll.specs.declared.read.Read.{Read}
 use Rattle.modbus_poll.specs.Items.{item_end, read_end, lies_in}
-use Rattle.modbus_poll.specs.Rising.{AreRising}
+use Rattle.modbus_poll.specs.ReadOrder.{AreRising}
 use Rattle.modbus_poll.proofs.Tests.{ends_before, begins_after, begins_late}
 
 module _ {X : Type 0} (p : X → Bool) where

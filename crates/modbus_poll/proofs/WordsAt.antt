@@ -7,7 +7,7 @@ use Rattle.std.proofs.lemmas.List.Quantifiers.{position-Some}
 use Rattle.modbus_poll.specs.declared.item.Item.{Item}
 use Rattle.modbus_poll.specs.declared.read.Read.{Read}
 use Rattle.modbus_poll.specs.Items.{width, lies_in, is_count, is_covered, gives}
-use Rattle.modbus_poll.specs.Words.{AreWordsOf, words_in, words_of}
+use Rattle.modbus_poll.specs.Words.{AreWordsOf, words_of_read, words_of_item}
 use Rattle.modbus_poll.proofs.Positions.{some_place}
 
 -- The item lies in the read at this place, and its words are those at its place in what that read gave.
@@ -16,7 +16,7 @@ pub record WordsAt (reads : List Read) (found : List (List ℕ)) (item : Item) (
   pub gave : place < length found
   pub lies : (d : Read) → lies_in item (get_or reads place d) ≡ true
   pub count : (d : Read) (e : List ℕ) → length (get_or found place e) ≡ (get_or reads place d).count
-  pub words : (d : Read) (e : List ℕ) → words_of reads found item ≡ words_in (get_or reads place d) (get_or found place e) item
+  pub words : (d : Read) (e : List ℕ) → words_of_item reads found item ≡ words_of_read (get_or reads place d) (get_or found place e) item
 
 words_there : (reads : List Read) (found : List (List ℕ)) (item : Item) (place : ℕ) → AreWordsOf reads found → place < length reads
     → ((d : Read) → lies_in item (get_or reads place d) ≡ true) → ((k : ℕ) (d : Read) → k < place → lies_in item (get_or reads k d) ≡ false) → WordsAt reads found item place

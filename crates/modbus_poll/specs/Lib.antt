@@ -1,8 +1,9 @@
 pub mod Items
 pub mod Values
-pub mod Rising
+pub mod Text
+pub mod ReadOrder
 pub mod Plans
-pub mod Planning
+pub mod InOrder
 pub mod Words
 pub mod Polls
 pub mod Inputs

@@ -11,7 +11,7 @@ use Rattle.modbus_pdu.specs.ResponseLaws.{IsResponse}
 use Rattle.modbus_service.specs.Answering.{Answering}
 use Rattle.modbus_service.specs.Exchange.{Exchange, Run}
 use Rattle.modbus_service.specs.Outcome.{Outcome, reply}
-use Rattle.modbus_client.specs.Matching.{Answer}
+use Rattle.modbus_client.specs.Matches.{Answer}
 use Rattle.modbus_client.specs.Typed.{AnswerOf, answer_map, Asks, holding_registers_read}
 use Rattle.modbus_client.specs.Exchange.{ExchangesLocally}
 use Rattle.modbus_client.specs.Back.{ComesBack}
@@ -27,12 +27,12 @@ abbrev pub WordsAnswer : Type 0
 WordsAnswer = AnswerOf (List ℕ)
 
 -- what asking one read may do: of a state, the read, its answer and the next state
-abbrev pub Asking : Type 0 → Type 1
-Asking S = S → Read → WordsAnswer → S → Type 0
+abbrev pub PollMeaning : Type 0 → Type 1
+PollMeaning S = S → Read → WordsAnswer → S → Type 0
 
 -- the request of a read
-abbrev pub asked : Read → Asked
-asked read = ReadHoldingRegisters read.address read.count
+abbrev pub request_for : Read → Asked
+request_for read = ReadHoldingRegisters read.address read.count
 
 -- an answer with a response has one of holding registers
 abbrev pub IsOfRegisters : Answer → Type 0
@@ -40,9 +40,9 @@ IsOfRegisters (Ok (Ok given)) = function_answered given ≡ function.ReadHolding
 IsOfRegisters _ = ⊤
 
 -- a client was asked a read once, by its typed call
-abbrev pub AsksClient : {S : Type 0} → (S → Asked → Answer → S → Type 0) → Asking S
+abbrev pub AsksClient : {S : Type 0} → (S → Asked → Answer → S → Type 0) → PollMeaning S
 AsksClient answers old read answer new =
-    Asks answers old (asked read) (holding_registers_read read.count) answer new
+    Asks answers old (request_for read) (holding_registers_read read.count) answer new
 
 -- the same answer, with the response that has these words
 abbrev pub as_response : WordsAnswer → Answer
@@ -51,29 +51,29 @@ as_response answer = answer_map response.ReadHoldingRegisters answer
 -- A service was asked a read once, in an exchange without a transport, and this came back of its response.
 pub record AsksService {S : Type 0} (A : Answering S) (slave : ℕ) (old : S) (read : Read)
     (answer : WordsAnswer) (new : S) : Type 0 where
-  pub exchanges : ExchangesLocally A old new slave (asked read) (as_response answer)
-  pub comes_back : ComesBack A old new slave (asked read) (as_response answer)
+  pub exchanges : ExchangesLocally A old new slave (request_for read) (as_response answer)
+  pub comes_back : ComesBack A old new slave (request_for read) (as_response answer)
 
 -- The reads were made in order, each once, and each was answered with as many words as it asks for.
-abbrev pub Reads : {S : Type 0} → Asking S → S → List Read → List (List ℕ) → S → Type 0
-Reads asks old [] [] new = new ≡ old
-Reads asks old (read ∷ reads) (words ∷ found) new =
+abbrev pub ReadsEach : {S : Type 0} → PollMeaning S → S → List Read → List (List ℕ) → S → Type 0
+ReadsEach asks old [] [] new = new ≡ old
+ReadsEach asks old (read ∷ reads) (words ∷ found) new =
     (next : _) × asks old read (Ok (Ok words)) next × (length words ≡ read.count)
-    × Reads asks next reads found new
-Reads asks old _ _ new = ⊥
+    × ReadsEach asks next reads found new
+ReadsEach asks old _ _ new = ⊥
 
 -- The read at this place was answered so, after those before it, each of which gave its words. No other was made.
-pub record AnswersAt {S : Type 0} (asks : Asking S) (old : S) (reads : List Read) (place : ℕ)
+pub record AnswersAt {S : Type 0} (asks : PollMeaning S) (old : S) (reads : List Read) (place : ℕ)
     (answer : WordsAnswer) (new : S) : Type 0 where
   pub found : List (List ℕ)
   pub before : S
-  pub earlier : Reads asks old (take place reads) found before
+  pub earlier : ReadsEach asks old (take place reads) found before
   pub read : Read
   pub is : slice_get reads place ≡ Some read
   pub asked : asks before read answer new
 
 -- a response with another number of words than its read asks for
-pub record AnswersOther {S : Type 0} (asks : Asking S) (old : S) (reads : List Read)
+pub record AnswersOther {S : Type 0} (asks : PollMeaning S) (old : S) (reads : List Read)
     (place count : ℕ) (new : S) : Type 0 where
   pub words : List ℕ
   pub answers : AnswersAt asks old reads place (Ok (Ok words)) new
@@ -81,15 +81,15 @@ pub record AnswersOther {S : Type 0} (asks : Asking S) (old : S) (reads : List R
   pub other : count ≢ answers.read.count
 
 -- Memory was refused after so many reads, each of which gave its words, or in the call of the next one.
-pub record LacksMemory {S : Type 0} (asks : Asking S) (old : S) (reads : List Read)
+pub record LacksMemory {S : Type 0} (asks : PollMeaning S) (old : S) (reads : List Read)
     (new : S) : Type 0 where
   pub place : ℕ
   pub found : List (List ℕ)
-  pub stands : Reads asks old (take place reads) found new
+  pub stands : ReadsEach asks old (take place reads) found new
       ⊎ AnswersAt asks old reads place (Err error.NoMemory) new
 
 -- what stands where a poll gives no values
-abbrev pub Stops : {S : Type 0} → Asking S → S → List Read → PollError → S → Type 0
+abbrev pub Stops : {S : Type 0} → PollMeaning S → S → List Read → PollError → S → Type 0
 Stops asks old reads (Call place fault) new =
     (fault ≢ error.NoMemory) × AnswersAt asks old reads place (Err fault) new
 Stops asks old reads (Exception place code) new = AnswersAt asks old reads place (Ok (Err code)) new
@@ -97,10 +97,10 @@ Stops asks old reads (Words place count) new = AnswersOther asks old reads place
 Stops asks old reads NoMemory new = LacksMemory asks old reads new
 
 -- Each read was made once, in order, and each value is that of its item among the words that they gave.
-pub record GivesValues {S : Type 0} (asks : Asking S) (old : S) (reads : List Read)
+pub record GivesValues {S : Type 0} (asks : PollMeaning S) (old : S) (reads : List Read)
     (items : List Item) (values : List Value) (new : S) : Type 0 where
   pub found : List (List ℕ)
-  pub made : Reads asks old reads found new
+  pub made : ReadsEach asks old reads found new
   pub given : values ≡ values_among reads found items
 
 -- what a poll makes of the answer to the read at this place
@@ -126,7 +126,7 @@ GivesRegisters _ words = ⊥
 abbrev pub AskReads : ℕ → List Read → List (List ℕ) → List (Exchange ℕ) → Type 0
 AskReads slave [] [] [] = ⊤
 AskReads slave (read ∷ reads) (words ∷ found) (x ∷ xs) =
-    (x.header ≡ slave) × (x.request ≡ asked read) × GivesRegisters x.outcome words
+    (x.header ≡ slave) × (x.request ≡ request_for read) × GivesRegisters x.outcome words
     × AskReads slave reads found xs
 AskReads slave _ _ _ = ⊥
 

@@ -13,18 +13,18 @@ AreWordsOf (read ∷ reads) (words ∷ found) = (length words ≡ read.count) ×
 AreWordsOf _ _ = ⊥
 
 -- the words of an item that lies in a read, by those that the read gave: those at its place
-abbrev pub words_in : Read → List ℕ → Item → List ℕ
-words_in read words item = take (width item.kind) (drop (item.address - read.address) words)
+abbrev pub words_of_read : Read → List ℕ → Item → List ℕ
+words_of_read read words item = take (width item.kind) (drop (item.address - read.address) words)
 
 -- the words of an item, as they stand in the read that gives it, the earliest of several
-abbrev pub words_of : List Read → List (List ℕ) → Item → List ℕ
-words_of (read ∷ reads) (words ∷ found) item =
-    if lies_in item read then words_in read words item else words_of reads found item
-words_of _ _ item = []
+abbrev pub words_of_item : List Read → List (List ℕ) → Item → List ℕ
+words_of_item (read ∷ reads) (words ∷ found) item =
+    if lies_in item read then words_of_read read words item else words_of_item reads found item
+words_of_item _ _ item = []
 
 -- the value of an item by what the reads gave
 abbrev pub value_among : List Read → List (List ℕ) → Item → Value
-value_among reads found item = value item.kind (words_of reads found item)
+value_among reads found item = value item.kind (words_of_item reads found item)
 
 -- the values of items, in their order
 abbrev pub values_among : List Read → List (List ℕ) → List Item → List Value

@@ -2,7 +2,7 @@
 ghost use Rattle.std.specs.Prelude.{◌≡◌, ◌≢◌, ℕ, true, IfOk, IfErr};
 ghost use Rattle.modbus_poll.specs.Inputs.{AsksInputs};
 ghost use Rattle.modbus_poll.specs.Items.{covers};
-ghost use Rattle.modbus_poll.specs.Polls.{Reads, Stops, GivesValues};
+ghost use Rattle.modbus_poll.specs.Polls.{ReadsEach, Stops, GivesValues};
 
 use crate::item::Item;
 use crate::plan::Plan;
@@ -32,7 +32,7 @@ fn read_inputs<R: Reader>(
     reads: &[Read],
 ) -> Result<Vec<Words>, PollError>
     ensures made { IfOk result (λ found.
-        Reads (AsksInputs R.Client.answers) reader.old reads.now found.items reader.new) }
+        ReadsEach (AsksInputs R.Client.answers) reader.old reads.now found.items reader.new) }
     ensures stops { IfErr result (λ error.
         Stops (AsksInputs R.Client.answers) reader.old reads.now error reader.new) }
 {

@@ -9,18 +9,22 @@
 mod inputs;
 mod item;
 mod notation;
+mod number;
 mod plan;
 mod planner;
 mod polling;
 mod read;
+mod text;
 mod value;
 mod words;
 
 pub use crate::inputs::poll_inputs;
 pub use crate::item::{Item, Kind, Order};
 pub use crate::notation::{Point, PointError, Table, parse_point};
+pub use crate::number::number_within;
 pub use crate::plan::{Plan, PlanError};
 pub use crate::planner::plan_reads;
 pub use crate::polling::{PollError, poll, poll_service};
 pub use crate::read::Read;
+pub use crate::text::shown;
 pub use crate::value::{Value, value_of};

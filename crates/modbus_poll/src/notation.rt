@@ -1,9 +1,10 @@
 //! The notation of items as words: `100:u16`, `i101:i32le`, `300:text8`.
-ghost use Rattle.std.specs.Prelude.{◌≡◌, ◌≤◌, length, IfSome, Some, None, if◌then◌else◌};
-ghost use Rattle.modbus_poll.specs.Notation.{are_digits, number, number_within, table_of, rest_of, address_part, kind_part};
+ghost use Rattle.std.specs.Prelude.{◌≡◌};
+ghost use Rattle.modbus_poll.specs.Notation.{table_of, rest_of, address_part, kind_part};
 ghost use Rattle.modbus_poll.specs.Notation.{address_named, kind_named, text_named, point_named};
 
 use crate::item::{Item, Kind, Order};
+use crate::number::number_within;
 use modbus_frame::Address;
 
 /// The tables of registers of a device (V1.1b3, section 4.3).
@@ -36,37 +37,6 @@ pub enum PointError {
     End,
 }
 
-/// The number that these digits show; `None` where there is another byte.
-fn number_of(text: &[u8]) -> Option<u32>
-    requires { length text.now ≤ 7 }
-    ensures { result ≡ (if are_digits text.now then Some (number text.now) else None) }
-{
-    let mut value: u32 = 0;
-    for byte in text {
-        if !byte.is_ascii_digit() {
-            return None;
-        }
-        value = value * 10 + u32::from(*byte - b'0');
-    }
-    Some(value)
-}
-
-/// The number that a word shows: one digit to so many, of a value from `least` to `most`.
-fn number_within(word: &str, digits: usize, least: u32, most: u32) -> Option<u32>
-    requires { digits ≤ 7 }
-    ensures exact { result ≡ number_within digits least most word.now }
-    ensures most { IfSome result (λ number. number ≤ most) }
-{
-    let text = word.as_bytes();
-    if text.is_empty() || text.len() > digits {
-        return None;
-    }
-    match number_of(text) {
-        Some(number) if number >= least && number <= most => Some(number),
-        _ => None,
-    }
-}
-
 /// The table that a word begins with, and the rest of the word: `i` for input registers, `h` or nothing for holding registers.
 fn split_table(word: &str) -> (Table, &str)
     ensures table { result.0 ≡ table_of word.now }
@@ -96,7 +66,7 @@ fn split_colon(word: &str) -> (&str, &str)
 fn address_of(word: &str) -> Option<Address>
     ensures { result ≡ address_named word.now }
 {
-    match number_within(word, 5, 0, 0xFFFF) {
+    match number_within(word.as_bytes(), 5, 0, 0xFFFF) {
         Some(address) if address <= 0xFFFF => Some(address as u16),
         _ => None,
     }
@@ -107,7 +77,7 @@ fn text_of(word: &str) -> Option<Kind>
     ensures { result ≡ text_named word.now }
 {
     let digits = word.strip_prefix("text")?;
-    match number_within(digits, 3, 1, 125) {
+    match number_within(digits.as_bytes(), 3, 1, 125) {
         Some(width) if width <= 125 => Some(Kind::Text(width as u8)),
         _ => None,
     }

@@ -17,7 +17,7 @@ pub struct Plan {
 impl Model for Plan {
     ghost use Rattle.std.specs.Prelude.{List};
     ghost use Rattle.modbus_poll.specs.declared.read.Read.{Read};
-    ghost use Rattle.modbus_poll.specs.Rising.{AreRising};
+    ghost use Rattle.modbus_poll.specs.ReadOrder.{AreRising};
 
     ghost Value = { List Read };
 

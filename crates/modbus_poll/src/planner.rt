@@ -5,7 +5,7 @@ ghost use Rattle.std.specs.List.Sorted.{IsNonDecreasing};
 ghost use Rattle.modbus_pdu.specs.Limits.{max_read_registers};
 ghost use Rattle.modbus_poll.specs.Items.{item_end, read_end, is_count, is_readable};
 ghost use Rattle.modbus_poll.specs.Plans.{IsFirstBad, IsPlan, Follow};
-ghost use Rattle.modbus_poll.specs.Planning.{BeginInOrder, AreSorted, AreEnds, IsGreatestEnd};
+ghost use Rattle.modbus_poll.specs.InOrder.{BeginInOrder, AreSorted, AreEnds, IsGreatestEnd};
 
 use crate::item::Item;
 use crate::plan::{Plan, PlanError};

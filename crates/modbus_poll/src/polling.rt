@@ -3,7 +3,7 @@ ghost use Rattle.std.specs.Prelude.{◌≡◌, ◌≢◌, ℕ, true, IfOk, IfErr
 ghost use Rattle.modbus_client.specs.Typed.{answer_map};
 ghost use Rattle.modbus_poll.specs.Items.{covers};
 ghost use Rattle.modbus_poll.specs.Polls.{IsOfRegisters, AsksClient, AsksService, TakesAnswer};
-ghost use Rattle.modbus_poll.specs.Polls.{Reads, Stops, GivesValues, ServesPoll};
+ghost use Rattle.modbus_poll.specs.Polls.{ReadsEach, Stops, GivesValues, ServesPoll};
 
 use crate::item::Item;
 use crate::plan::Plan;
@@ -110,7 +110,7 @@ fn read_by_client<R: Reader>(
     reads: &[Read],
 ) -> Result<Vec<Words>, PollError>
     ensures made { IfOk result (λ found.
-        Reads (AsksClient R.Client.answers) reader.old reads.now found.items reader.new) }
+        ReadsEach (AsksClient R.Client.answers) reader.old reads.now found.items reader.new) }
     ensures stops { IfErr result (λ error.
         Stops (AsksClient R.Client.answers) reader.old reads.now error reader.new) }
 {
@@ -131,7 +131,7 @@ fn read_by_service<V: Answerer>(
     reads: &[Read],
 ) -> Result<Vec<Words>, PollError>
     ensures made { IfOk result (λ found.
-        Reads (AsksService V.answering slave.0) service.old reads.now found.items service.new) }
+        ReadsEach (AsksService V.answering slave.0) service.old reads.now found.items service.new) }
     ensures stops { IfErr result (λ error.
         Stops (AsksService V.answering slave.0) service.old reads.now error service.new) }
 {

@@ -1,7 +1,7 @@
 //! The reads of a poll.
 ghost use Rattle.std.specs.Prelude.{◌≡◌, position};
 ghost use Rattle.modbus_poll.specs.Items.{read_end, lies_in};
-ghost use Rattle.modbus_poll.specs.Rising.{AreRising};
+ghost use Rattle.modbus_poll.specs.ReadOrder.{AreRising};
 
 use crate::item::Item;
 use modbus_frame::{Address, Quantity};

@@ -1,8 +1,8 @@
 //! The values of items, from the words of their registers.
 ghost use Rattle.std.specs.Prelude.{◌≡◌, ◌+◌, ◌*◌, ◌^◌, ◌<◌, ◌≤◌, length, IfOk, OnErr, IfSome, IfNone};
-ghost use Rattle.modbus_pdu.specs.Writing as writing;
+ghost use Rattle.modbus_pdu.specs.Word as writing;
 ghost use Rattle.modbus_poll.specs.Items.{width};
-ghost use Rattle.modbus_poll.specs.Values.{number, value, IsText};
+ghost use Rattle.modbus_poll.specs.Values.{number_in, value, IsText};
 
 use crate::item::{Kind, Order};
 use modbus_frame::{Data, Word};
@@ -26,7 +26,7 @@ pub enum Value {
 fn split_low(order: Order, words: &[Word]) -> Option<(&Word, &[Word])>
     ensures none { IfNone result (length words.now ≡ 0) }
     ensures value { IfSome result (λ parts.
-        number order words.now ≡ parts.0.now + 2 ^ 16 * number order parts.1.now) }
+        number_in order words.now ≡ parts.0.now + 2 ^ 16 * number_in order parts.1.now) }
     ensures rest { IfSome result (λ parts. length parts.1.now + 1 ≡ length words.now) }
 {
     match order {
@@ -38,7 +38,7 @@ fn split_low(order: Order, words: &[Word]) -> Option<(&Word, &[Word])>
 /// The number of at most four words, with this one first.
 fn number(order: Order, words: &[Word]) -> u64
     requires { length words.now ≤ 4 }
-    ensures value { result ≡ number order words.now }
+    ensures value { result ≡ number_in order words.now }
     ensures below { result < 2 ^ (16 * length words.now) }
 {
     match split_low(order, words) {
@@ -48,7 +48,7 @@ fn number(order: Order, words: &[Word]) -> u64
 }
 
 /// The bytes of words, two for each, the high one first.
-#[tactic(auto, unfolding(modbus_pdu::specs::Writing::words))]
+#[tactic(auto, unfolding(modbus_pdu::specs::Word::words))]
 fn bytes_of(alloc: Global, words: &[Word]) -> Result<Vec<u8>, AllocError>
     ensures { IfOk result (λ bytes. bytes.items ≡ writing.words words.now) }
 {

@@ -1,7 +1,7 @@
 //! The values of items, from the words that the reads of a plan gave.
 ghost use Rattle.std.specs.Prelude.{◌≡◌, ◌<◌, true, [], length, slice_index_or, IfOk};
 ghost use Rattle.modbus_poll.specs.Items.{width, lies_in, gives, covers};
-ghost use Rattle.modbus_poll.specs.Words.{AreWordsOf, words_in, value_among, values_among};
+ghost use Rattle.modbus_poll.specs.Words.{AreWordsOf, words_of_read, value_among, values_among};
 
 use crate::item::Item;
 use crate::plan::Plan;
@@ -26,7 +26,7 @@ fn words_at(found: &[Words], place: usize) -> &[Word]
 fn words_in<'a>(read: &Read, words: &'a [Word], item: &Item) -> &'a [Word]
     requires lies { lies_in item.now read.now ≡ true }
     requires count { length words.now ≡ read.now.count }
-    ensures words { result.now ≡ words_in read.now words.now item.now }
+    ensures words { result.now ≡ words_of_read read.now words.now item.now }
     ensures length { length result.now ≡ width item.now.kind }
 {
     let start = usize::from(item.address - read.address);

@@ -8,7 +8,7 @@ use Rattle.modbus_poll.specs.declared.notation.Table.{Table}
 use Rattle.modbus_poll.specs.declared.notation.Table.TheVariants.{Holding, Input}
 use Rattle.modbus_poll.specs.declared.value.Value.{Value}
 use Rattle.modbus_poll.specs.declared.value.Value.TheVariants.{Unsigned, Signed, Text}
-use Rattle.modbus_poller.specs.Shown.{shown, shown_bytes, trimmed}
+use Rattle.modbus_poll.specs.Text.{shown, shown_bytes, trimmed}
 
 -- the values of items in the order of the items, from those of each table in its order
 abbrev pub in_order : List Table → List Value → List Value → List Value

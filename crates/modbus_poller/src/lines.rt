@@ -6,10 +6,9 @@ ghost use Rattle.csv.specs.Writing.{default_writer, row_text};
 ghost use Rattle.modbus_poll.specs.declared.notation.Table.{Table};
 ghost use Rattle.modbus_poller.specs.Lines.{in_order, table_row, table_lines, csv_header, csv_line, json_value, json_line};
 
-use crate::shown::shown;
 use csv::{ByteRecord, WriterBuilder};
 use json::Writer;
-use modbus_poll::{Point, Table, Value};
+use modbus_poll::{Point, Table, Value, shown};
 use std::alloc::{AllocError, Global};
 use std::vec::IntoIter;
 

@@ -9,7 +9,6 @@ mod device;
 mod fault;
 mod lines;
 mod polling;
-mod shown;
 mod wanted;
 mod writing;
 

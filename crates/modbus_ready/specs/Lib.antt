@@ -1,2 +1,2 @@
-pub mod Accepting
-pub mod Polling
+pub mod Accepts
+pub mod Polls

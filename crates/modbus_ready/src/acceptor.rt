@@ -3,7 +3,7 @@ ghost use Rattle.std.specs.Prelude.{◌≡◌, ℕ, ◌≤◌, Result, OnErr};
 ghost use Rattle.modbus_link.specs.declared.outside.Failed.{Failed};
 ghost use Rattle.modbus_link.specs.declared.polled.Polled.{Polled};
 ghost use Rattle.modbus_link.specs.Outside.{Rose};
-ghost use Rattle.modbus_ready.specs.Accepting.{given_by, schedule_at_start, AcceptsBySchedule};
+ghost use Rattle.modbus_ready.specs.Accepts.{given_by, schedule_at_start, AcceptsBySchedule};
 
 use modbus_link::{Failed, Polled};
 use std::marker::Model;
@@ -46,7 +46,7 @@ pub struct ScheduledAcceptor<L> {
 
 impl<L> Model for ScheduledAcceptor<L> {
     ghost use Rattle.std.specs.Vec.Iter.{into_iter_items};
-    ghost use Rattle.modbus_ready.specs.Accepting.{ScheduleState};
+    ghost use Rattle.modbus_ready.specs.Accepts.{ScheduleState};
 
     ghost Value = { ScheduleState L };
 

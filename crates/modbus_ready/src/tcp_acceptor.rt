@@ -1,8 +1,8 @@
 //! What accepts TCP connections and never waits: the trusted edge, which tells only what it counts.
 ghost use Rattle.std.specs.Prelude.{◌≡◌};
 ghost use Rattle.modbus_link.specs.Listens.{tally_at_start};
-ghost use Rattle.modbus_ready.specs.Accepting.{tally_by};
-ghost use Rattle.modbus_ready.specs.Polling.{polled_tcp_at_start, GivesNewLink};
+ghost use Rattle.modbus_ready.specs.Accepts.{tally_by};
+ghost use Rattle.modbus_ready.specs.Polls.{polled_tcp_at_start, GivesNewLink};
 
 use crate::acceptor::PolledAcceptor;
 use crate::tcp_link::PolledTcpLink;

@@ -5,7 +5,7 @@ ghost use Rattle.std.specs.Prelude.{◌≡◌, ◌<◌, ◌≤◌, length, IfOk,
 ghost use Rattle.std.specs.Io.{ReadsAtMost, WritesAtMost};
 ghost use Rattle.modbus_link.specs.Outside.{Rose, Advances, Extends, untold_input, untold_output};
 ghost use Rattle.modbus_link.specs.Polled.{at_once, Waited};
-ghost use Rattle.modbus_ready.specs.Polling.{polled_tcp_at_start, after_read, after_write};
+ghost use Rattle.modbus_ready.specs.Polls.{polled_tcp_at_start, after_read, after_write};
 
 use mio::net::TcpStream;
 use mio::{Interest, Registry, Token};
@@ -26,7 +26,7 @@ pub struct PolledTcpLink {
 
 /// What a contract knows of it is its counts.
 impl Model for PolledTcpLink {
-    ghost use Rattle.modbus_ready.specs.Polling.{PolledTcpState};
+    ghost use Rattle.modbus_ready.specs.Polls.{PolledTcpState};
 
     ghost Value = { PolledTcpState };
 

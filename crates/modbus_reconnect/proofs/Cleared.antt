@@ -4,11 +4,11 @@ use Rattle.std.specs.Duration.{as_nanos}
 use Rattle.modbus_frame.specs.Meaning.{Asked}
 use Rattle.modbus_frame.specs.declared.fault.Error.TheVariants.{Transport}
 use Rattle.modbus_frame.specs.declared.fault.TransportError.TheVariants.{NotConnected}
-use Rattle.modbus_client.specs.Matching.{Answer}
+use Rattle.modbus_client.specs.Matches.{Answer}
 use Rattle.modbus_reconnect.specs.declared.settling.Unsettled.{Unsettled}
-use Rattle.modbus_reconnect.specs.Owing.{leaves_nothing}
-use Rattle.modbus_reconnect.specs.Settling.{Settles}
-use Rattle.modbus_reconnect.specs.SettlingState.{SettlingState, LineMeaning}
+use Rattle.modbus_reconnect.specs.Owes.{leaves_nothing}
+use Rattle.modbus_reconnect.specs.Settles.{Settles}
+use Rattle.modbus_reconnect.specs.SettleState.{SettlingState, LineMeaning}
 use Rattle.modbus_reconnect.specs.Silences.{silences_in}
 use Rattle.modbus_reconnect.specs.OnLine.{SettlesLine, OwesNothing, settled, called, quiet_silences, StaysInDoubt, ClearsIf, next_question, AsksOn, IsStanding, unconnected, unsettled, asks, CallsStanding}
 

@@ -5,7 +5,7 @@ use Rattle.modbus_link.specs.Outside.{Input, Rose, Advances, Gives, bytes_read, 
 use Rattle.modbus_link.specs.Runs.{Advances-same, Advances-both, bytes_read-none, read_more}
 use Rattle.modbus_reconnect.specs.declared.settling.Unsettled.{Unsettled}
 use Rattle.modbus_reconnect.specs.declared.settling.Unsettled.TheVariants.{StillSending, ReadFault, Ended}
-use Rattle.modbus_reconnect.specs.Settling.{RoseBy, IsUnsettledBy, Drops, SettlesAs, Settles}
+use Rattle.modbus_reconnect.specs.Settles.{RoseBy, IsUnsettledBy, DropsNoise, SettlesAs, Settles}
 
 -- so many silences were told, and nothing was read
 pub record Hushed (told : ℕ) (from to : Input) (idle idle' : ℕ) : Type 0 where
@@ -48,7 +48,7 @@ dropped_none a idle = record {
 }
 
 -- the line was silent for as long as is wanted
-pub drops_silence : (silences most : ℕ) (a b : Input) (i j : ℕ) → Hushed silences a b i j → Drops silences most a b i j (Ok 0)
+pub drops_silence : (silences most : ℕ) (a b : Input) (i j : ℕ) → Hushed silences a b i j → DropsNoise silences most a b i j (Ok 0)
 drops_silence silences most a b i j h = record {
   dropped = [];
   source = h.source;
@@ -60,7 +60,7 @@ drops_silence silences most a b i j h = record {
 
 -- bytes came
 pub drops_bytes : (silences told most count : ℕ) (a b c : Input) (i j k : ℕ) (room : List ℕ) → Hushed told a b i j → Advances b c → (IsTrue b.told → bytes_read b c ≡ take count room)
-    → length (take count room) ≡ count → count ≤ most → (count ≡ 0 → ⊥) → j ≤ k → Drops silences most a c i k (Ok count)
+    → length (take count room) ≡ count → count ≤ most → (count ≡ 0 → ⊥) → j ≤ k → DropsNoise silences most a c i k (Ok count)
 drops_bytes silences told most count a b c i j k room h source read size within some later = record {
   dropped = take count room;
   source = Advances-both a b c h.source source;
@@ -72,7 +72,7 @@ drops_bytes silences told most count a b c i j k room h source read size within 
 
 -- nothing came, for a reason of the link
 pub drops_none : (silences told most : ℕ) (a b c : Input) (i j k : ℕ) (reason : Unsettled) → Hushed told a b i j → Advances b c → (IsTrue b.told → bytes_read b c ≡ [])
-    → IsUnsettledBy a c reason → j ≤ k → Drops silences most a c i k (Err reason)
+    → IsUnsettledBy a c reason → j ≤ k → DropsNoise silences most a c i k (Err reason)
 drops_none silences told most a b c i j k reason h source read by later = record {
   dropped = [];
   source = Advances-both a b c h.source source;
@@ -83,7 +83,7 @@ drops_none silences told most a b c i j k reason h source read by later = record
 }
 
 -- more bytes are dropped
-pub dropped_more : (silences most count more : ℕ) (a b c : Input) (i j k : ℕ) → Dropped count a b i j → Drops silences most b c j k (Ok more) → Dropped (count + more) a c i k
+pub dropped_more : (silences most count more : ℕ) (a b c : Input) (i j k : ℕ) → Dropped count a b i j → DropsNoise silences most b c j k (Ok more) → Dropped (count + more) a c i k
 dropped_more silences most count more a b c i j k d e = record {
   dropped = d.dropped ++ e.dropped;
   source = Advances-both a b c d.source e.source;
@@ -93,7 +93,7 @@ dropped_more silences most count more a b c i j k d e = record {
 }
 
 -- a line that was silent is settled
-pub settles_silence : (silences limit most count : ℕ) (a b c : Input) (i j k : ℕ) → Dropped count a b i j → Drops silences most b c j k (Ok 0) → count < limit → Settles silences limit a c i k (Ok count)
+pub settles_silence : (silences limit most count : ℕ) (a b c : Input) (i j k : ℕ) → Dropped count a b i j → DropsNoise silences most b c j k (Ok 0) → count < limit → Settles silences limit a c i k (Ok count)
 settles_silence silences limit most count a b c i j k d e less = record {
   dropped = all.dropped;
   source = all.source;
@@ -123,7 +123,7 @@ unsettled_by silences limit a b c i k dropped ReadFault source by = let l = sour
 unsettled_by silences limit a b c i k dropped Ended source by = λ told. by (source.told ∙ told)
 
 -- the link has a reason
-pub settles_not : (silences limit most count : ℕ) (a b c : Input) (i j k : ℕ) (reason : Unsettled) → Dropped count a b i j → Drops silences most b c j k (Err reason) → count ≤ limit → Settles silences limit a c i k (Err reason)
+pub settles_not : (silences limit most count : ℕ) (a b c : Input) (i j k : ℕ) (reason : Unsettled) → Dropped count a b i j → DropsNoise silences most b c j k (Err reason) → count ≤ limit → Settles silences limit a c i k (Err reason)
 settles_not silences limit most count a b c i j k reason d e within = record {
   dropped = d.dropped;
   source = Advances-both a b c d.source e.source;
@@ -144,5 +144,5 @@ ended_at a b c before after first source read told = none_left b c before after 
     now = first.told ∙ told
 
 -- no more is dropped than may be
-pub within_more : (silences limit count more : ℕ) (b c : Input) (j k : ℕ) → count ≤ limit → Drops silences (limit - count) b c j k (Ok more) → count + more ≤ limit
+pub within_more : (silences limit count more : ℕ) (b c : Input) (j k : ℕ) → count ≤ limit → DropsNoise silences (limit - count) b c j k (Ok more) → count + more ≤ limit
 within_more silences limit count more b c j k within d = let n = d.within in let m = d.ends.0 in omega (arith, n, m, within)

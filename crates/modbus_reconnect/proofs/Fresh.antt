@@ -2,15 +2,15 @@
 use Rattle.std.proofs.Common.{◌≡◌, Ok, sym, ap, subst, ◌∙◌}
 use Rattle.std.specs.declared.net.SocketAddr.{SocketAddr}
 use Rattle.modbus_link.specs.Line.{Line, KeepsEnds}
-use Rattle.modbus_client.specs.State.{ClientState, attached}
+use Rattle.modbus_client.specs.State.{ClientState, attached_client}
 use Rattle.modbus_reconnect.specs.State.{Settings, Meaning}
-use Rattle.modbus_reconnect.specs.Standing.{IsFresh, IsReady, made}
+use Rattle.modbus_reconnect.specs.Stands.{IsFresh, IsReady, made}
 
 pub fresh : {H I C L : Type 0} (m : Meaning H I C L) (settings : Settings) (given link : L) (first client : ClientState I L)
     → m.link.line link ≡ record (m.link.line given) { timeout = settings.timeout } → KeepsEnds m.link given link
-    → first ≡ attached m.heading link settings.slave → client ≡ record first { turns = settings.turns } → IsFresh m settings given client
+    → first ≡ attached_client m.heading link settings.slave → client ≡ record first { turns = settings.turns } → IsFresh m settings given client
 fresh {I = I} {L = L} m settings given link first client timed ends e f = record {
-  state = f ∙ ap (λ (state : ClientState I L). record state { turns = settings.turns }) e ∙ ap (λ (place : L). record (attached m.heading place settings.slave) { turns = settings.turns }) (sym on);
+  state = f ∙ ap (λ (state : ClientState I L). record state { turns = settings.turns }) e ∙ ap (λ (place : L). record (attached_client m.heading place settings.slave) { turns = settings.turns }) (sym on);
   timed = ap m.link.line on ∙ timed;
   ends = subst (λ (place : L). KeepsEnds m.link given place) (sym on) ends;
 }

@@ -6,14 +6,14 @@ use Rattle.modbus_link.specs.Line.{Line, LinkMeaning}
 use Rattle.modbus_frame.specs.Meaning.{Asked}
 use Rattle.modbus_frame.specs.declared.fault.ShutdownFault.{ShutdownFault}
 use Rattle.modbus_client.specs.Protocol.{Protocol, Heading}
-use Rattle.modbus_client.specs.Matching.{Answer}
+use Rattle.modbus_client.specs.Matches.{Answer}
 use Rattle.modbus_client.specs.State.{ClientState}
-use Rattle.modbus_client.specs.Calling.{Called}
-use Rattle.modbus_client.specs.Ending.{Disconnected, Limited}
-use Rattle.modbus_reconnect.specs.Owing.{leaves_nothing}
+use Rattle.modbus_client.specs.Calls.{Called}
+use Rattle.modbus_client.specs.Ends.{Disconnected, Limited}
+use Rattle.modbus_reconnect.specs.Owes.{leaves_nothing}
 use Rattle.modbus_reconnect.specs.State.{Settings, ReconnectingState, Meaning}
-use Rattle.modbus_reconnect.specs.Standing.{IsReady, IsReadyIfSome, called, directed, limited}
-use Rattle.modbus_reconnect.specs.Trying.{CallsOn}
+use Rattle.modbus_reconnect.specs.Stands.{IsReady, IsReadyIfSome, called, directed, limited}
+use Rattle.modbus_reconnect.specs.Tries.{CallsOn}
 use Rattle.modbus_reconnect.proofs.Settled.{nothing_stays}
 
 asks : {H I L : Type 0} (P : Protocol H) (N : Heading H I) (M : LinkMeaning L) (on after : ClientState I L) (lent asked : Asked) (answer : Answer)

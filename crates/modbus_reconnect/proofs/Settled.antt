@@ -3,9 +3,9 @@ use Rattle.std.proofs.Common.{◌≡◌, ℕ, true, false, List, [], ◌∷◌, 
 use Rattle.modbus_frame.specs.Meaning.{Asked}
 use Rattle.modbus_frame.specs.declared.fault.Error.TheVariants.{Protocol, Transport, NoMemory}
 use Rattle.modbus_frame.specs.declared.fault.TransportError.TheVariants.{NotConnected, ReadFault, WriteFault, BrokenPipe, BytesRemaining, TooManyRetries, RequestTooLong, InvalidResponse, InvalidLength, InvalidProtocol, TurnLimit}
-use Rattle.modbus_client.specs.Matching.{Answer}
-use Rattle.modbus_client.specs.Sending.{stays_connected}
-use Rattle.modbus_reconnect.specs.Owing.{is_settled, leaves_nothing}
+use Rattle.modbus_client.specs.Matches.{Answer}
+use Rattle.modbus_client.specs.Sends.{stays_connected}
+use Rattle.modbus_reconnect.specs.Owes.{is_settled, leaves_nothing}
 
 -- with nothing held an answer that settles its call leaves nothing
 pub leaves : (asked : Asked) (answer : Answer) (held : List ℕ) → is_settled asked answer ≡ true → length held ≡ 0 → leaves_nothing asked answer held ≡ true

@@ -3,7 +3,7 @@ use Rattle.std.proofs.Common.{◌≡◌, inl, inr, ℕ, ◌<◌, ◌≤◌, Bool
 use Rattle.std.proofs.lemmas.List.{length-map}
 use Rattle.std.specs.Prelude.{IfErr}
 use Rattle.modbus_link.specs.Outside.{outside, Input, Output, RisesTo}
-use Rattle.modbus_link.specs.Passing.{Passes}
+use Rattle.modbus_link.specs.Passes.{Passes}
 use Rattle.modbus_frame.specs.Meaning.{Asked}
 use Rattle.modbus_frame.specs.declared.code.ExceptionCode.{ExceptionCode}
 use Rattle.modbus_frame.specs.declared.response.Response.{Response}
@@ -14,14 +14,14 @@ use Rattle.modbus_frame.specs.declared.fault.TransportError.TheVariants.{NotConn
 use Rattle.modbus_pdu.specs.Limits.{max_pdu}
 use Rattle.modbus_pdu.specs.RequestPdu.{request_pdu}
 use Rattle.modbus_client.specs.Protocol as client
-use Rattle.modbus_client.specs.Matching.{Answer}
-use Rattle.modbus_client.specs.Calling.{WaitedBefore, Exchanged}
+use Rattle.modbus_client.specs.Matches.{Answer}
+use Rattle.modbus_client.specs.Calls.{WaitedBefore, Exchanged}
 use Rattle.modbus_client.specs.Limits.{read_room}
-use Rattle.modbus_reconnect.specs.Owing.{leaves_nothing}
-use Rattle.modbus_reconnect.specs.SettlingState.{SettlingState, LineMeaning}
-use Rattle.modbus_reconnect.specs.Waiting.{question_of, GivesUp, Ends}
+use Rattle.modbus_reconnect.specs.Owes.{leaves_nothing}
+use Rattle.modbus_reconnect.specs.SettleState.{SettlingState, LineMeaning}
+use Rattle.modbus_reconnect.specs.Waits.{question_of, GivesUp, EndsWait}
 use Rattle.modbus_reconnect.specs.OnLine.{reply_silences, ClearsIf, AsksOn, IsStanding}
-use Rattle.modbus_reconnect.specs.Telling.{told_of, WritesAs, IsOfTelling, Tells, is_doubtful_after, TellsOn, unconnected, unsettled, sends, SendsStanding}
+use Rattle.modbus_reconnect.specs.Tells.{told_of_answer, WritesQuestion, IsOfTelling, TellsLine, is_doubtful_after, TellsOn, unconnected, unsettled, sends, SendsStanding}
 use Rattle.modbus_reconnect.proofs.Settled.{leaves, leaves_doubt}
 use Rattle.modbus_reconnect.proofs.Cleared.{clear_owes, asked_stands, unsettled_stands}
 
@@ -39,7 +39,7 @@ none_came P asked fed made w none =
     omega (arith, n, m, none)
 
 -- what is told is the error of the call, but for the end of its turns
-same_error : (answer : Answer) (error : Error) → told_of answer ≡ Err error → answer ≡ Err error
+same_error : (answer : Answer) (error : Error) → told_of_answer answer ≡ Err error → answer ≡ Err error
 same_error (Ok result) error e = absurd (cc)
 same_error (Err (Protocol fault)) error e = cc
 same_error (Err NoMemory) error e = cc
@@ -57,7 +57,7 @@ same_error (Err (Transport TurnLimit)) error e = absurd (cc)
 
 module _ {H : Type 0} (P : client.Protocol H) (a b : Input) (k l : Output) (header : H) (asked : Asked) (held : List ℕ) where
   -- the errors of a call that made no read, and what it wrote
-  only_told : (answer : Answer) → Exchanged P (outside a k) (outside b l) header asked 0 held answer → IfErr (told_of answer) IsOfTelling
+  only_told : (answer : Answer) → Exchanged P (outside a k) (outside b l) header asked 0 held answer → IfErr (told_of_answer answer) IsOfTelling
   only_told (Ok result) e = tt
   only_told (Err (Protocol fault)) e = none_came P (P.seen header) e.fed e.made e.last e.spends
   only_told (Err NoMemory) e = tt
@@ -73,7 +73,7 @@ module _ {H : Type 0} (P : client.Protocol H) (a b : Input) (k l : Output) (head
   only_told (Err (Transport (InvalidProtocol protocol))) e = none_came P (P.seen header) e.fed e.made (e.last refl) e.spends
   only_told (Err (Transport TurnLimit)) e = tt
 
-  writes_told : (answer : Answer) (e : Exchanged P (outside a k) (outside b l) header asked 0 held answer) → WritesAs (P.adu header (request_pdu asked)) e.sent (told_of answer)
+  writes_told : (answer : Answer) (e : Exchanged P (outside a k) (outside b l) header asked 0 held answer) → WritesQuestion (P.adu header (request_pdu asked)) e.sent (told_of_answer answer)
   writes_told (Ok result) e = e.writes
   writes_told (Err (Protocol fault)) e = absurd (none_came P (P.seen header) e.fed e.made e.last e.spends)
   writes_told (Err NoMemory) e = e.writes
@@ -124,7 +124,7 @@ module _ {H : Type 0} (P : client.Protocol H) (a b : Input) (k l : Output) (head
 -- a call that was answered
 tells_exchanged : {H I L : Type 0} (m : LineMeaning H I L) (silences : ℕ) (header : H) (asked : Asked) (before after : L) (held : List ℕ) (answer : Answer)
     → Exchanged m.protocol (outside (m.link.input before) (m.link.output before)) (outside (m.link.input after) (m.link.output after)) header asked 0 held answer
-    → Tells m silences header asked before after (told_of answer)
+    → TellsLine m silences header asked before after (told_of_answer answer)
 tells_exchanged m silences header asked before after held answer e = record {
   sent = e.sent;
   passes = passes_told m.protocol (m.link.input before) (m.link.input after) (m.link.output before) (m.link.output after) header asked held answer e;
@@ -132,7 +132,7 @@ tells_exchanged m silences header asked before after held answer e = record {
   writes = writes_told m.protocol (m.link.input before) (m.link.input after) (m.link.output before) (m.link.output after) header asked held answer e;
   too_long = λ size. (
     λ is. (e.too_long size).0 (same_error answer (Transport (RequestTooLong size)) is),
-    λ long. ap told_of ((e.too_long size).1 long),
+    λ long. ap told_of_answer ((e.too_long size).1 long),
   );
   write_fault = λ is. e.write_fault (same_error answer (Transport WriteFault) is);
   no_more = λ is. absurd (no_read_fault m.protocol (m.link.input before) (m.link.input after) (m.link.output before) (m.link.output after) header asked held answer e (same_error answer (Transport ReadFault) is));
@@ -148,7 +148,7 @@ module _ {H I L : Type 0} (m : LineMeaning H I L) (silences : ℕ) (header : H) 
       none_made g.made g.fed (omega (arith, counted, within, limit, size)) g.goes.rises
 
   -- one that was given up
-  tells_given_up : (answer : Answer) → GivesUp m (question_of header asked 0 silences) before after held answer → Tells m silences header asked before after (told_of answer)
+  tells_given_up : (answer : Answer) → GivesUp m (question_of header asked 0 silences) before after held answer → TellsLine m silences header asked before after (told_of_answer answer)
   tells_given_up (Err (Transport ReadFault)) g =
       let none = given_up_reads (Err (Transport ReadFault)) g in
       let long : max_pdu < length (request_pdu asked) → ⊥ = λ more. (let fits = g.fits in omega (arith, more, fits)) in
@@ -177,29 +177,29 @@ module _ {H I L : Type 0} (m : LineMeaning H I L) (silences : ℕ) (header : H) 
   tells_given_up (Err (Transport (InvalidProtocol protocol))) g = absurd g.because
   tells_given_up (Err (Transport TurnLimit)) g = absurd g.because
 
-  tells : (answer : Answer) → Ends m (question_of header asked 0 silences) before after held answer → Tells m silences header asked before after (told_of answer)
+  tells : (answer : Answer) → EndsWait m (question_of header asked 0 silences) before after held answer → TellsLine m silences header asked before after (told_of_answer answer)
   tells answer (inl e) = tells_exchanged m silences header asked before after held answer e
   tells answer (inr g) = tells_given_up answer g
 
   -- nothing is held of a request that is too long, and no call was unconnected
-  long_holds : (answer : Answer) → Ends m (question_of header asked 0 silences) before after held answer → (size : ℕ) → answer ≡ Err (Transport (RequestTooLong size)) → held ≡ []
+  long_holds : (answer : Answer) → EndsWait m (question_of header asked 0 silences) before after held answer → (size : ℕ) → answer ≡ Err (Transport (RequestTooLong size)) → held ≡ []
   long_holds answer (inl e) size is = none_held m.protocol (m.link.input before) (m.link.input after) (m.link.output before) (m.link.output after) header asked held answer e size is
   long_holds answer (inr g) size is = absurd (subst (λ (found : Answer). GivesUp m (question_of header asked 0 silences) before after held found) is g).because
 
   -- no reply comes with no read, and the client was connected
-  no_reply : (answer : Answer) → Ends m (question_of header asked 0 silences) before after held answer → (result : Result Response ExceptionCode) → answer ≡ Ok result → ⊥
+  no_reply : (answer : Answer) → EndsWait m (question_of header asked 0 silences) before after held answer → (result : Result Response ExceptionCode) → answer ≡ Ok result → ⊥
   no_reply answer (inl e) result is =
       let f = subst (λ (found : Answer). Exchanged m.protocol (outside (m.link.input before) (m.link.output before)) (outside (m.link.input after) (m.link.output after)) header asked 0 held found) is e in
       none_came m.protocol (m.protocol.seen header) f.fed f.made f.last f.spends
   no_reply answer (inr g) result is = (subst (λ (found : Answer). GivesUp m (question_of header asked 0 silences) before after held found) is g).because
 
-  connected : (answer : Answer) → Ends m (question_of header asked 0 silences) before after held answer → answer ≡ Err (Transport NotConnected) → ⊥
+  connected : (answer : Answer) → EndsWait m (question_of header asked 0 silences) before after held answer → answer ≡ Err (Transport NotConnected) → ⊥
   connected answer (inl e) is =
       (subst (λ (found : Answer). Exchanged m.protocol (outside (m.link.input before) (m.link.output before)) (outside (m.link.input after) (m.link.output after)) header asked 0 held found) is e).ends
   connected answer (inr g) is = (subst (λ (found : Answer). GivesUp m (question_of header asked 0 silences) before after held found) is g).because
 
   -- whether the line is in doubt after it
-  doubts : (answer : Answer) → Ends m (question_of header asked 0 silences) before after held answer → not (leaves_nothing asked answer held) ≡ is_doubtful_after (told_of answer)
+  doubts : (answer : Answer) → EndsWait m (question_of header asked 0 silences) before after held answer → not (leaves_nothing asked answer held) ≡ is_doubtful_after (told_of_answer answer)
   doubts (Ok result) e = absurd (no_reply (Ok result) e result refl)
   doubts (Err (Protocol fault)) e = ap not (leaves_doubt asked (Err (Protocol fault)) held refl)
   doubts (Err NoMemory) e = ap not (leaves_doubt asked (Err NoMemory) held refl)
@@ -218,10 +218,10 @@ module _ {H I L : Type 0} (m : LineMeaning H I L) (silences : ℕ) (header : H) 
 
 -- a request was sent on a line that was cleared
 pub sends_told : {H I L : Type 0} (m : LineMeaning H I L) (old clear new : SettlingState I L) (asked : Asked) (answer : Answer) (told : Result (Unit {0}) Error) → IsTrue old.is_connected
-    → ClearsIf true m old clear → AsksOn m clear asked 0 answer new → told ≡ told_of answer → SendsStanding m old asked told new
+    → ClearsIf true m old clear → AsksOn m clear asked 0 answer new → told ≡ told_of_answer answer → SendsStanding m old asked told new
 sends_told {I = I} {L = L} m old clear new asked answer told is_connected cleared a is =
     let q = question_of (m.heading.header clear.ids clear.settings.slave) asked 0 (reply_silences clear) in
-    let on : TellsOn m clear asked (told_of answer) new = record {
+    let on : TellsOn m clear asked (told_of_answer answer) new = record {
       tells = tells m q.silences q.header asked clear.link new.link a.held answer a.ends;
       line = a.line;
       rest = subst (λ (doubt : Bool). new ≡ record clear { link = new.link; in_doubt = doubt; ids = m.heading.next clear.ids })

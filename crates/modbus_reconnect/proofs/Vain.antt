@@ -1,12 +1,12 @@
 -- Tries in vain, and how a call ends after them.
 use Rattle.std.proofs.Common.{◌≡◌, ℕ, zero, suc, ◌+◌, ◌≤◌, Bool, true, false, true≢false, sym, ap, subst, ◌∙◌, arith}
 use Rattle.modbus_frame.specs.Meaning.{Asked}
-use Rattle.modbus_client.specs.Matching.{Answer}
+use Rattle.modbus_client.specs.Matches.{Answer}
 use Rattle.modbus_reconnect.specs.declared.resend.Resend.{Resend}
-use Rattle.modbus_reconnect.specs.Resending.{may_follow}
+use Rattle.modbus_reconnect.specs.Resends.{may_follow}
 use Rattle.modbus_reconnect.specs.State.{ReconnectingState, Meaning}
-use Rattle.modbus_reconnect.specs.Trying.{Tried}
-use Rattle.modbus_reconnect.specs.Calling.{TriesInVain, Calls}
+use Rattle.modbus_reconnect.specs.Tries.{Tried}
+use Rattle.modbus_reconnect.specs.Calls.{TriesInVain, CallsOnce}
 
 -- tries in vain leave what is said of tries
 vain_keeps_resend : {H I C L : Type 0} (m : Meaning H I C L) (asked : Asked) (count : ℕ) (old new : ReconnectingState C I L)
@@ -55,7 +55,7 @@ one_more m told asked made old last new answer resend follows e vain tried same 
 -- a try was the last, since none may follow it
 pub ends_by_answer : {H I C L : Type 0} (m : Meaning H I C L) (told asked : Asked) (made : ℕ) (old last after new : ReconnectingState C I L) (answer : Answer) (resend : Resend) (follows : Bool)
     → told ≡ asked → TriesInVain m asked made old last → Tried m last asked answer after → resend ≡ after.resend → follows ≡ may_follow resend told answer → follows ≡ false
-    → made ≤ old.retries → new ≡ record after { tries = made + 1 } → Calls m old asked answer new
+    → made ≤ old.retries → new ≡ record after { tries = made + 1 } → CallsOnce m old asked answer new
 ends_by_answer m told asked made old last after new answer resend follows e vain tried same f may_not within counts = record {
   earlier = made;
   before = last;
@@ -69,7 +69,7 @@ ends_by_answer m told asked made old last after new answer resend follows e vain
 
 -- it was the last that may be made
 pub ends_by_count : {H I C L : Type 0} (m : Meaning H I C L) (asked : Asked) (made : ℕ) (old last after new : ReconnectingState C I L) (answer : Answer)
-    → TriesInVain m asked made old last → Tried m last asked answer after → made ≡ old.retries → new ≡ record after { tries = made + 1 } → Calls m old asked answer new
+    → TriesInVain m asked made old last → Tried m last asked answer after → made ≡ old.retries → new ≡ record after { tries = made + 1 } → CallsOnce m old asked answer new
 ends_by_count m asked made old last after new answer vain tried all counts = record {
   earlier = made;
   before = last;

@@ -1,20 +1,19 @@
 -- A call that is polled at one silence after another.
 use Rattle.std.proofs.Common.{◌≡◌, ◌≢◌, inl, inr, ℕ, ◌+◌, ◌<◌, ◌≤◌, List, [], ◌∷◌, ◌++◌, length, Err, refl, ap, ◌∙◌, arith}
 use Rattle.modbus_link.specs.declared.polled.Polled.TheVariants.{Ready, Pending}
-use Rattle.modbus_link.specs.Outside.{outside, Rose, shifted}
-use Rattle.modbus_link.specs.Passing.{Passes, passes_none, passes_both}
+use Rattle.modbus_link.specs.Outside.{Input, Output, outside, Rose, cuts_from}
+use Rattle.modbus_link.specs.Passes.{Passes, passes_none, passes_both}
 use Rattle.modbus_frame.specs.Meaning.{Asked}
 use Rattle.modbus_frame.specs.declared.fault.Error.{Error}
-use Rattle.modbus_frame.specs.declared.fault.HeaderSeen.{HeaderSeen}
 use Rattle.modbus_pdu.specs.RequestPdu.{request_pdu}
-use Rattle.modbus_client.specs.Protocol.{Protocol, waiting}
-use Rattle.modbus_client.specs.Matching.{Answer}
+use Rattle.modbus_client.specs.Protocol.{Protocol}
+use Rattle.modbus_client.specs.Matches.{Answer}
 use Rattle.modbus_client.specs.Call.{CallState, IsCallFor, IsSameCall}
-use Rattle.modbus_client.specs.Polled.{CallGoes, CallPolled, IsRefused, AsksWhole}
-use Rattle.modbus_client.proofs.Asking.{sent_refused, exchanged_unsent}
-use Rattle.modbus_reconnect.specs.Settling.{RoseBy}
-use Rattle.modbus_reconnect.specs.SettlingState.{LineMeaning}
-use Rattle.modbus_reconnect.specs.Waiting.{question_of, GivesUpBy, Ends, WaitsFor}
+use Rattle.modbus_client.specs.Calls.{Exchanged}
+use Rattle.modbus_client.specs.Polled.{CallGoes, CallPolled, IsRefusedCall, AsksWhole}
+use Rattle.modbus_reconnect.specs.Settles.{RoseBy}
+use Rattle.modbus_reconnect.specs.SettleState.{LineMeaning}
+use Rattle.modbus_reconnect.specs.Waits.{question_of, GivesUpBy, EndsWait, WaitsFor}
 
 pub none_held : (bytes : List ℕ) → (0 < length bytes → ⊥) → bytes ≡ []
 none_held [] none = refl
@@ -68,7 +67,7 @@ pub going_more : {H I L : Type 0} (m : LineMeaning H I L) (told : ℕ) (before n
     → Going m (told + 1) before next old new
 going_more m told before now next old call new g p = record {
   fed = g.fed ++ p.fed;
-  made = g.made ++ shifted (length g.fed) p.made;
+  made = g.made ++ cuts_from (length g.fed) p.made;
   sent = g.sent ++ p.sent;
   passes = passes_both (outside (m.link.input before) (m.link.output before)) (outside (m.link.input now) (m.link.output now)) (outside (m.link.input next) (m.link.output next))
       g.fed p.fed g.made p.made g.sent p.sent g.passes p.passes;
@@ -105,11 +104,12 @@ pub rose_all : (silences told before now : ℕ) → told ≤ silences → silenc
 rose_all silences told before now most least rose = omega (arith, most, least, rose)
 
 -- a request that was not opened was not sent
-pub unasked : {H I L : Type 0} (m : LineMeaning H I L) (opening : (seen : HeaderSeen) → m.protocol.Finds seen [] [] (waiting [])) (link : L) (header : H) (asked : Asked) (turns silences : ℕ) (error : Error)
-    → IsRefused (request_pdu asked) error → Ends m (question_of header asked turns silences) link link [] (Err error)
-unasked m opening link header asked turns silences error refused =
-    inl (exchanged_unsent (Unit {0}) m.protocol opening (m.link.input link) (m.link.input link) (m.link.output link) (m.link.output link) header asked turns [] error
-    (sent_refused (Unit {0}) m.protocol header asked [] refl (m.link.input link) (m.link.output link) error refused))
+pub unasked : {H I L : Type 0} (m : LineMeaning H I L)
+    (unsent : (from : Input) (sunk : Output) (header : H) (asked : Asked) (turns : ℕ) (error : Error) → IsRefusedCall (request_pdu asked) error
+    → Exchanged m.protocol (outside from sunk) (outside from sunk) header asked turns [] (Err error))
+    (link : L) (header : H) (asked : Asked) (turns silences : ℕ) (error : Error)
+    → IsRefusedCall (request_pdu asked) error → EndsWait m (question_of header asked turns silences) link link [] (Err error)
+unasked m unsent link header asked turns silences error refused = inl (unsent (m.link.input link) (m.link.output link) header asked turns error refused)
 
 -- a silence came inside a reply
 pub rose_once : (told before now : ℕ) → RoseBy (told + 1) before now → Rose before now

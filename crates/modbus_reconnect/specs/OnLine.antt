@@ -3,13 +3,13 @@ use Rattle.std.specs.Prelude.{◌≡◌, ◌⊎◌, ℕ, ◌<◌, Bool, true, fa
 use Rattle.modbus_frame.specs.Meaning.{Asked}
 use Rattle.modbus_frame.specs.declared.fault.Error.TheVariants.{Transport}
 use Rattle.modbus_frame.specs.declared.fault.TransportError.TheVariants.{NotConnected}
-use Rattle.modbus_client.specs.Matching.{Answer}
+use Rattle.modbus_client.specs.Matches.{Answer}
 use Rattle.modbus_reconnect.specs.declared.settling.Unsettled.{Unsettled}
-use Rattle.modbus_reconnect.specs.Owing.{leaves_nothing}
-use Rattle.modbus_reconnect.specs.Settling.{Settles}
+use Rattle.modbus_reconnect.specs.Owes.{leaves_nothing}
+use Rattle.modbus_reconnect.specs.Settles.{Settles}
 use Rattle.modbus_reconnect.specs.Silences.{silences_for}
-use Rattle.modbus_reconnect.specs.SettlingState.{SettlingState, LineMeaning}
-use Rattle.modbus_reconnect.specs.Waiting.{Question, question_of, Ends}
+use Rattle.modbus_reconnect.specs.SettleState.{SettlingState, LineMeaning}
+use Rattle.modbus_reconnect.specs.Waits.{LineQuestion, question_of, EndsWait}
 
 -- A line is settled, or is not, for so many silences: nothing is written, and all else of the link stays.
 pub record SettlesLine {H I L : Type 0} (m : LineMeaning H I L) (silences limit : ℕ) (before after : L) (result : Result ℕ Unsettled) : Type 0 where
@@ -21,8 +21,8 @@ pub record SettlesLine {H I L : Type 0} (m : LineMeaning H I L) (silences limit 
 pub data OwesNothing {H I L : Type 0} (m : LineMeaning H I L) : L → Type 0 where
   settled : (before line : L) (silences limit dropped : ℕ)
       → 0 < silences → SettlesLine m silences limit before line (Ok dropped) → OwesNothing m line
-  called : (before line : L) (q : Question H) (held : List ℕ) (answer : Answer)
-      → OwesNothing m before → Ends m q before line held answer → IsTrue (leaves_nothing q.asked answer held) → OwesNothing m line
+  called : (before line : L) (q : LineQuestion H) (held : List ℕ) (answer : Answer)
+      → OwesNothing m before → EndsWait m q before line held answer → IsTrue (leaves_nothing q.asked answer held) → OwesNothing m line
 
 -- how many silences settle the line of a client, and for how many it waits for a reply
 abbrev pub quiet_silences : {I L : Type 0} → SettlingState I L → ℕ
@@ -47,7 +47,7 @@ ClearsIf true m old new = Clears m old new.link × (new ≡ record old { link = 
 ClearsIf false m old new = StaysInDoubt m old new.link new.unsettled × (new ≡ record old { link = new.link; unsettled = new.unsettled })
 
 -- what a client asks, under the header that comes next, with so many reads that may give bytes
-abbrev pub next_question : {H I L : Type 0} → LineMeaning H I L → SettlingState I L → Asked → ℕ → Question H
+abbrev pub next_question : {H I L : Type 0} → LineMeaning H I L → SettlingState I L → Asked → ℕ → LineQuestion H
 next_question m client asked turns =
     question_of (m.heading.header client.ids client.settings.slave) asked turns (reply_silences client)
 
@@ -55,7 +55,7 @@ next_question m client asked turns =
 pub record AsksOn {H I L : Type 0} (m : LineMeaning H I L) (old : SettlingState I L) (asked : Asked) (turns : ℕ) (answer : Answer) (new : SettlingState I L) : Type 0 where
   -- the bytes that the call read and did not use
   pub held : List ℕ
-  pub ends : Ends m (next_question m old asked turns) old.link new.link held answer
+  pub ends : EndsWait m (next_question m old asked turns) old.link new.link held answer
   pub line : m.link.line new.link ≡ m.link.line old.link
   pub rest : new ≡ record old { link = new.link; in_doubt = not (leaves_nothing asked answer held); ids = m.heading.next old.ids }
 

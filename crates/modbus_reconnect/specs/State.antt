@@ -6,7 +6,7 @@ use Rattle.modbus_link.specs.Line.{LinkMeaning}
 use Rattle.modbus_client.specs.Limits.{default_turns}
 use Rattle.modbus_client.specs.Protocol.{Protocol, Heading}
 use Rattle.modbus_client.specs.State.{ClientState}
-use Rattle.modbus_client.specs.Connecting.{ConnectorMeaning}
+use Rattle.modbus_client.specs.Connects.{ConnectorMeaning}
 use Rattle.modbus_reconnect.specs.declared.resend.Resend.{Resend}
 use Rattle.modbus_reconnect.specs.declared.resend.Resend.TheVariants.{Never}
 
@@ -32,8 +32,8 @@ pub record ReconnectingState (C I L : Type 0) : Type 0 where
   pub tries : ℕ
 
 -- one that has not connected yet
-abbrev pub unconnected : {C I L : Type 0} → C → SocketAddr → ℕ → ReconnectingState C I L
-unconnected connector address slave = record {
+abbrev pub unconnected_client : {C I L : Type 0} → C → SocketAddr → ℕ → ReconnectingState C I L
+unconnected_client connector address slave = record {
   connector = connector;
   address = address;
   client = None;

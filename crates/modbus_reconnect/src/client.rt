@@ -2,11 +2,11 @@
 ghost use Rattle.std.specs.Prelude.{◌≡◌, ◌↔◌, IsNone, IfSome};
 ghost use Rattle.modbus_link.specs.Line.{meaning_of};
 ghost use Rattle.modbus_frame.specs.Meaning.{meaning};
-ghost use Rattle.modbus_client.specs.Connecting.{connector_of};
-ghost use Rattle.modbus_reconnect.specs.State.{unconnected, meaning_by};
-ghost use Rattle.modbus_reconnect.specs.Standing.{IsReadyIfSome};
-ghost use Rattle.modbus_reconnect.specs.Trying.{Uses, Tried};
-ghost use Rattle.modbus_reconnect.specs.Calling.{Calls, Disconnects, Limits, with_slave, with_turns};
+ghost use Rattle.modbus_client.specs.Connects.{connector_of};
+ghost use Rattle.modbus_reconnect.specs.State.{unconnected_client, meaning_by};
+ghost use Rattle.modbus_reconnect.specs.Stands.{IsReadyIfSome};
+ghost use Rattle.modbus_reconnect.specs.Tries.{Uses, Tried};
+ghost use Rattle.modbus_reconnect.specs.Calls.{CallsOnce, Disconnects, Limits, with_slave, with_turns};
 
 use crate::once::{CallOnce, TryOnce};
 use crate::opening::open;
@@ -49,9 +49,9 @@ where
     C::Link: Link,
 {
     ghost use Rattle.modbus_link.specs.Line.{meaning_of};
-    ghost use Rattle.modbus_client.specs.Connecting.{connector_of};
+    ghost use Rattle.modbus_client.specs.Connects.{connector_of};
     ghost use Rattle.modbus_reconnect.specs.State.{ReconnectingState, meaning_by};
-    ghost use Rattle.modbus_reconnect.specs.Standing.{IsReadyIfSome};
+    ghost use Rattle.modbus_reconnect.specs.Stands.{IsReadyIfSome};
 
     ghost Value = { ReconnectingState C P.Ids C.Link };
 
@@ -83,7 +83,7 @@ where
         address: SocketAddr,
         slave: Slave,
     ) -> ReconnectingClient<P, C>
-        ensures { result ≡ unconnected connector address slave.0 }
+        ensures { result ≡ unconnected_client connector address slave.0 }
     {
         ReconnectingClient {
             connector,
@@ -217,7 +217,7 @@ where
     P::Ids: Send,
     C::Link: Link + Send + Drop,
 {
-    ghost answers = { Calls (meaning_by P.protocol P.heading (connector_of C.connects C.faults)
+    ghost answers = { CallsOnce (meaning_by P.protocol P.heading (connector_of C.connects C.faults)
         (meaning_of C.Link.input C.Link.output C.Link.line)) };
 
     ghost disconnects = { Disconnects (meaning_by P.protocol P.heading (connector_of C.connects C.faults)

@@ -4,8 +4,8 @@
 ghost use Rattle.std.specs.Prelude.{Option};
 ghost use Rattle.modbus_link.specs.Line.{meaning_of};
 ghost use Rattle.modbus_frame.specs.Meaning.{Asked, meaning};
-ghost use Rattle.modbus_client.specs.Matching.{Answer};
-ghost use Rattle.modbus_reconnect.specs.Trying.{CallsOn};
+ghost use Rattle.modbus_client.specs.Matches.{Answer};
+ghost use Rattle.modbus_reconnect.specs.Tries.{CallsOn};
 
 use crate::owing::is_settled;
 use crate::request::lend;

@@ -1,8 +1,8 @@
 //! New links.
 ghost use Rattle.modbus_link.specs.Line.{meaning_of};
-ghost use Rattle.modbus_client.specs.Connecting.{connector_of};
+ghost use Rattle.modbus_client.specs.Connects.{connector_of};
 ghost use Rattle.modbus_reconnect.specs.State.{meaning_by};
-ghost use Rattle.modbus_reconnect.specs.Trying.{Opens};
+ghost use Rattle.modbus_reconnect.specs.Tries.{OpensClient};
 
 use modbus_client::{LinkClient, Protocol};
 use modbus_frame::Slave;
@@ -25,7 +25,7 @@ pub(crate) fn open<P: Protocol, C: Connector>(
 ) -> std::result::Result<LinkClient<P, C::Link>, Failed>
 where
     C::Link: Link,
-    ensures { Opens (meaning_by P.protocol P.heading (connector_of C.connects C.faults)
+    ensures { OpensClient (meaning_by P.protocol P.heading (connector_of C.connects C.faults)
         (meaning_of C.Link.input C.Link.output C.Link.line))
         connector.old address (record { slave = slave.0; turns = turns; timeout = timeout })
         result connector.new }

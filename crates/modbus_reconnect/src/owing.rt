@@ -1,8 +1,8 @@
 //! Which answers leave nothing owed on their link.
 ghost use Rattle.std.specs.Prelude.{◌≡◌, ℕ, List, length};
 ghost use Rattle.modbus_frame.specs.Meaning.{meaning};
-ghost use Rattle.modbus_reconnect.specs.Owing.{is_settled, leaves_nothing};
-ghost use Rattle.modbus_reconnect.specs.Resending.{is_in_doubt};
+ghost use Rattle.modbus_reconnect.specs.Owes.{is_settled, leaves_nothing};
+ghost use Rattle.modbus_reconnect.specs.Resends.{is_in_doubt};
 
 use crate::reply::is_reply_to;
 use modbus_frame::{Error, Request, Response, Result, TransportError};

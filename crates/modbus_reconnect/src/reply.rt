@@ -1,7 +1,7 @@
 //! Which responses can be the reply to a request (Modbus Application Protocol V1.1b3, section 6).
 ghost use Rattle.std.specs.Prelude.{◌≡◌, nat_le, ◌==◌, length};
 ghost use Rattle.modbus_frame.specs.Meaning.{meaning};
-ghost use Rattle.modbus_reconnect.specs.Replying.{is_reply_to};
+ghost use Rattle.modbus_reconnect.specs.Replies.{is_reply_to};
 
 use modbus_frame::{Coils, Quantity, Request, Response, Words};
 

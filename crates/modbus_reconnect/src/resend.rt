@@ -1,7 +1,7 @@
 //! Which requests may be sent again.
 ghost use Rattle.std.specs.Prelude.{◌≡◌};
 ghost use Rattle.modbus_frame.specs.Meaning.{meaning};
-ghost use Rattle.modbus_reconnect.specs.Resending.{only_reads, may_resend, is_unconnected, may_follow};
+ghost use Rattle.modbus_reconnect.specs.Resends.{only_reads, may_resend, is_unconnected, may_follow};
 
 use crate::owing::is_in_doubt;
 use modbus_frame::{Error, Request, Response, Result, TransportError};

@@ -1,6 +1,6 @@
 //! A line that is left to fall silent, so that no late reply is before the next request.
 ghost use Rattle.std.specs.Prelude.{◌≡◌, ◌<◌, ◌≤◌};
-ghost use Rattle.modbus_reconnect.specs.Settling.{Drops, Settles};
+ghost use Rattle.modbus_reconnect.specs.Settles.{DropsNoise, Settles};
 
 use modbus_link::{Failed, Polled, TimedLink};
 
@@ -27,7 +27,7 @@ pub enum Unsettled {
 /// `ReadFault` only where the link's count of read faults rose. `Ended` where a link that tells its bytes has none left.
 fn drop_next<L: TimedLink>(link: &mut L, silences: u64, most: usize) -> Result<usize, Unsettled>
     requires { 0 < most }
-    ensures drops { Drops silences most (L.input link.old) (L.input link.new)
+    ensures drops { DropsNoise silences most (L.input link.old) (L.input link.new)
         (L.not_ready link.old) (L.not_ready link.new) result }
     ensures sink { L.output link.new ≡ L.output link.old }
     ensures line { L.line link.new ≡ L.line link.old }

@@ -2,9 +2,9 @@
 ghost use Rattle.std.specs.Prelude.{◌≡◌, ◌↔◌, false, Ok, IsNone, IfSome};
 ghost use Rattle.modbus_link.specs.Line.{meaning_of};
 ghost use Rattle.modbus_frame.specs.Meaning.{meaning};
-ghost use Rattle.modbus_reconnect.specs.SettlingState.{line_by, unsettled_client};
+ghost use Rattle.modbus_reconnect.specs.SettleState.{line_by, unsettled_client};
 ghost use Rattle.modbus_reconnect.specs.OnLine.{ClearsIf, AsksOn, CallsStanding};
-ghost use Rattle.modbus_reconnect.specs.Telling.{SendsStanding};
+ghost use Rattle.modbus_reconnect.specs.Tells.{SendsStanding};
 
 use crate::owing::leaves_nothing;
 use crate::settling::{Unsettled, settle};
@@ -47,7 +47,7 @@ pub struct SettlingClient<P: Protocol, L> {
 /// A contract sees the link, whether it is used, whether it is in doubt and why it stayed so, the settings, and what the protocol keeps
 /// between calls.
 impl<P: Protocol, L> Model for SettlingClient<P, L> {
-    ghost use Rattle.modbus_reconnect.specs.SettlingState.{SettlingState};
+    ghost use Rattle.modbus_reconnect.specs.SettleState.{SettlingState};
 
     ghost Value = { SettlingState P.Ids L };
 

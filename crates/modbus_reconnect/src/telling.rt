@@ -1,12 +1,12 @@
 //! A request that is only sent.
 ghost use Rattle.std.specs.Prelude.{◌≡◌};
-ghost use Rattle.modbus_reconnect.specs.Telling.{told_of};
+ghost use Rattle.modbus_reconnect.specs.Tells.{told_of_answer};
 
 use modbus_frame::{Error, Response, Result, TransportError};
 
 /// What is told of a request that is only sent, by the answer of a call that may make no read: with the request written its turns are over.
 pub(crate) fn told_of(answer: Result<Response>) -> std::result::Result<(), Error>
-    ensures { result ≡ told_of answer }
+    ensures { result ≡ told_of_answer answer }
 {
     match answer {
         Ok(_) | Err(Error::Transport(TransportError::TurnLimit)) => Ok(()),

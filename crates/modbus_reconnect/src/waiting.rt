@@ -2,9 +2,10 @@
 ghost use Rattle.std.specs.Prelude.{◌≡◌, ◌<◌, ℕ, List, length, IsTrue};
 ghost use Rattle.modbus_link.specs.Line.{meaning_of};
 ghost use Rattle.modbus_frame.specs.Meaning.{meaning};
-ghost use Rattle.modbus_reconnect.specs.SettlingState.{line_by};
-ghost use Rattle.modbus_reconnect.specs.Waiting.{question_of, Ends, WaitsFor};
+ghost use Rattle.modbus_reconnect.specs.SettleState.{line_by};
+ghost use Rattle.modbus_reconnect.specs.Waits.{question_of, EndsWait, WaitsFor};
 
+use modbus_client::laws::requests_not_opened_are_unsent;
 use modbus_client::{PolledCall, Protocol};
 use modbus_frame::{Error, Request, Response, Result, TransportError};
 use modbus_link::{Polled, TimedLink};
@@ -49,12 +50,12 @@ pub(crate) fn ask<P: Protocol, L: TimedLink>(
     silences: u64,
 ) -> (Result<Response>, usize)
     requires some { 0 < silences }
-    ensures ends { (held : List ℕ) × (length held ≡ result.1) × Ends
+    ensures ends { (held : List ℕ) × (length held ≡ result.1) × EndsWait
         (line_by P.protocol P.heading (meaning_of L.input L.output L.line) L.not_ready)
         (question_of header (meaning request.now) turns silences) link.old link.new held result.0 }
     ensures line { L.line link.new ≡ L.line link.old }
 {
-    P::laws();
+    requests_not_opened_are_unsent::<P>();
     match PolledCall::<P>::open(alloc, header, request, turns) {
         Err(error) => (Err(error), 0),
         Ok(mut call) => {

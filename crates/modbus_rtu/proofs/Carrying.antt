@@ -10,7 +10,7 @@ use Rattle.modbus_rtu.specs.declared.inbox.RtuError.TheVariants as errors
 use Rattle.modbus_rtu.specs.Frame.{verdict}
 use Rattle.modbus_rtu.specs.Next.{IsNext}
 use Rattle.modbus_rtu.specs.Stands.{StandsFor, IsTakenNext, IsUsedUp}
-use Rattle.modbus_rtu.specs.Inbox.{TakesFrame, StandsAfter, parts}
+use Rattle.modbus_rtu.specs.Inbox.{TakesFrame, StandsAfter, slave_and_pdu}
 use Rattle.modbus_rtu.proofs.Standing.{stands_frame, next_taken, stands_waiting, stands_read, used_up, first_crowd}
 use Rattle.modbus_rtu.specs.Limits.{overhead}
 
@@ -60,7 +60,7 @@ gives_open old (Ok None) new (dropped, next, rest) e = rw rest (open_at_front ol
 gives_open old (Err x) new gives e = cc
 
 pub gives_next : (old : List ℕ) (result : Result (Option RtuFrame) RtuError) (new : List ℕ) → TakesFrame old result new →
-    IfOk result (λ found. IfSome found (λ frame. (bytes cuts : List ℕ) (taken : List (ℕ × List ℕ)) → StandsFor bytes cuts old taken → IsTakenNext bytes cuts taken (parts frame)))
+    IfOk result (λ found. IfSome found (λ frame. (bytes cuts : List ℕ) (taken : List (ℕ × List ℕ)) → StandsFor bytes cuts old taken → IsTakenNext bytes cuts taken (slave_and_pdu frame)))
 gives_next old (Ok (Some frame)) new (start, n, next, same, rest) = λ bytes cuts taken s. rw same (next_taken bytes cuts old taken s start n next)
 gives_next old (Ok None) new gives = tt
 gives_next old (Err e) new gives = tt

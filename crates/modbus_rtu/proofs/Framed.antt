@@ -11,7 +11,7 @@ use Rattle.modbus_rtu.specs.Frame.{frame, head, verdict, verdict_of}
 use Rattle.modbus_rtu.specs.Leftmost.{IsUncovered}
 use Rattle.modbus_rtu.specs.Quiet.{IsQuietLine}
 use Rattle.modbus_rtu.specs.Stands.{frame_at}
-use Rattle.modbus_rtu.specs.Framed.{HasHead, stream_of, IsWholeReading}
+use Rattle.modbus_rtu.specs.WholeReading.{HasHead, stream_of, IsWholeReading}
 use Rattle.modbus_rtu.proofs.Verdicts.{head-append, verdict-drop, verdict_of-nil}
 use Rattle.modbus_rtu.proofs.Judging.{judged_good}
 use Rattle.modbus_rtu.proofs.Reading.{Reads, reads-shift}

@@ -1,16 +1,16 @@
 -- Reading objects one after another, as a loop does.
 use Rattle.std.proofs.Common.{◌≡◌, ℕ, suc, ◌-◌, ◌+◌, ◌≤◌, ◌<◌, List, Option, Some, None, refl, sym, ◌∙◌, arith}
-use Rattle.modbus_rtu.specs.ResponseHead.{after_object, after_objects}
+use Rattle.modbus_rtu.specs.ResponseHead.{place_after_object, after_objects}
 
 module _ (adu : List ℕ) (count i place : ℕ) (total : Option ℕ) where
-  pub goes_on : (next : ℕ) → i < count → Some next ≡ after_object adu place → after_objects adu (count - i) place ≡ total → after_objects adu (count - (i + 1)) next ≡ total
+  pub goes_on : (next : ℕ) → i < count → Some next ≡ place_after_object adu place → after_objects adu (count - i) place ≡ total → after_objects adu (count - (i + 1)) next ≡ total
   unfolding after_objects
   goes_on next lt object so_far =
       let k : count - i ≡ suc (count - (i + 1)) = omega arith in
       let one : after_objects adu (count - i) place ≡ after_objects adu (count - (i + 1)) next = rw (k, ← object) refl in
       sym one ∙ so_far
 
-  pub lacks_bytes : i < count → None ≡ after_object adu place → after_objects adu (count - i) place ≡ total → None ≡ total
+  pub lacks_bytes : i < count → None ≡ place_after_object adu place → after_objects adu (count - i) place ≡ total → None ≡ total
   unfolding after_objects
   lacks_bytes lt object so_far =
       let k : count - i ≡ suc (count - (i + 1)) = omega arith in

@@ -7,7 +7,7 @@ use Rattle.std.proofs.lemmas.Bool.{le-leb, leb-true, ltb-false, eqb-true}
 use Rattle.modbus_rtu.specs.declared.verdict.Verdict.TheVariants.{Open, Good}
 use Rattle.modbus_rtu.specs.Checksum.{crc}
 use Rattle.modbus_rtu.specs.Frame.{Head, frame}
-use Rattle.modbus_rtu.specs.ResponseHead.{ResponseRule, response_rule, after_object, after_objects, within, response_identified, identified_len, held_len, word_len, response_head_at, response_head_by, response_head, response_verdict, HasResponseHead}
+use Rattle.modbus_rtu.specs.ResponseHead.{ResponseRule, response_rule, place_after_object, after_objects, within, response_identified, identified_len, held_len, word_len, response_head_at, response_head_by, response_head, response_verdict, HasResponseHead}
 use Rattle.modbus_rtu.specs.ResponseHead.ResponseRule.{fixed, counted, counted_word, identification, unknown}
 use Rattle.modbus_rtu.proofs.Verdicts.{got_again, IsKept, Stays, by_frame}
 use Rattle.modbus_rtu.proofs.Judging.{judged_good, judged_missing, judged_short}
@@ -23,14 +23,14 @@ within_again adu more place next e = go (leb place (length adu)) refl
         rw (le-leb place (length (adu ++ more)) fits) (rw t at e)
     go false f = cc (rw f at e)
 
-object_again : (adu more : List ℕ) (place : ℕ) → IsKept (after_object adu place) (after_object (adu ++ more) place)
+object_again : (adu more : List ℕ) (place : ℕ) → IsKept (place_after_object adu place) (place_after_object (adu ++ more) place)
 object_again adu more place next e = go (slice_get adu (place + 1)) refl
   where
-    go : (o : Option ℕ) → slice_get adu (place + 1) ≡ o → after_object (adu ++ more) place ≡ Some next
+    go : (o : Option ℕ) → slice_get adu (place + 1) ≡ o → place_after_object (adu ++ more) place ≡ Some next
     go None n = cc (rw n at e)
     go (Some size) s = rw (got_again adu more (place + 1) size s) (within_again adu more (place + 2 + size) next (rw s at e))
 
-one_more : (adu more : List ℕ) (n place end : ℕ) (o : Option ℕ) → after_object adu place ≡ o → ((next : ℕ) → IsKept (after_objects adu n next) (after_objects (adu ++ more) n next)) → after_objects adu (suc n) place ≡ Some end → after_objects (adu ++ more) (suc n) place ≡ Some end
+one_more : (adu more : List ℕ) (n place end : ℕ) (o : Option ℕ) → place_after_object adu place ≡ o → ((next : ℕ) → IsKept (after_objects adu n next) (after_objects (adu ++ more) n next)) → after_objects adu (suc n) place ≡ Some end → after_objects (adu ++ more) (suc n) place ≡ Some end
 unfolding after_objects
 one_more adu more n place end None m later e = cc (rw m at e)
 one_more adu more n place end (Some next) s later e = rw (object_again adu more place next s) (later next end (rw s at e))
@@ -38,7 +38,7 @@ one_more adu more n place end (Some next) s later e = rw (object_again adu more 
 objects_again : (adu more : List ℕ) (n place : ℕ) → IsKept (after_objects adu n place) (after_objects (adu ++ more) n place)
 unfolding after_objects
 objects_again adu more zero place end e = e
-objects_again adu more (suc n) place end e = one_more adu more n place end (after_object adu place) refl (λ next. objects_again adu more n next) e
+objects_again adu more (suc n) place end e = one_more adu more n place end (place_after_object adu place) refl (λ next. objects_again adu more n next) e
 
 mapped_again : (o o' : Option ℕ) → IsKept o o' → IsKept (option_map (λ end. end - 1) o) (option_map (λ end. end - 1) o')
 mapped_again None o' kept x e = cc

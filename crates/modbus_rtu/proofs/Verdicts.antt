@@ -5,7 +5,7 @@ use Rattle.std.proofs.lemmas.List.{take-append-le, drop-append-le, drop-drop, dr
 use Rattle.std.proofs.lemmas.Bool.{ltb-false, le-ltb}
 use Rattle.modbus_rtu.specs.declared.verdict.Verdict.{Verdict}
 use Rattle.modbus_rtu.specs.declared.verdict.Verdict.TheVariants.{Open, Bad, Good}
-use Rattle.modbus_rtu.specs.Frame.{Rule, Head, head, head_at, head_by, counted_head, identified, rule, verdict, verdict_of, verdict_by}
+use Rattle.modbus_rtu.specs.Frame.{Rule, Head, head, head_at, head_by, counted_head, identified_head, rule, verdict, verdict_of, verdict_by}
 use Rattle.modbus_rtu.specs.Frame.Rule.{fixed, counted, identification, unknown}
 use Rattle.modbus_rtu.specs.Limits.{overhead}
 
@@ -26,7 +26,7 @@ counted_stays : (code n : ℕ) (o o' : Option ℕ) → IsKept o o' → Stays (co
 counted_stays code n None o' kept ne = absurd (ne refl)
 counted_stays code n (Some x) o' kept ne = rw (kept x refl) refl
 
-identified_stays : (code : ℕ) (o o' : Option ℕ) → IsKept o o' → Stays (identified code o) (identified code o')
+identified_stays : (code : ℕ) (o o' : Option ℕ) → IsKept o o' → Stays (identified_head code o) (identified_head code o')
 identified_stays code None o' kept ne = absurd (ne refl)
 identified_stays code (Some x) o' kept ne = rw (kept x refl) refl
 

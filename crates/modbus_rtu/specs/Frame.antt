@@ -43,9 +43,9 @@ rule code =
 abbrev pub Head : Type 0
 Head = Result (Option ℕ) NoLength
 
-abbrev pub identified : ℕ → Option ℕ → Head
-identified code None = Ok None
-identified code (Some mei) = if mei == mei_device_identification then Ok (Some identification_request) else Err (record { 0 = code })
+abbrev pub identified_head : ℕ → Option ℕ → Head
+identified_head code None = Ok None
+identified_head code (Some mei) = if mei == mei_device_identification then Ok (Some identification_request) else Err (record { 0 = code })
 
 -- So many bytes, and as many as a byte count says; no length above the most bytes of a PDU (section 4.1). So noise in the place of a
 -- byte count is known as such, and no byte is waited for.
@@ -56,7 +56,7 @@ counted_head code n (Some byte) = if nat_lt max_pdu (n + byte) then Err (record 
 abbrev pub head_by : ℕ → List ℕ → Rule → Head
 head_by code adu (fixed n) = Ok (Some n)
 head_by code adu (counted n) = counted_head code n (slice_get adu n)
-head_by code adu identification = identified code (slice_get adu 2)
+head_by code adu identification = identified_head code (slice_get adu 2)
 head_by code adu unknown = Err (record { 0 = code })
 
 abbrev pub head_at : List ℕ → Option ℕ → Head

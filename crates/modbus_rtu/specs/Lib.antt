@@ -6,8 +6,8 @@ pub mod Leftmost
 pub mod Limits
 pub mod Place
 pub mod Stands
-pub mod Framed
+pub mod WholeReading
 pub mod Quiet
 pub mod Front
 pub mod Inbox
-pub mod Decoding
+pub mod Decoder

@@ -2,6 +2,7 @@
 -- stands at place 1 (Modbus Application Protocol V1.1b3, sections 6 and 7).
 use Rattle.std.specs.Prelude.{◌≡◌, ℕ, zero, suc, ◌+◌, ◌-◌, ◌*◌, ◌&&◌, ◌||◌, if◌then◌else◌, ◌==◌, nat_lt, nat_le, List, ◌∷◌, length, slice_get, Option, Some, None, Ok, Err, option_and_then}
 use Rattle.std.specs.Option.{option_map}
+use Rattle.modbus_pdu.specs.SlavePdu.{SlavePdu}
 use Rattle.modbus_rtu.specs.declared.verdict.Verdict.{Verdict}
 use Rattle.modbus_frame.specs.FunctionCodes as number
 use Rattle.modbus_pdu.specs.Limits.{mei_device_identification, one_byte_pdu, two_words_pdu, three_words_pdu, read_head, fifo_head}
@@ -49,13 +50,13 @@ abbrev pub within : List ℕ → ℕ → Option ℕ
 within adu place = if nat_le place (length adu) then Some place else None
 
 -- the place after an object: its id, its length and so many bytes; none where one of them is missing (section 6.21)
-abbrev pub after_object : List ℕ → ℕ → Option ℕ
-after_object adu place = option_and_then (λ size. within adu (place + object_head + size)) (slice_get adu (place + 1))
+abbrev pub place_after_object : List ℕ → ℕ → Option ℕ
+place_after_object adu place = option_and_then (λ size. within adu (place + object_head + size)) (slice_get adu (place + 1))
 
 -- the place after so many objects from a place on
 unfoldable pub after_objects : List ℕ → ℕ → ℕ → Option ℕ
 after_objects adu zero place = Some place
-after_objects adu (suc n) place = option_and_then (after_objects adu n) (after_object adu place)
+after_objects adu (suc n) place = option_and_then (after_objects adu n) (place_after_object adu place)
 
 -- The head of a device identification.
 unfoldable pub identified_len : List ℕ → Option ℕ
@@ -92,7 +93,7 @@ unfoldable pub response_head : List ℕ → Head
 response_head adu = response_head_at adu (slice_get adu 1)
 
 -- a slave address and the PDU of a response whose first bytes tell its length
-abbrev pub HasResponseHead : ℕ × List ℕ → Type 0
+abbrev pub HasResponseHead : SlavePdu → Type 0
 HasResponseHead message = response_head (message.0 ∷ message.1) ≡ Ok (Some (length message.1))
 
 -- what stands at the front of a list that is read as a response

@@ -4,25 +4,25 @@ ghost use Rattle.std.specs.Prelude.{◌≡◌, ◌<◌, Ok, Err, None, length, I
 ghost use Rattle.std.specs.Result.{ForErr};
 ghost use Rattle.modbus_frame.specs.Codes.{function_number};
 ghost use Rattle.modbus_frame.specs.Meaning.{meaning};
-ghost use Rattle.modbus_pdu.specs.Coding.{Encodes};
+ghost use Rattle.modbus_pdu.specs.Encodes.{Encodes};
 ghost use Rattle.modbus_pdu.specs.RequestOf.{CarriesList, request_of};
 ghost use Rattle.modbus_pdu.specs.ResponseOf.{AnswerCarriesMemory, response_result_of};
 ghost use Rattle.modbus_pdu.specs.RequestPdu.{request_pdu};
 ghost use Rattle.modbus_pdu.specs.ResponsePdu.{response_result_pdu};
 ghost use Rattle.modbus_rtu.specs.Frame.{frame, verdict_of};
 ghost use Rattle.modbus_rtu.specs.ResponseHead.{response_verdict};
-ghost use Rattle.modbus_rtu.specs.Decoding.{ReadsBy};
+ghost use Rattle.modbus_rtu.specs.Decoder.{ReadsBy};
 ghost use Rattle.modbus_frame.specs.FunctionCodes.{exception_bit};
 ghost use Rattle.modbus_rtu.specs.Limits.{max_frame, longest_identification};
 
 use crate::encoder::{encode_request_frame, encode_response_frame};
-use crate::front::{Crowd, Front, find_by};
+use crate::front::{Crowd, find_by};
 use crate::inbox::RtuError;
 use crate::length::RequestRule;
 use crate::response_length::ResponseRule;
 use crate::search::MAX_RETRIES;
 use bytes::BytesMut;
-use modbus_frame::{EncodeError, PduError, RequestPdu, rtu};
+use modbus_frame::{EncodeError, Front, PduError, RequestPdu, rtu};
 use modbus_pdu::{decode_request, read_response_pdu};
 use std::alloc::Global;
 
@@ -67,11 +67,11 @@ impl ClientCodec {
                 buf.advance(dropped);
                 Ok(None)
             }
-            Ok(Front::Frame { slave, pdu, end }) => match read_response_pdu(alloc, pdu) {
+            Ok(Front::Message { header, pdu, end }) => match read_response_pdu(alloc, pdu) {
                 Ok(pdu) => {
                     buf.advance(end);
                     Ok(Some(rtu::ResponseAdu {
-                        hdr: rtu::Header { slave_id: slave },
+                        hdr: rtu::Header { slave_id: header },
                         pdu,
                     }))
                 }
@@ -137,11 +137,11 @@ impl ServerCodec {
                 buf.advance(dropped);
                 Ok(None)
             }
-            Ok(Front::Frame { slave, pdu, end }) => match decode_request(alloc, pdu) {
+            Ok(Front::Message { header, pdu, end }) => match decode_request(alloc, pdu) {
                 Ok(request) => {
                     buf.advance(end);
                     Ok(Some(rtu::RequestAdu {
-                        hdr: rtu::Header { slave_id: slave },
+                        hdr: rtu::Header { slave_id: header },
                         pdu: RequestPdu(request),
                     }))
                 }

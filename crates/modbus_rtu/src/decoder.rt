@@ -4,7 +4,7 @@
 //! dropped since its last frame are recorded.
 ghost use Rattle.std.specs.Prelude.{◌≡◌, ℕ, ◌+◌, ◌<◌, ◌≤◌, Ok, None, List, [], ◌↔◌, length, take, drop, slice_index, IsOk, IfOk, IfErr, OnOk, OnErr};
 ghost use Rattle.modbus_rtu.specs.Frame.{judged_by};
-ghost use Rattle.modbus_rtu.specs.Decoding.{recorded, all_recorded, frame_of, sum_made, sum_sent, DecodesFrame, DecodesBy};
+ghost use Rattle.modbus_rtu.specs.Decoder.{with_dropped, with_all_dropped, frame_with, sum_made, sum_sent, DecodesFrame, DecodesBy};
 ghost use Rattle.modbus_rtu.specs.declared.decoder.FrameFault.TheVariants as fault;
 ghost use Rattle.modbus_rtu.specs.Limits.{overhead, max_dropped};
 
@@ -75,7 +75,7 @@ impl Default for FrameDecoder {
 /// Takes the frame off the front of a buffer: its slave address, and its PDU.
 fn take_frame(buf: &mut BytesMut, pdu_len: usize) -> Result<(SlaveId, Bytes), AllocError>
     requires { pdu_len + overhead ≤ length buf.old.items }
-    ensures ok { IfOk result (λ frame. frame ≡ frame_of pdu_len buf.old.items) }
+    ensures ok { IfOk result (λ frame. frame ≡ frame_with pdu_len buf.old.items) }
     ensures rest { OnOk result (buf.new.items ≡ drop (pdu_len + overhead) buf.old.items) }
     ensures err { OnErr result (buf.new.items ≡ buf.old.items) }
 {
@@ -145,7 +145,7 @@ impl FrameDecoder {
     pub fn recover_on_error(&mut self, buf: &mut BytesMut)
         requires { 0 < length buf.old.items }
         ensures buffer { buf.new.items ≡ drop 1 buf.old.items }
-        ensures record { self.new ≡ recorded self.old (slice_index buf.old.items 0) }
+        ensures record { self.new ≡ with_dropped self.old (slice_index buf.old.items 0) }
     {
         let first = buf.as_slice()[0];
         buf.advance(1);
@@ -159,7 +159,7 @@ impl FrameDecoder {
     fn drop_bytes(&mut self, buf: &mut BytesMut, count: usize)
         requires { count ≤ length buf.old.items }
         ensures buffer { buf.new.items ≡ drop count buf.old.items }
-        ensures record { self.new ≡ all_recorded self.old (take count buf.old.items) }
+        ensures record { self.new ≡ with_all_dropped self.old (take count buf.old.items) }
     {
         for _ in 0..count {
             self.recover_on_error(buf);

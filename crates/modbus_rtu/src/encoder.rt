@@ -3,11 +3,12 @@ ghost use Rattle.std.specs.Prelude.{◌≡◌, ◌+◌, ◌%◌, ◌/◌, ◌<�
 ghost use Rattle.std.specs.Result.{ForErr};
 ghost use Rattle.modbus_frame.specs.Codes.{function_number};
 ghost use Rattle.modbus_frame.specs.Meaning.{meaning};
-ghost use Rattle.modbus_pdu.specs.Coding.{Encodes, Fits};
+ghost use Rattle.modbus_pdu.specs.Encodes.{Encodes, Fits};
 ghost use Rattle.modbus_pdu.specs.RequestPdu.{request_pdu};
 ghost use Rattle.modbus_pdu.specs.ResponsePdu.{response_result_pdu};
 ghost use Rattle.modbus_rtu.specs.Checksum.{crc};
 ghost use Rattle.modbus_rtu.specs.Frame.{frame};
+ghost use Rattle.modbus_rtu.specs.Limits.{max_frame};
 ghost use Rattle.modbus_frame.specs.FunctionCodes.{exception_bit};
 
 use crate::crc::calc_crc;
@@ -78,6 +79,7 @@ pub fn encode_response_frame(
         (response_result_pdu answer.now) buf.old.items result buf.new.items }
     ensures memory { result ≡ Err EncodeError.NoMemory
         → buf.old.spare < length (frame slave (response_result_pdu answer.now)) }
+    ensures longest { result ≡ Err EncodeError.NoMemory → buf.old.spare < max_frame }
 
     // All in all the buffer has as much room as it had.
     ensures room { length buf.old.items + buf.old.spare ≤ length buf.new.items + buf.new.spare }

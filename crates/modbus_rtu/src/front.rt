@@ -1,27 +1,11 @@
 //! What stands at the front of the bytes that a reader holds: the next frame, lent from where it lies.
 ghost use Rattle.std.specs.Prelude.{◌≡◌, ◌+◌, ◌≤◌, ◌++◌, length};
 ghost use Rattle.modbus_rtu.specs.Frame.{judged_by};
-ghost use Rattle.modbus_rtu.specs.Front.{Finds, FindsBy};
+ghost use Rattle.modbus_rtu.specs.Front.{FindsFrame, FindsFrameBy};
 
 use crate::length::{LengthRule, OVERHEAD, RequestRule};
 use crate::search::{Next, next_frame_by};
-use modbus_frame::SlaveId;
-
-/// What a search of the held bytes finds.
-#[derive(Clone, Copy, Debug, PartialEq, Eq)]
-pub enum Front<'a> {
-    /// The next frame: its slave address, its PDU, and the offset of the first byte behind its checksum. All offsets are in bytes
-    /// from the first held one on.
-    Frame {
-        slave: SlaveId,
-        pdu: &'a [u8],
-        end: usize,
-    },
-    /// No frame yet: none stands at so many offsets, and the next offset waits for bytes.
-    Waiting {
-        dropped: usize,
-    },
-}
+use modbus_frame::{Front, SlaveId};
 
 /// No frame stands at the first `MAX_RETRIES` offsets.
 #[derive(Clone, Copy, Debug, PartialEq, Eq)]
@@ -29,14 +13,17 @@ pub struct Crowd;
 
 /// Searches held bytes for the next frame, by a length rule. No byte is copied.
 #[inline(always)]
-pub(crate) fn find_by<'a, R: LengthRule>(rule: &R, held: &'a [u8]) -> Result<Front<'a>, Crowd>
-    ensures { FindsBy (judged_by R.head) R.longest held.now result }
+pub(crate) fn find_by<'a, R: LengthRule>(
+    rule: &R,
+    held: &'a [u8],
+) -> Result<Front<'a, SlaveId>, Crowd>
+    ensures { FindsFrameBy (judged_by R.head) R.longest held.now result }
 {
     match next_frame_by(rule, held) {
         Next::TooManyRetries => Err(Crowd),
         Next::Waiting { dropped } => Ok(Front::Waiting { dropped }),
-        Next::Frame { start, pdu_len } => Ok(Front::Frame {
-            slave: held[start],
+        Next::Frame { start, pdu_len } => Ok(Front::Message {
+            header: held[start],
             pdu: &held[start + 1..][..pdu_len],
             end: start + pdu_len + OVERHEAD,
         }),
@@ -46,8 +33,8 @@ pub(crate) fn find_by<'a, R: LengthRule>(rule: &R, held: &'a [u8]) -> Result<Fro
 /// Searches held bytes for the next frame of a request.
 #[inline(always)]
 #[tactic(auto, unfolding(crate::specs::Frame::verdict_of))]
-pub(crate) fn find(held: &[u8]) -> Result<Front<'_>, Crowd>
-    ensures { Finds held.now result }
+pub(crate) fn find(held: &[u8]) -> Result<Front<'_, SlaveId>, Crowd>
+    ensures { FindsFrame held.now result }
 {
     find_by(&RequestRule, held)
 }
@@ -66,9 +53,13 @@ fn join<'a>(first: &[u8], second: &[u8], seam: &'a mut [u8]) -> &'a [u8]
 
 /// Searches two pieces as one, for a frame that may lie in both.
 #[cold]
-fn find_across<'a>(first: &[u8], second: &[u8], seam: &'a mut [u8]) -> Result<Front<'a>, Crowd>
+fn find_across<'a>(
+    first: &[u8],
+    second: &[u8],
+    seam: &'a mut [u8],
+) -> Result<Front<'a, SlaveId>, Crowd>
     requires { length first.now + length second.now ≤ length seam.old }
-    ensures { Finds (first.now ++ second.now) result }
+    ensures { FindsFrame (first.now ++ second.now) result }
 {
     find(join(first, second, seam))
 }
@@ -81,13 +72,13 @@ pub(crate) fn find_in_two<'a>(
     first: &'a [u8],
     second: &'a [u8],
     seam: &'a mut [u8],
-) -> Result<Front<'a>, Crowd>
+) -> Result<Front<'a, SlaveId>, Crowd>
     requires { length first.now + length second.now ≤ length seam.old }
-    ensures { Finds (first.now ++ second.now) result }
+    ensures { FindsFrame (first.now ++ second.now) result }
 {
     match find(first) {
         Err(crowd) => Err(crowd),
-        Ok(Front::Frame { slave, pdu, end }) => Ok(Front::Frame { slave, pdu, end }),
+        Ok(Front::Message { header, pdu, end }) => Ok(Front::Message { header, pdu, end }),
         Ok(Front::Waiting { dropped }) => {
             if second.is_empty() {
                 return Ok(Front::Waiting { dropped });

@@ -1,23 +1,24 @@
 //! The bytes that an RTU server read and did not use yet, and the frames that it takes from them.
 ghost use Rattle.std.specs.Prelude.{◌≡◌, ℕ, Ok, None, ◌+◌, ◌-◌, ◌<◌, ◌≤◌, ◌↔◌, List, [], ◌∷◌, ◌++◌, length, drop, IfOk, IfErr, IfNone, IfSome, OnErr, IsTrue};
+ghost use Rattle.modbus_pdu.specs.SlavePdu.{SlavePdu};
 ghost use Rattle.modbus_link.specs.Outside.{Rose, front_of};
 ghost use Rattle.modbus_link.specs.Reads.{ReadsPiece};
 ghost use Rattle.modbus_rtu.specs.declared.verdict.Verdict.TheVariants.{Open};
 ghost use Rattle.modbus_rtu.specs.declared.inbox.RtuError.TheVariants as errors;
-ghost use Rattle.modbus_rtu.specs.Decoding.{error_of};
+ghost use Rattle.modbus_rtu.specs.Decoder.{error_of};
 ghost use Rattle.modbus_rtu.specs.Frame.{verdict};
 ghost use Rattle.modbus_rtu.specs.Stands.{StandsFor, IsTakenNext};
-ghost use Rattle.modbus_rtu.specs.Front.{Finds, FindsIn};
-ghost use Rattle.modbus_rtu.specs.Inbox.{parts, TakesFrame, StandsAfter};
+ghost use Rattle.modbus_rtu.specs.Front.{FindsFrame, FindsFrameIn};
+ghost use Rattle.modbus_rtu.specs.Inbox.{slave_and_pdu, TakesFrame, StandsAfter};
 ghost use Rattle.modbus_pdu.specs.Limits.{max_pdu};
 ghost use Rattle.modbus_rtu.specs.Limits.{max_frame};
 
-use crate::front::{Crowd, Front, find_in_two};
+use crate::front::{Crowd, find_in_two};
 use crate::length::MAX_FRAME;
 use crate::search::MAX_RETRIES;
 use arrayvec::ArrayVec;
 use circular_buffer::HeapCircularBuffer;
-use modbus_frame::{PduError, Reason, SlaveId};
+use modbus_frame::{Front, PduError, Reason, SlaveId};
 use modbus_link::{Failed, Source};
 use modbus_pdu::MAX_PDU;
 use std::alloc::{AllocError, Global};
@@ -185,7 +186,7 @@ impl Inbox {
 
         // Where nothing can be taken off, what the inbox stands for goes on by the piece that was read.
         ensures stands { (piece : List ℕ) → self.new ≡ self.old ++ piece → 0 < length piece
-            → (bytes cuts : List ℕ) (taken : List (ℕ × List ℕ))
+            → (bytes cuts : List ℕ) (taken : List SlavePdu)
             → StandsFor bytes cuts self.old taken → verdict self.old 0 ≡ Open
             → StandsFor (bytes ++ piece) (cuts ++ length (bytes ++ piece) ∷ []) self.new taken }
     {
@@ -205,14 +206,14 @@ impl Inbox {
     /// # Errors
     /// `Crowd` exactly where no frame stands at the first `MAX_RETRIES` offsets.
     #[inline(always)]
-    pub fn front<'a>(&'a self, seam: &'a mut [u8]) -> Result<Front<'a>, Crowd>
+    pub fn front<'a>(&'a self, seam: &'a mut [u8]) -> Result<Front<'a, SlaveId>, Crowd>
         requires { max_frame ≤ length seam.old }
-        ensures finds { Finds self.now result }
+        ensures finds { FindsFrame self.now result }
         ensures most { length self.now ≤ max_frame }
 
         // In terms of all bytes that were given so far: which frame it is, and what the bytes behind it then stand for.
-        ensures stands { (bytes cuts : List ℕ) (taken : List (ℕ × List ℕ))
-            → StandsFor bytes cuts self.now taken → FindsIn bytes cuts taken self.now result }
+        ensures stands { (bytes cuts : List ℕ) (taken : List SlavePdu)
+            → StandsFor bytes cuts self.now taken → FindsFrameIn bytes cuts taken self.now result }
     {
         let (first, second) = self.ring.as_slices();
         find_in_two(first, second, seam)
@@ -233,10 +234,10 @@ impl Inbox {
                 self.advance(dropped);
                 Ok(None)
             }
-            Ok(Front::Frame { slave, pdu, end }) => {
+            Ok(Front::Message { header, pdu, end }) => {
                 let pdu = copy_pdu(pdu);
                 self.advance(end);
-                Ok(Some(RtuFrame { slave, pdu }))
+                Ok(Some(RtuFrame { slave: header, pdu }))
             }
         }
     }
@@ -259,9 +260,9 @@ impl Inbox {
 
         // In terms of all bytes that were given so far: which frame it is, and what the inbox then stands for.
         ensures taken { IfOk result (λ found.
-            IfSome found (λ frame. (bytes cuts : List ℕ) (taken : List (ℕ × List ℕ))
-            → StandsFor bytes cuts self.old taken → IsTakenNext bytes cuts taken (parts frame))) }
-        ensures stands { (bytes cuts : List ℕ) (taken : List (ℕ × List ℕ))
+            IfSome found (λ frame. (bytes cuts : List ℕ) (taken : List SlavePdu)
+            → StandsFor bytes cuts self.old taken → IsTakenNext bytes cuts taken (slave_and_pdu frame))) }
+        ensures stands { (bytes cuts : List ℕ) (taken : List SlavePdu)
             → StandsFor bytes cuts self.old taken → StandsAfter bytes cuts taken result self.new }
     {
         self.take_next()

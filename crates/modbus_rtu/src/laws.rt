@@ -1,6 +1,7 @@
 //! Laws on the frames in a list of bytes, about definitions alone. Each is proved by its contract, and its body is empty.
 ghost use Rattle.std.specs.Prelude.{◌*◌, ◌≡◌, ◌≢◌, ◌↔◌, ℕ, ◌+◌, ◌-◌, ◌/◌, ◌%◌, ◌^◌, bit_xor, ◌<◌, ◌≤◌, All, Contains, List, [], ◌∷◌, ◌++◌, map, length, take, drop, get_or, slice_index};
 ghost use Rattle.std.specs.List.{AllByRecursion};
+ghost use Rattle.modbus_pdu.specs.SlavePdu.{SlavePdu};
 ghost use Rattle.modbus_rtu.specs.declared.verdict.Verdict.{Verdict};
 ghost use Rattle.modbus_rtu.specs.declared.verdict.Verdict.TheVariants.{Open, Bad, Good};
 ghost use Rattle.modbus_rtu.specs.declared.search.Next.{Next};
@@ -15,7 +16,7 @@ ghost use Rattle.modbus_rtu.specs.Place.{frames_below};
 ghost use Rattle.modbus_rtu.specs.Stands.{StandsFor, IsTakenNext, IsUsedUp, IsFirstCrowd, HasCrowd, frame_at};
 ghost use Rattle.modbus_rtu.specs.Quiet.{IsQuietLine};
 ghost use Rattle.modbus_frame.specs.Meaning.{Asked};
-ghost use Rattle.modbus_rtu.specs.Framed.{HasHead, IsFramedAsk, message_of, stream_of, IsWholeReading};
+ghost use Rattle.modbus_rtu.specs.WholeReading.{HasHead, IsFramedAsk, message_of, stream_of, IsWholeReading};
 ghost use Rattle.modbus_rtu.specs.Limits.{overhead, max_retries};
 
 /// The checksum goes by whole bytes: a byte's eight bit steps move the high half of the register down, and add what eight bit steps make
@@ -128,7 +129,7 @@ pub fn one_answer()
 
 /// Frames one after another, each of the length that its first bytes tell, are the leftmost frames, and the stop is the end.
 pub fn frames_alone()
-    ensures { (messages : List (ℕ × List ℕ)) → AllByRecursion HasHead messages
+    ensures { (messages : List SlavePdu) → AllByRecursion HasHead messages
         → IsWholeReading (stream_of messages) messages }
 {}
 
@@ -151,32 +152,32 @@ pub fn standing()
     ensures opening { StandsFor [] [] [] [] }
 
     // It takes off a frame with all bytes before it,
-    ensures frame { (bytes cuts held : List ℕ) (taken : List (ℕ × List ℕ)) (start n : ℕ)
+    ensures frame { (bytes cuts held : List ℕ) (taken : List SlavePdu) (start n : ℕ)
         → StandsFor bytes cuts held taken → IsNext held (Frame start n)
         → StandsFor bytes cuts (drop (start + (n + overhead)) held)
         (taken ++ (slice_index held start, take n (drop (start + 1) held)) ∷ []) }
 
     // or drops the bad offsets before an open one; then all delivered frames are taken.
-    ensures waiting { (bytes cuts held : List ℕ) (taken : List (ℕ × List ℕ)) (dropped : ℕ)
+    ensures waiting { (bytes cuts held : List ℕ) (taken : List SlavePdu) (dropped : ℕ)
         → StandsFor bytes cuts held taken → IsNext held (Waiting dropped)
         → StandsFor bytes cuts (drop dropped held) taken
         × IsUsedUp bytes cuts (drop dropped held) taken }
 
     // So it is wherever the held bytes begin open.
-    ensures used_up { (bytes cuts held : List ℕ) (taken : List (ℕ × List ℕ))
+    ensures used_up { (bytes cuts held : List ℕ) (taken : List SlavePdu)
         → StandsFor bytes cuts held taken → verdict held 0 ≡ Open → IsUsedUp bytes cuts held taken }
 
     // `MAX_RETRIES` bad offsets are the first crowd, and a crowd that no frame precedes is found so.
-    ensures crowd { (bytes cuts held : List ℕ) (taken : List (ℕ × List ℕ))
+    ensures crowd { (bytes cuts held : List ℕ) (taken : List SlavePdu)
         → StandsFor bytes cuts held taken → IsNext held TooManyRetries
         → (k : ℕ) × IsFirstCrowd bytes cuts taken k }
-    ensures found { (bytes cuts held : List ℕ) (taken : List (ℕ × List ℕ)) (k : ℕ)
+    ensures found { (bytes cuts held : List ℕ) (taken : List SlavePdu) (k : ℕ)
         → (s : StandsFor bytes cuts held taken) → HasCrowd bytes cuts k
         → ((frames : List ℕ) (stop : ℕ) → IsLeftmost bytes frames stop → (f : ℕ) → Contains frames f
         → s.place ≤ f → f < k + (max_retries - 1) → ⊥) → IsNext held TooManyRetries }
 
     // A read that gave bytes, made where the held bytes begin open, appends them and is one more cut.
-    ensures read { (bytes cuts held more : List ℕ) (taken : List (ℕ × List ℕ))
+    ensures read { (bytes cuts held more : List ℕ) (taken : List SlavePdu)
         → StandsFor bytes cuts held taken → verdict held 0 ≡ Open → 0 < length more
         → StandsFor (bytes ++ more) (cuts ++ length (bytes ++ more) ∷ []) (held ++ more) taken }
 {}
@@ -184,12 +185,12 @@ pub fn standing()
 /// A quiet line goes on as it was read: whatever its pieces, no read brings a crowd, each frame that is given away is the next one of
 /// the line, and where all was read and used nothing is held.
 pub fn quiet_lines()
-    ensures calm { (read rest cuts : List ℕ) (messages : List (ℕ × List ℕ)) (k : ℕ)
+    ensures calm { (read rest cuts : List ℕ) (messages : List SlavePdu) (k : ℕ)
         → IsQuietLine (read ++ rest) messages → HasCrowd read cuts k → ⊥ }
-    ensures next { (read rest cuts : List ℕ) (messages before : List (ℕ × List ℕ))
-        (message : ℕ × List ℕ) → IsQuietLine (read ++ rest) messages
+    ensures next { (read rest cuts : List ℕ) (messages before : List SlavePdu)
+        (message : SlavePdu) → IsQuietLine (read ++ rest) messages
         → IsTakenNext read cuts before message
-        → (later : List (ℕ × List ℕ)) × (messages ≡ (before ++ message ∷ []) ++ later) }
-    ensures used { (read cuts left : List ℕ) (messages before : List (ℕ × List ℕ))
+        → (later : List SlavePdu) × (messages ≡ (before ++ message ∷ []) ++ later) }
+    ensures used { (read cuts left : List ℕ) (messages before : List SlavePdu)
         → IsQuietLine read messages → IsUsedUp read cuts left before → left ≡ [] }
 {}

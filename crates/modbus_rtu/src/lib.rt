@@ -23,7 +23,7 @@ pub use crate::codec::{ClientCodec, ServerCodec};
 pub use crate::crc::{CrcMismatch, calc_crc, check_crc};
 pub use crate::decoder::{Decoder, FrameDecoder, FrameFault, RequestDecoder, ResponseDecoder};
 pub use crate::encoder::{encode_request_frame, encode_response_frame};
-pub use crate::front::{Crowd, Front};
+pub use crate::front::Crowd;
 pub use crate::inbox::{Inbox, RtuError, RtuFrame};
 pub use crate::length::{LengthRule, MAX_FRAME, NoLength, RequestRule, request_pdu_len};
 pub use crate::response_length::{LONGEST_IDENTIFICATION, ResponseRule, response_pdu_len};

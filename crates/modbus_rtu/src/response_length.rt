@@ -1,7 +1,7 @@
 //! How long the PDU of a response is, by its first bytes (Modbus Application Protocol V1.1b3, sections 6 and 7).
 ghost use Rattle.std.specs.Prelude.{◌≡◌, ◌≢◌, ℕ, ◌+◌, ◌-◌, ◌*◌, ◌<◌, ◌≤◌, IfOk, IfNone, IfSome, IsErr, Ok, None, List, length, slice_get};
 ghost use Rattle.std.specs.Option.{option_map};
-ghost use Rattle.modbus_rtu.specs.ResponseHead.{after_object, after_objects, held_len, identified_len, response_head, word_len};
+ghost use Rattle.modbus_rtu.specs.ResponseHead.{place_after_object, after_objects, held_len, identified_len, response_head, word_len};
 ghost use Rattle.modbus_rtu.specs.Limits.{slave_address, overhead, first_object, longest_object, most_objects_end, longest_identification, max_word};
 ghost use Rattle.modbus_pdu.specs.Limits.{fifo_head};
 
@@ -48,7 +48,7 @@ fn word_counted_len(adu: &[u8]) -> Option<usize>
 /// The place after the object at a place. `None` where a byte of it is missing.
 fn object_end(adu: &[u8], place: usize) -> Option<usize>
     requires { place ≤ length adu.now }
-    ensures exact { result ≡ after_object adu.now place }
+    ensures exact { result ≡ place_after_object adu.now place }
     ensures within { IfSome result (λ end. (end ≤ length adu.now) × (place < end)
         × (end ≤ place + longest_object)) }
     ensures missing { IfNone result (length adu.now < place + longest_object) }

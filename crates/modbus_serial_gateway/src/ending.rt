@@ -1,6 +1,6 @@
 //! How a gateway ends that listens, and the lines that tell it.
 ghost use Rattle.std.specs.Prelude.{◌≡◌};
-ghost use Rattle.modbus_serial_gateway.specs.Ending.{status_of, line_of};
+ghost use Rattle.modbus_serial_gateway.specs.Ends.{status_of, line_of};
 
 use modbus_app::{ACCEPT_FAULT, NO_MEMORY, PASSES_OUT, SPAWN_FAULT};
 use modbus_line::ServicesOut;

@@ -3,7 +3,7 @@ ghost use Rattle.std.specs.Prelude.{◌≡◌, ◌≢◌, ◌^◌, ◌-◌, None
 ghost use Rattle.modbus_link.specs.Outside.{Rose};
 ghost use Rattle.modbus_server.specs.declared.error.ServeError.TheVariants.{AcceptFault};
 ghost use Rattle.modbus_server.specs.Listener.{Exact, Balances};
-ghost use Rattle.modbus_serial_gateway.specs.Ending.{HasEnded, IsRefusedOrEnded};
+ghost use Rattle.modbus_serial_gateway.specs.Ends.{HasEnded, IsRefusedOrEnded};
 
 use crate::ending::{line, status};
 use itoa::Buffer;

@@ -1,8 +1,8 @@
 //! The words of the command line.
 ghost use Rattle.std.specs.Prelude.{◌≡◌};
-ghost use Rattle.modbus_serial_gateway.specs.Words.{port_named, time_named, task_of};
+ghost use Rattle.modbus_serial_gateway.specs.Words.{nonzero_port, time_named, task_of};
 
-use modbus_app::number_within;
+use modbus_poll::number_within;
 
 /// The line of a usage fault.
 pub const USAGE_LINE: &str =
@@ -19,7 +19,7 @@ pub struct Task {
 
 /// The port that a word shows: one to five digits, of a value from 1 to 65535.
 fn port_number(word: &str) -> Option<u16>
-    ensures { result ≡ port_named word.now }
+    ensures { result ≡ nonzero_port word.now }
 {
     match number_within(word.as_bytes(), 5, 1, 0xFFFF) {
         Some(port) if port <= 0xFFFF => Some(port as u16),

@@ -7,7 +7,7 @@ use Rattle.modbus_frame.specs.Codes.{exception_number}
 use Rattle.modbus_frame.specs.declared.code.ExceptionCode.{ExceptionCode}
 use Rattle.modbus_frame.specs.declared.response.Response.{Response}
 use Rattle.modbus_frame.specs.declared.response.ExceptionResponse.{ExceptionResponse}
-use Rattle.modbus_pdu.specs.Coding.{Encodes}
+use Rattle.modbus_pdu.specs.Encodes.{Encodes}
 use Rattle.modbus_pdu.specs.ResponsePdu.{response_pdu, response_result_pdu}
 use Rattle.modbus_server.specs.declared.error.NextError.{NextError}
 use Rattle.modbus_server.specs.declared.error.NextError.TheVariants.{Broken, Refused, TooLong, NoMemory}
@@ -16,7 +16,7 @@ use Rattle.modbus_server.specs.declared.error.Next.TheVariants.{Reply, Silent, W
 use Rattle.modbus_service.specs.Outcome.{Outcome, silence, reply, exception, reply_pdu, code_of}
 use Rattle.modbus_server.specs.Framing.{Framing, Message}
 use Rattle.modbus_service.specs.Answering.{Answering}
-use Rattle.modbus_server.specs.Exchanges.{Exchange, Question, ReplyFits, framed}
+use Rattle.modbus_server.specs.Exchanges.{Exchange, Question, ReplyFits, framed_outcome}
 use Rattle.modbus_server.specs.Answer.{Answered, FramesAs, AnswersAs}
 
 pub reply_is : (code : ℕ) (response : Response) → reply_pdu code (reply response) ≡ response_pdu response
@@ -46,7 +46,7 @@ module _ (F : Framing) where
   quiet_fits x e = rw e (omega arith)
 
   -- an outcome other than silence is framed
-  framed_some : (header : F.Header) (code : ℕ) (o : Outcome) → o ≢ silence → framed F header code o ≡ F.adu header (reply_pdu code o)
+  framed_some : (header : F.Header) (code : ℕ) (o : Outcome) → o ≢ silence → framed_outcome F header code o ≡ F.adu header (reply_pdu code o)
   framed_some header code silence some = absurd (some refl)
   framed_some header code (reply response) some = refl
   framed_some header code (exception e) some = refl

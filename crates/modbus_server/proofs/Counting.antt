@@ -3,7 +3,7 @@ use Rattle.std.proofs.Common.{◌≡◌, ◌≤◌, ◌-◌, ℕ, Result, Ok, Er
 use Rattle.modbus_server.specs.declared.error.ServeError.{ServeError}
 use Rattle.modbus_server.specs.declared.error.ServeError.TheVariants.{AcceptFault, Connect, SpawnFault, NoMemory}
 use Rattle.modbus_frame.specs.declared.server.Terminated.{Terminated}
-use Rattle.modbus_server.specs.Listener.{Parts, Listener, Counts, Counted, Balances}
+use Rattle.modbus_server.specs.Listener.{Parts, Listener, Counts, CountsPeers, Balances}
 
 balance_both : {E T : Type 0} (result : Result T (ServeError E)) (a b c d e f : ℕ) → a ≤ b → b ≤ c → d ≤ e → e ≤ f → b - a ≡ e - d
     → Balances result (c - b) (f - e) → Balances result (c - a) (f - d)
@@ -17,7 +17,7 @@ balance_both (Err NoMemory) a b c d e f ab bc de ef before (inr one) = inr (omeg
 module _ {A C P K L V E H : Type 0} (parts : Parts A C P K L V E H) (counts : Counts A P) where
   -- so many accepts that went well
   abbrev pub Well : Listener A C P → Listener A C P → Type 0
-  Well old new = Counted {T = Unit {0}} parts counts old new (Ok tt)
+  Well old new = CountsPeers {T = Unit {0}} parts counts old new (Ok tt)
 
   pub none_counted : (it : Listener A C P) → Well it it
   none_counted it = record {
@@ -31,7 +31,7 @@ module _ {A C P K L V E H : Type 0} (parts : Parts A C P K L V E H) (counts : Co
   }
 
   -- no memory for the flag of the workers
-  pub counted_nothing : (it : Listener A C P) → Counted {T = Terminated} parts counts it it (Err NoMemory)
+  pub counted_nothing : (it : Listener A C P) → CountsPeers {T = Terminated} parts counts it it (Err NoMemory)
   counted_nothing it = record {
     given = omega arith;
     started = omega arith;
@@ -42,7 +42,7 @@ module _ {A C P K L V E H : Type 0} (parts : Parts A C P K L V E H) (counts : Co
     balance = λ never given started. inl (omega arith);
   }
 
-  pub counted_well : (old new : Listener A C P) (terminated : Terminated) → Well old new → Counted parts counts old new (Ok terminated)
+  pub counted_well : (old new : Listener A C P) (terminated : Terminated) → Well old new → CountsPeers parts counts old new (Ok terminated)
   counted_well old new terminated all = record {
     given = all.given;
     started = all.started;
@@ -69,8 +69,8 @@ module _ {A C P K L V E H : Type 0} (parts : Parts A C P K L V E H) (counts : Co
   }
 
   -- the last accept, which did not go well
-  pub counted_last : (old mid new : Listener A C P) (error : ServeError E) → Well old mid → Counted {T = Unit {0}} parts counts mid new (Err error)
-      → Counted {T = Terminated} parts counts old new (Err error)
+  pub counted_last : (old mid new : Listener A C P) (error : ServeError E) → Well old mid → CountsPeers {T = Unit {0}} parts counts mid new (Err error)
+      → CountsPeers {T = Terminated} parts counts old new (Err error)
   counted_last old mid new error first last = record {
     given = omega (arith, first.given, last.given);
     started = omega (arith, first.started, last.started);

@@ -17,5 +17,5 @@ pub mod RtuFaults
 pub mod RtuOneFault
 pub mod Unspawned
 pub mod Counting
-pub mod Rooms
 pub mod AtOpening
+pub mod Fronts

@@ -8,7 +8,7 @@ use Rattle.modbus_server.specs.declared.error.ProcessError.TheVariants.{ReadFaul
 use Rattle.modbus_server.specs.declared.error.Step.TheVariants.{MoreRead, Ended}
 use Rattle.modbus_server.specs.Framing.{Framing}
 use Rattle.modbus_server.specs.State.{State}
-use Rattle.modbus_server.specs.Transfer.{Reads, Fills}
+use Rattle.modbus_server.specs.Transfer.{ReadsOnce, Fills}
 use Rattle.modbus_server.specs.Polled.{ReadsNothing}
 
 pub keeps_more : (old now new : State) (w : List ℕ) → now ≡ record old { waiting = now.waiting } → new ≡ record now { waiting = w } → new ≡ record old { waiting = new.waiting }
@@ -16,7 +16,7 @@ keeps_more old now new w e f =
     f ∙ ap (λ (s : State). record s { waiting = w }) e ∙ ap (λ v. record old { waiting = v }) (sym (ap (λ (s : State). s.waiting) f))
 
 module _ (F : Framing) (a b : Input) (old new : State) where
-  pub reads_none : b ≡ a → new.is_open ≡ false → F.ReadsTakeMemory → Reads F a b old new (Err NoMemory)
+  pub reads_none : b ≡ a → new.is_open ≡ false → F.ReadsTakeMemory → ReadsOnce F a b old new (Err NoMemory)
   reads_none same closed takes = record {
     fed = [];
     made = [];
@@ -52,7 +52,7 @@ module _ (F : Framing) (a b : Input) (old mid new : State) (same : mid ≡ recor
         keeps = cc (no_piece (Err e) f f.reads.count, keeps, same);
       }
 
-  pub fills_fault : {E : Type 0} (e : E) (closed : State) → Fills F a b mid.held new.held (Err e) → Rose a.faults b.faults → closed.is_open ≡ false → Reads F a b old closed (Err ReadFault)
+  pub fills_fault : {E : Type 0} (e : E) (closed : State) → Fills F a b mid.held new.held (Err e) → Rose a.faults b.faults → closed.is_open ≡ false → ReadsOnce F a b old closed (Err ReadFault)
   fills_fault e closed f rose shut = record {
     fed = [];
     made = [];
@@ -64,7 +64,7 @@ module _ (F : Framing) (a b : Input) (old mid new : State) (same : mid ≡ recor
     cause = λ same. rose;
   }
 
-  pub fills_more : {E : Type 0} (n : ℕ) → 0 < n → Fills F {E = E} a b mid.held new.held (Ok n) → Reads F a b old new (Ok MoreRead)
+  pub fills_more : {E : Type 0} (n : ℕ) → 0 < n → Fills F {E = E} a b mid.held new.held (Ok n) → ReadsOnce F a b old new (Ok MoreRead)
   fills_more n some f =
       let long : length f.piece ≡ n = f.reads.count in
       let some' : 0 < length f.piece = omega (arith, long) in
@@ -94,7 +94,7 @@ module _ (F : Framing) (a b : Input) (old mid new : State) (same : mid ≡ recor
       let none : b.left ≡ a.left = sym ((f.reads.source.content t).left ∙ ap (λ bytes. bytes ++ b.left) (f.reads.read t ∙ nil_from_length f.piece (f.reads.count ∙ zero))) in
       none ∙ (f.reads.ended t).0 zero
 
-  pub fills_ended : {E : Type 0} (closed : State) (n : ℕ) → n ≡ 0 → Fills F {E = E} a b mid.held new.held (Ok n) → new.held ≡ [] → closed ≡ record new { is_open = false } → Reads F a b old closed (Ok Ended)
+  pub fills_ended : {E : Type 0} (closed : State) (n : ℕ) → n ≡ 0 → Fills F {E = E} a b mid.held new.held (Ok n) → new.held ≡ [] → closed ≡ record new { is_open = false } → ReadsOnce F a b old closed (Ok Ended)
   fills_ended closed n zero f empty shut =
       let held = no_piece (Ok n) f (f.reads.count ∙ zero) in
       record {
@@ -108,7 +108,7 @@ module _ (F : Framing) (a b : Input) (old mid new : State) (same : mid ≡ recor
         cause = λ bad. cc;
       }
 
-  pub fills_cut_short : {E : Type 0} (closed : State) (n : ℕ) → n ≡ 0 → Fills F {E = E} a b mid.held new.held (Ok n) → new.held ≢ [] → closed ≡ record new { is_open = false } → Reads F a b old closed (Err BytesRemaining)
+  pub fills_cut_short : {E : Type 0} (closed : State) (n : ℕ) → n ≡ 0 → Fills F {E = E} a b mid.held new.held (Ok n) → new.held ≢ [] → closed ≡ record new { is_open = false } → ReadsOnce F a b old closed (Err BytesRemaining)
   fills_cut_short closed n zero f some shut = record {
     fed = [];
     made = [];

@@ -2,11 +2,11 @@
 use Rattle.std.proofs.Common.{◌≡◌, ◌≢◌, inl, inr, ℕ, ◌+◌, ◌<◌, ◌≤◌, List, [], ◌∷◌, ◌++◌, length, refl, sym, ap, ◌∙◌, subst, arith, Result, Ok, Err, Bool, true, false, IsTrue, append-nil, append_assoc, length-append}
 use Rattle.modbus_link.specs.declared.polled.Polled.{Polled}
 use Rattle.modbus_link.specs.declared.polled.Polled.TheVariants.{Ready, Pending}
-use Rattle.modbus_link.specs.Outside.{Outside, outside, Input, Output, Rose, IsFront, shifted}
-use Rattle.modbus_link.specs.Passing.{Passes, Sends, passes_out, passes_in, passes_both}
+use Rattle.modbus_link.specs.Outside.{Outside, outside, Input, Output, Rose, IsFront, cuts_from}
+use Rattle.modbus_link.specs.Passes.{Passes, Sends, passes_out, passes_in, passes_both}
 use Rattle.modbus_link.specs.Reads.{HaveRooms, totals, Spends}
 use Rattle.modbus_link.specs.Runs.{RisesTo-both}
-use Rattle.modbus_link.specs.Together.{count_both, totals_both, rooms_more, rooms_then, regroup, unread_on}
+use Rattle.modbus_link.specs.TwoRuns.{count_both, totals_both, rooms_more, rooms_then, regroup, unread_on}
 use Rattle.modbus_server.specs.declared.error.ProcessError.{ProcessError}
 use Rattle.modbus_server.specs.declared.error.ProcessError.TheVariants.{ReadFault, WriteFault, TooManyRetries, BytesRemaining, InvalidRequest, ResponseTooLong, TurnLimit, InvalidLength, InvalidProtocol, NoMemory}
 use Rattle.modbus_server.specs.declared.error.Next.TheVariants.{Reply, Waiting}
@@ -18,21 +18,21 @@ use Rattle.modbus_server.specs.Exchanges.{Exchange}
 use Rattle.modbus_server.specs.Served.{past, Stands, remaining}
 use Rattle.modbus_server.specs.State.{State}
 use Rattle.modbus_server.specs.Next.{Took}
-use Rattle.modbus_server.specs.Transfer.{Writes, EndsInput}
+use Rattle.modbus_server.specs.Transfer.{WritesOnce, EndsInput}
 use Rattle.modbus_server.specs.Step.{StepsAs, EndsIfMay, Stepped, EndsRead, spending_of, Ran}
 use Rattle.modbus_server.specs.Complete.{Completes}
-use Rattle.modbus_server.specs.Polled.{polled, PolledPast, polled_past, polled_on, PolledState, PollWaits, ReadsNothing, PollWrites, PollReads, Paused, PollSteps, PollStands, PollEnds, PolledTo, RunsWhole}
+use Rattle.modbus_server.specs.Polled.{polled, PolledPast, polled_past, polled_on, PolledProcessState, PollWaits, ReadsNothing, PollWrites, PollReads, Paused, PollSteps, PollStands, PollEnds, PolledTo, RunsWhole}
 use Rattle.modbus_server.proofs.Standing.{opened, sent_on, halted}
 use Rattle.modbus_server.proofs.Stepping.{fails_end, stepped_sent, stepped_read}
 use Rattle.modbus_server.specs.Moment.{Moment, moment}
 
 -- two runs after what came before are one, with what was written in them
 regrouped : (P : List ℕ → List (ℕ × ℕ) → List ℕ → Type 0) (bytes fed fed' : List ℕ) (earlier made made' : List (ℕ × ℕ)) (written sent sent' : List ℕ)
-    → P ((bytes ++ fed) ++ fed') ((earlier ++ shifted (length bytes) made) ++ shifted (length (bytes ++ fed)) made') ((written ++ sent) ++ sent')
-    → P (bytes ++ (fed ++ fed')) (earlier ++ shifted (length bytes) (made ++ shifted (length fed) made')) (written ++ (sent ++ sent'))
+    → P ((bytes ++ fed) ++ fed') ((earlier ++ cuts_from (length bytes) made) ++ cuts_from (length (bytes ++ fed)) made') ((written ++ sent) ++ sent')
+    → P (bytes ++ (fed ++ fed')) (earlier ++ cuts_from (length bytes) (made ++ cuts_from (length fed) made')) (written ++ (sent ++ sent'))
 regrouped P bytes fed fed' earlier made made' written sent sent' p =
     regroup (λ b e. P b e (written ++ (sent ++ sent'))) bytes fed fed' earlier made made'
-    (subst (P ((bytes ++ fed) ++ fed') ((earlier ++ shifted (length bytes) made) ++ shifted (length (bytes ++ fed)) made')) (append_assoc written sent sent') p)
+    (subst (P ((bytes ++ fed) ++ fed') ((earlier ++ cuts_from (length bytes) made) ++ cuts_from (length (bytes ++ fed)) made')) (append_assoc written sent sent') p)
 
 module _ (F : Framing) {S : Type 0} (A : Answering S) where
   -- a step found the link not ready for the whole reply
@@ -98,7 +98,7 @@ module _ (F : Framing) {S : Type 0} (A : Answering S) where
     steps_read took unsent may (Err error) reads = stepped_read F A old new before after a k may_read told mid b m took unsent may (Err error) reads
 
   -- what a poll promises, and that it is not over only where the link was not ready
-  abbrev Polls : PolledState → PolledState → Moment S → Moment S → ℕ → ℕ → Polled (Result (Unit {0}) ProcessError) → Type 0
+  abbrev Polls : PolledProcessState → PolledProcessState → Moment S → Moment S → ℕ → ℕ → Polled (Result (Unit {0}) ProcessError) → Type 0
   Polls old new before after idle idle' result = PolledTo F A old new before after result × PollWaits idle idle' result
 
   -- what a poll keeps from step to step, once nothing waits
@@ -108,7 +108,7 @@ module _ (F : Framing) {S : Type 0} (A : Answering S) where
     pub sent : List ℕ
     pub passes : Passes (outside a k) (outside b m) fed made sent
     pub goes_on : (behind : PolledPast S) → PollStands F A behind before (polled old left)
-        → PollStands F A (polled_past behind.turns (behind.bytes ++ fed) (behind.made ++ shifted (length behind.bytes) made) behind.opening (behind.written ++ sent)) after (polled state left')
+        → PollStands F A (polled_past behind.turns (behind.bytes ++ fed) (behind.made ++ cuts_from (length behind.bytes) made) behind.opening (behind.written ++ sent)) after (polled state left')
     pub waiting : state.waiting ≡ []
     pub ready : IsTrue state.is_open
     pub later : idle ≤ idle'
@@ -186,7 +186,7 @@ module _ (F : Framing) {S : Type 0} (A : Answering S) where
     )
 
   module _ (old new : State) (left : ℕ) (now : S) (a b : Input) (k m : Output) (idle idle' : ℕ) (unread : b ≡ a) (sends : Sends k m old.waiting new.waiting) (later : idle ≤ idle') (ready : IsTrue old.is_open) where
-    pub begun : (step : Step) → Writes old new (Ok step) → PollGoing old new left left now now a b k m idle idle'
+    pub begun : (step : Step) → WritesOnce old new (Ok step) → PollGoing old new left left now now a b k m idle idle'
     begun Answered writes = flushed_all old new left now a b k m idle idle' unread sends writes.0 later writes.1 (writes.2 ∙ ready)
     begun _ writes = absurd writes
 
@@ -194,7 +194,7 @@ module _ (F : Framing) {S : Type 0} (A : Answering S) where
     begun_pending rose writes =
         flushed_some old new left now a b k m idle idle' unread sends (ap (λ (s : State). s.held) writes.0) later rose (ap (λ (s : State). s.is_open) writes.0 ∙ ready) writes.1
 
-    pub begun_failed : (error : ProcessError) → Writes old new (Err error) → (let result : Result (Polled Step) ProcessError = Err error in result ≡ Err WriteFault → Rose k.faults m.faults)
+    pub begun_failed : (error : ProcessError) → WritesOnce old new (Err error) → (let result : Result (Polled Step) ProcessError = Err error in result ≡ Err WriteFault → Rose k.faults m.faults)
         → Polls (polled old left) (polled new left) (moment now a k) (moment now b m) idle idle' (Ready (Err error))
     begun_failed WriteFault writes cause = flush_failed old new left now a b k m idle idle' unread sends writes.0 later writes.1 (cause refl)
     begun_failed _ writes cause = absurd writes
@@ -221,14 +221,14 @@ module _ (F : Framing) {S : Type 0} (A : Answering S) where
         passes = passes_both (outside a k) (outside b l) (outside c m) g.fed [] g.made [] g.sent p.sent g.passes p.passes;
         goes_on = λ behind start.
             let s = g.goes_on behind start in
-            let all = p.stands (past (behind.bytes ++ g.fed) (totals (behind.made ++ shifted (length behind.bytes) g.made)) behind.opening (behind.written ++ g.sent) s.exchanges) (unwaiting s.stands) in
+            let all = p.stands (past (behind.bytes ++ g.fed) (totals (behind.made ++ cuts_from (length behind.bytes) g.made)) behind.opening (behind.written ++ g.sent) s.exchanges) (unwaiting s.stands) in
             regrouped (λ x y z. PollStands F A (polled_past behind.turns x y behind.opening z) next (polled new left'')) behind.bytes g.fed [] behind.made g.made [] behind.written g.sent p.sent
-            (unread_on (λ x y. PollStands F A (polled_past behind.turns x y behind.opening ((behind.written ++ g.sent) ++ p.sent)) next (polled new left'')) (behind.bytes ++ g.fed) (behind.made ++ shifted (length behind.bytes) g.made) record {
+            (unread_on (λ x y. PollStands F A (polled_past behind.turns x y behind.opening ((behind.written ++ g.sent) ++ p.sent)) next (polled new left'')) (behind.bytes ++ g.fed) (behind.made ++ cuts_from (length behind.bytes) g.made) record {
               exchanges = all.0;
               stands = all.1;
               rises = s.rises;
               rooms = s.rooms;
-              spends = ap (λ n. length (behind.made ++ shifted (length behind.bytes) g.made) + n) same ∙ s.spends;
+              spends = ap (λ n. length (behind.made ++ cuts_from (length behind.bytes) g.made) + n) same ∙ s.spends;
             });
         is_open = p.is_open;
         rests = λ e. p.rests;
@@ -241,40 +241,40 @@ module _ (F : Framing) {S : Type 0} (A : Answering S) where
     )
 
     module _ (may_read : Bool) (result : Result Step ProcessError) (step : Stepped F A mid new (moment now b l) (moment next c m) may_read result) where
-      all_passes : Passes (outside a k) (outside c m) (g.fed ++ step.fed) (g.made ++ shifted (length g.fed) step.made) (g.sent ++ step.sent)
+      all_passes : Passes (outside a k) (outside c m) (g.fed ++ step.fed) (g.made ++ cuts_from (length g.fed) step.made) (g.sent ++ step.sent)
       all_passes = passes_both (outside a k) (outside b l) (outside c m) g.fed step.fed g.made step.made g.sent step.sent g.passes step.passes
 
       -- of all that the server stood for before the step
       module _ (behind : PolledPast S) (s : PollStands F A behind now (polled mid left')) where
-        stepped : StepsAs F A (past (behind.bytes ++ step.fed) (totals (behind.made ++ shifted (length behind.bytes) step.made)) behind.opening (behind.written ++ step.sent) s.exchanges) new.held next new.waiting result
+        stepped : StepsAs F A (past (behind.bytes ++ step.fed) (totals (behind.made ++ cuts_from (length behind.bytes) step.made)) behind.opening (behind.written ++ step.sent) s.exchanges) new.held next new.waiting result
         stepped = subst (λ t. StepsAs F A (past (behind.bytes ++ step.fed) t behind.opening (behind.written ++ step.sent) s.exchanges) new.held next new.waiting result) (sym (totals_both (length behind.bytes) behind.made step.made))
             (step.stands (past behind.bytes (totals behind.made) behind.opening behind.written s.exchanges) (unwaiting s.stands))
 
-        have_rooms : HaveRooms F.HasRoom (behind.bytes ++ step.fed) 0 (behind.made ++ shifted (length behind.bytes) step.made)
-        have_rooms = rooms_then F.HasRoom (behind.bytes ++ step.fed) 0 (length behind.bytes) behind.made (shifted (length behind.bytes) step.made) s.rises
+        have_rooms : HaveRooms F.HasRoom (behind.bytes ++ step.fed) 0 (behind.made ++ cuts_from (length behind.bytes) step.made)
+        have_rooms = rooms_then F.HasRoom (behind.bytes ++ step.fed) 0 (length behind.bytes) behind.made (cuts_from (length behind.bytes) step.made) s.rises
             (rooms_more F.HasRoom behind.bytes step.fed 0 (length behind.bytes) behind.made s.rises (omega arith) s.rooms)
             (step.rooms (past behind.bytes (totals behind.made) behind.opening behind.written s.exchanges) (unwaiting s.stands))
 
-        count : length (behind.made ++ shifted (length behind.bytes) step.made) ≡ length behind.made + length step.made
+        count : length (behind.made ++ cuts_from (length behind.bytes) step.made) ≡ length behind.made + length step.made
         count = count_both (length behind.bytes) behind.made step.made
 
-        stands_on : (all : List (Exchange F)) → Stands F A (past (behind.bytes ++ step.fed) (totals (behind.made ++ shifted (length behind.bytes) step.made)) behind.opening (behind.written ++ step.sent) all) new.held next new.waiting
-            → length step.made + left'' ≡ left' → PollStands F A (polled_past behind.turns (behind.bytes ++ step.fed) (behind.made ++ shifted (length behind.bytes) step.made) behind.opening (behind.written ++ step.sent)) next (polled new left'')
+        stands_on : (all : List (Exchange F)) → Stands F A (past (behind.bytes ++ step.fed) (totals (behind.made ++ cuts_from (length behind.bytes) step.made)) behind.opening (behind.written ++ step.sent) all) new.held next new.waiting
+            → length step.made + left'' ≡ left' → PollStands F A (polled_past behind.turns (behind.bytes ++ step.fed) (behind.made ++ cuts_from (length behind.bytes) step.made) behind.opening (behind.written ++ step.sent)) next (polled new left'')
         stands_on all stands spends = record {
           exchanges = all;
           stands = stands;
-          rises = RisesTo-both (behind.made ++ shifted (length behind.bytes) step.made) behind.made step.made (length behind.bytes) (length step.fed) (length (behind.bytes ++ step.fed)) refl (length-append behind.bytes step.fed) s.rises step.passes.rises;
+          rises = RisesTo-both (behind.made ++ cuts_from (length behind.bytes) step.made) behind.made step.made (length behind.bytes) (length step.fed) (length (behind.bytes ++ step.fed)) refl (length-append behind.bytes step.fed) s.rises step.passes.rises;
           rooms = have_rooms;
           spends = let before = s.spends in let all = count in omega (arith, before, all, spends);
         }
 
       -- it goes on
       going_on : ((behind : PolledPast S) → PollStands F A behind now (polled mid left')
-          → PollStands F A (polled_past behind.turns (behind.bytes ++ step.fed) (behind.made ++ shifted (length behind.bytes) step.made) behind.opening (behind.written ++ step.sent)) next (polled new left''))
+          → PollStands F A (polled_past behind.turns (behind.bytes ++ step.fed) (behind.made ++ cuts_from (length behind.bytes) step.made) behind.opening (behind.written ++ step.sent)) next (polled new left''))
           → new.waiting ≡ [] → IsTrue new.is_open → PollGoing old new left left'' before next a c k m idle idle''
       going_on on none ready = record {
         fed = g.fed ++ step.fed;
-        made = g.made ++ shifted (length g.fed) step.made;
+        made = g.made ++ cuts_from (length g.fed) step.made;
         sent = g.sent ++ step.sent;
         passes = all_passes;
         goes_on = λ behind start.
@@ -289,13 +289,13 @@ module _ (F : Framing) {S : Type 0} (A : Answering S) where
       -- or it is over
       over : (final : State) (answer : Result (Unit {0}) ProcessError)
           → ((behind : PolledPast S) → PollStands F A behind now (polled mid left')
-          → PollEnds F A (polled_past behind.turns (behind.bytes ++ step.fed) (behind.made ++ shifted (length behind.bytes) step.made) behind.opening (behind.written ++ step.sent)) next answer)
+          → PollEnds F A (polled_past behind.turns (behind.bytes ++ step.fed) (behind.made ++ cuts_from (length behind.bytes) step.made) behind.opening (behind.written ++ step.sent)) next answer)
           → final.is_open ≡ false → (IsTrue b.told → EndsRead answer c.left) → (answer ≡ Err ReadFault → Rose b.faults c.faults) → (answer ≡ Err WriteFault → Rose l.faults m.faults)
           → Polls (polled old left) (polled final left'') (moment before a k) (moment next c m) idle idle'' (Ready answer)
       over final answer ends closed ended read_fault write_fault = (
         record {
           fed = g.fed ++ step.fed;
-          made = g.made ++ shifted (length g.fed) step.made;
+          made = g.made ++ cuts_from (length g.fed) step.made;
           sent = g.sent ++ step.sent;
           passes = all_passes;
           goes_on = λ behind start.
@@ -366,9 +366,9 @@ module _ (F : Framing) {S : Type 0} (A : Answering S) where
           (λ behind s.
           let all = count may_read (Err error) step behind s in
           let before = s.spends in record {
-            served = fails_end F A (past (behind.bytes ++ step.fed) (totals (behind.made ++ shifted (length behind.bytes) step.made)) behind.opening (behind.written ++ step.sent) s.exchanges) next error (stepped may_read (Err error) step behind s);
+            served = fails_end F A (past (behind.bytes ++ step.fed) (totals (behind.made ++ cuts_from (length behind.bytes) step.made)) behind.opening (behind.written ++ step.sent) s.exchanges) next error (stepped may_read (Err error) step behind s);
             rooms = have_rooms may_read (Err error) step behind s;
-            spends = spent error (length (behind.made ++ shifted (length behind.bytes) step.made)) behind.turns step.leaves.2 (omega (arith, none, all, before));
+            spends = spent error (length (behind.made ++ cuts_from (length behind.bytes) step.made)) behind.turns step.leaves.2 (omega (arith, none, all, before));
           })
           step.leaves.1 (λ told. ended_as error c.left (step.ended told))
           (λ e. let same : error ≡ ReadFault = cc in step.read_fault (ap (λ (x : ProcessError). Err x) same))
@@ -383,7 +383,7 @@ module _ (F : Framing) {S : Type 0} (A : Answering S) where
           let h = stepped may_read (Ok Hungry) step behind s in
           let all = count may_read (Ok Hungry) step behind s in
           let before = s.spends in
-          let cuts : List ℕ = totals (behind.made ++ shifted (length behind.bytes) step.made) in
+          let cuts : List ℕ = totals (behind.made ++ cuts_from (length behind.bytes) step.made) in
           let both : (s' : Stands F A (past (behind.bytes ++ step.fed) cuts behind.opening (behind.written ++ step.sent) s.exchanges) new.held next []) × F.IsAll (behind.bytes ++ step.fed) cuts new.held s'.taken =
           subst (λ w. (s' : Stands F A (past (behind.bytes ++ step.fed) cuts behind.opening (behind.written ++ step.sent) s.exchanges) new.held next w) × F.IsAll (behind.bytes ++ step.fed) cuts new.held s'.taken) step.leaves.2 (h.0, h.1) in record {
             served = (new.held, halted F A (past (behind.bytes ++ step.fed) cuts behind.opening (behind.written ++ step.sent) s.exchanges) new.held next both.0 (remaining new.held) next (both.1, refl));
@@ -401,7 +401,7 @@ module _ (F : Framing) {S : Type 0} (A : Answering S) where
           let h = stepped may_read (Ok Ended) step behind s in
           let all = count may_read (Ok Ended) step behind s in
           let before = s.spends in
-          let cuts : List ℕ = totals (behind.made ++ shifted (length behind.bytes) step.made) in
+          let cuts : List ℕ = totals (behind.made ++ cuts_from (length behind.bytes) step.made) in
           let both : (s' : Stands F A (past (behind.bytes ++ step.fed) cuts behind.opening (behind.written ++ step.sent) s.exchanges) new.held next []) × F.IsAll (behind.bytes ++ step.fed) cuts new.held s'.taken =
           subst (λ w. (s' : Stands F A (past (behind.bytes ++ step.fed) cuts behind.opening (behind.written ++ step.sent) s.exchanges) new.held next w) × F.IsAll (behind.bytes ++ step.fed) cuts new.held s'.taken) step.leaves.2 (h.0, h.1) in
           let all_used : F.IsAll (behind.bytes ++ step.fed) cuts [] both.0.taken = subst (λ rest. F.IsAll (behind.bytes ++ step.fed) cuts rest both.0.taken) h.2 both.1 in record {
@@ -412,14 +412,14 @@ module _ (F : Framing) {S : Type 0} (A : Answering S) where
           step.leaves.3 (λ told. step.ended told) (λ e. absurd cc) (λ e. absurd cc)
 
   -- the polls so far and a last one are one run
-  module _ (old new : PolledState) (before after : Moment S) where
+  module _ (old new : PolledProcessState) (before after : Moment S) where
     ran_whole : (result : Result (Unit {0}) ProcessError) → PolledTo F A old new before after (Ready result) → (behind : PolledPast S) (first : Outside)
         → PollStands F A behind before.service old → Passes first before.outside behind.bytes behind.made behind.written
         → Ran F A behind.turns (record { service = behind.opening; outside = first }) after result
     ran_whole result p behind first s passed =
         let ends = p.goes_on behind s in record {
           fed = behind.bytes ++ p.fed;
-          made = behind.made ++ shifted (length behind.bytes) p.made;
+          made = behind.made ++ cuts_from (length behind.bytes) p.made;
           sent = behind.written ++ p.sent;
           passes = passes_both first before.outside after.outside behind.bytes p.fed behind.made p.made behind.written p.sent passed p.passes;
           served = ends.served;

@@ -1,10 +1,10 @@
 -- One step after others is one run of steps, with a look at a signal before each.
 use Rattle.std.proofs.Common.{◌≡◌, ℕ, ◌+◌, ◌<◌, ◌≤◌, List, [], ◌∷◌, ◌++◌, length, refl, sym, ap, ◌∙◌, subst, arith, add-one, Result, Ok, Err, Bool, true, false, length-append, IsTrue, inr}
 use Rattle.modbus_frame.specs.declared.server.Terminated.TheVariants.{Finished, Aborted}
-use Rattle.modbus_link.specs.Outside.{outside, Input, Output, Rose, shifted}
-use Rattle.modbus_link.specs.Passing.{Passes, passes_both, passes_none}
+use Rattle.modbus_link.specs.Outside.{outside, Input, Output, Rose, cuts_from}
+use Rattle.modbus_link.specs.Passes.{Passes, passes_both, passes_none}
 use Rattle.modbus_link.specs.Reads.{HaveRooms, totals, Spends}
-use Rattle.modbus_link.specs.Together.{count_both, totals_both, rooms_more, rooms_then}
+use Rattle.modbus_link.specs.TwoRuns.{count_both, totals_both, rooms_more, rooms_then}
 use Rattle.modbus_server.specs.declared.error.ProcessError.{ProcessError}
 use Rattle.modbus_server.specs.declared.error.ProcessError.TheVariants.{ReadFault, WriteFault, TooManyRetries, BytesRemaining, InvalidRequest, ResponseTooLong, TurnLimit, InvalidLength, InvalidProtocol, NoMemory}
 use Rattle.modbus_server.specs.declared.error.Step.{Step}
@@ -79,29 +79,29 @@ module _ (F : Framing) {S X : Type 0} (A : Answering S) (stops : X → ℕ) (loo
     all_looked count e = subst (λ n. StaysUnset looks first n seen) (sym (e ∙ add-one (length g.made + length g.exchanges))) (last, g.looked, unset)
 
     module _ (result : Result Step ProcessError) (step : Stepped F A old new (moment now b l) (moment next c m) may_read result) where
-      all_passes : Passes (outside a k) (outside c m) (g.fed ++ step.fed) (g.made ++ shifted (length g.fed) step.made) (g.sent ++ step.sent)
+      all_passes : Passes (outside a k) (outside c m) (g.fed ++ step.fed) (g.made ++ cuts_from (length g.fed) step.made) (g.sent ++ step.sent)
       all_passes = passes_both (outside a k) (outside b l) (outside c m) g.fed step.fed g.made step.made g.sent step.sent g.passes step.passes
 
-      all_steps : StepsAs F A (past (g.fed ++ step.fed) (totals (g.made ++ shifted (length g.fed) step.made)) start (g.sent ++ step.sent) g.exchanges) new.held next new.waiting result
+      all_steps : StepsAs F A (past (g.fed ++ step.fed) (totals (g.made ++ cuts_from (length g.fed) step.made)) start (g.sent ++ step.sent) g.exchanges) new.held next new.waiting result
       all_steps = subst (λ t. StepsAs F A (past (g.fed ++ step.fed) t start (g.sent ++ step.sent) g.exchanges) new.held next new.waiting result) (sym (totals_both (length g.fed) g.made step.made))
           (step.stands (past g.fed (totals g.made) start g.sent g.exchanges) g.stands)
 
-      all_rooms : HaveRooms F.HasRoom (g.fed ++ step.fed) 0 (g.made ++ shifted (length g.fed) step.made)
-      all_rooms = rooms_then F.HasRoom (g.fed ++ step.fed) 0 (length g.fed) g.made (shifted (length g.fed) step.made) g.passes.rises
+      all_rooms : HaveRooms F.HasRoom (g.fed ++ step.fed) 0 (g.made ++ cuts_from (length g.fed) step.made)
+      all_rooms = rooms_then F.HasRoom (g.fed ++ step.fed) 0 (length g.fed) g.made (cuts_from (length g.fed) step.made) g.passes.rises
           (rooms_more F.HasRoom g.fed step.fed 0 (length g.fed) g.made g.passes.rises (omega arith) g.rooms)
           (step.rooms (past g.fed (totals g.made) start g.sent g.exchanges) g.stands)
 
-      all_made : length (g.made ++ shifted (length g.fed) step.made) ≡ length g.made + length step.made
+      all_made : length (g.made ++ cuts_from (length g.fed) step.made) ≡ length g.made + length step.made
       all_made = count_both (length g.fed) g.made step.made
 
     pub read_on : (left' : ℕ) → left ≡ left' + 1 → Stepped F A old new (moment now b l) (moment next c m) may_read (Ok MoreRead) → Going start next a c k m turns left' new first seen
     read_on left' e step = record {
       fed = g.fed ++ step.fed;
-      made = g.made ++ shifted (length g.fed) step.made;
+      made = g.made ++ cuts_from (length g.fed) step.made;
       sent = g.sent ++ step.sent;
       exchanges = g.exchanges;
       passes = all_passes (Ok MoreRead) step;
-      stands = subst (λ w. Stands F A (past (g.fed ++ step.fed) (totals (g.made ++ shifted (length g.fed) step.made)) start (g.sent ++ step.sent) g.exchanges) new.held next w) step.leaves.2 (all_steps (Ok MoreRead) step);
+      stands = subst (λ w. Stands F A (past (g.fed ++ step.fed) (totals (g.made ++ cuts_from (length g.fed) step.made)) start (g.sent ++ step.sent) g.exchanges) new.held next w) step.leaves.2 (all_steps (Ok MoreRead) step);
       rooms = all_rooms (Ok MoreRead) step;
       spends = omega (arith, all_made (Ok MoreRead) step, step.leaves.0, g.spends, e);
       waiting = step.leaves.2;
@@ -113,11 +113,11 @@ module _ (F : Framing) {S X : Type 0} (A : Answering S) (stops : X → ℕ) (loo
     pub answered_on : Stepped F A old new (moment now b l) (moment next c m) may_read (Ok Answered) → Going start next a c k m turns left new first seen
     answered_on step = let h = all_steps (Ok Answered) step in record {
       fed = g.fed ++ step.fed;
-      made = g.made ++ shifted (length g.fed) step.made;
+      made = g.made ++ cuts_from (length g.fed) step.made;
       sent = g.sent ++ step.sent;
       exchanges = g.exchanges ++ h.0 ∷ [];
       passes = all_passes (Ok Answered) step;
-      stands = subst (λ w. Stands F A (past (g.fed ++ step.fed) (totals (g.made ++ shifted (length g.fed) step.made)) start (g.sent ++ step.sent) (g.exchanges ++ h.0 ∷ [])) new.held next w) step.leaves.2 h.1;
+      stands = subst (λ w. Stands F A (past (g.fed ++ step.fed) (totals (g.made ++ cuts_from (length g.fed) step.made)) start (g.sent ++ step.sent) (g.exchanges ++ h.0 ∷ [])) new.held next w) step.leaves.2 h.1;
       rooms = all_rooms (Ok Answered) step;
       spends = omega (arith, all_made (Ok Answered) step, ap length step.leaves.0, g.spends);
       waiting = step.leaves.2;
@@ -129,11 +129,11 @@ module _ (F : Framing) {S X : Type 0} (A : Answering S) (stops : X → ℕ) (loo
     pub silent_on : Stepped F A old new (moment now b l) (moment next c m) may_read (Ok Silent) → Going start next a c k m turns left new first seen
     silent_on step = let h = all_steps (Ok Silent) step in record {
       fed = g.fed ++ step.fed;
-      made = g.made ++ shifted (length g.fed) step.made;
+      made = g.made ++ cuts_from (length g.fed) step.made;
       sent = g.sent ++ step.sent;
       exchanges = g.exchanges ++ h.0 ∷ [];
       passes = all_passes (Ok Silent) step;
-      stands = subst (λ w. Stands F A (past (g.fed ++ step.fed) (totals (g.made ++ shifted (length g.fed) step.made)) start (g.sent ++ step.sent) (g.exchanges ++ h.0 ∷ [])) new.held next w) step.leaves.2 h.1;
+      stands = subst (λ w. Stands F A (past (g.fed ++ step.fed) (totals (g.made ++ cuts_from (length g.fed) step.made)) start (g.sent ++ step.sent) (g.exchanges ++ h.0 ∷ [])) new.held next w) step.leaves.2 h.1;
       rooms = all_rooms (Ok Silent) step;
       spends = omega (arith, all_made (Ok Silent) step, ap length step.leaves.0, g.spends);
       waiting = step.leaves.2;
@@ -176,12 +176,12 @@ module _ (F : Framing) {S X : Type 0} (A : Answering S) (stops : X → ℕ) (loo
       ran_error error step = record {
         ran = record {
           fed = g.fed ++ step.fed;
-          made = g.made ++ shifted (length g.fed) step.made;
+          made = g.made ++ cuts_from (length g.fed) step.made;
           sent = g.sent ++ step.sent;
           passes = all_passes (Err error) step;
-          served = fails_end F A (past (g.fed ++ step.fed) (totals (g.made ++ shifted (length g.fed) step.made)) start (g.sent ++ step.sent) g.exchanges) next error (all_steps (Err error) step);
+          served = fails_end F A (past (g.fed ++ step.fed) (totals (g.made ++ cuts_from (length g.fed) step.made)) start (g.sent ++ step.sent) g.exchanges) next error (all_steps (Err error) step);
           rooms = all_rooms (Err error) step;
-          spends = spent error (length (g.made ++ shifted (length g.fed) step.made)) step.leaves.2 (omega (arith, all_made (Err error) step, ap length step.leaves.0, g.spends));
+          spends = spent error (length (g.made ++ cuts_from (length g.fed) step.made)) step.leaves.2 (omega (arith, all_made (Err error) step, ap length step.leaves.0, g.spends));
           ended = λ told. ended_as error c.left (step.ended (g.passes.source.told ∙ told));
           read_fault = λ e.
               let same : error ≡ ReadFault = cc in
@@ -201,7 +201,7 @@ module _ (F : Framing) {S X : Type 0} (A : Answering S) (stops : X → ℕ) (loo
       ran_hungry step = let h = all_steps (Ok Hungry) step in record {
         ran = record {
           fed = g.fed ++ step.fed;
-          made = g.made ++ shifted (length g.fed) step.made;
+          made = g.made ++ cuts_from (length g.fed) step.made;
           sent = g.sent ++ step.sent;
           passes = all_passes (Ok Hungry) step;
           served = (new.held, (used_up step.leaves.2 h.0 h.1).0);
@@ -219,11 +219,11 @@ module _ (F : Framing) {S X : Type 0} (A : Answering S) (stops : X → ℕ) (loo
       pub ran_ended : Stepped F A old new (moment now b l) (moment next c m) may_read (Ok Ended) → RanUntil F A (signalled stops looks) turns (watched start a k first) (watched next c m seen) (Ok Finished)
       ran_ended step =
           let h = all_steps (Ok Ended) step in
-          let used : (served : Served F A (g.fed ++ step.fed) (totals (g.made ++ shifted (length g.fed) step.made)) start next (g.sent ++ step.sent) (remaining [])) × (served.exchanges ≡ g.exchanges) =
-          subst (λ held. (served : Served F A (g.fed ++ step.fed) (totals (g.made ++ shifted (length g.fed) step.made)) start next (g.sent ++ step.sent) (remaining held)) × (served.exchanges ≡ g.exchanges)) h.2 (used_up step.leaves.2 h.0 h.1) in record {
+          let used : (served : Served F A (g.fed ++ step.fed) (totals (g.made ++ cuts_from (length g.fed) step.made)) start next (g.sent ++ step.sent) (remaining [])) × (served.exchanges ≡ g.exchanges) =
+          subst (λ held. (served : Served F A (g.fed ++ step.fed) (totals (g.made ++ cuts_from (length g.fed) step.made)) start next (g.sent ++ step.sent) (remaining held)) × (served.exchanges ≡ g.exchanges)) h.2 (used_up step.leaves.2 h.0 h.1) in record {
             ran = record {
               fed = g.fed ++ step.fed;
-              made = g.made ++ shifted (length g.fed) step.made;
+              made = g.made ++ cuts_from (length g.fed) step.made;
               sent = g.sent ++ step.sent;
               passes = all_passes (Ok Ended) step;
               served = used.0;

@@ -1,8 +1,8 @@
 -- One step is what the connection takes, and what is moved between it and the outside.
 use Rattle.std.proofs.Common.{◌≡◌, ◌≢◌, ◌⊎◌, ℕ, ◌<◌, List, [], ◌∷◌, ◌++◌, length, refl, sym, ap, ◌∙◌, subst, Ok, Err, Result, Bool, true, false, append-nil, length-append, inl, inr}
 use Rattle.std.proofs.lemmas.List.{take_at}
-use Rattle.modbus_link.specs.Outside.{outside, Input, Output, Rose, shifted, RisesTo}
-use Rattle.modbus_link.specs.Passing.{Passes, Sends, rises_none, rises_one, passes_out, passes_in, passes_none}
+use Rattle.modbus_link.specs.Outside.{outside, Input, Output, Rose, cuts_from, RisesTo}
+use Rattle.modbus_link.specs.Passes.{Passes, Sends, rises_none, rises_one, passes_out, passes_in, passes_none}
 use Rattle.modbus_link.specs.Reads.{HaveRooms, totals}
 use Rattle.modbus_server.specs.declared.error.ProcessError.{ProcessError}
 use Rattle.modbus_server.specs.declared.error.ProcessError.TheVariants.{ReadFault, WriteFault, TooManyRetries, BytesRemaining, InvalidRequest, ResponseTooLong, TurnLimit, InvalidLength, InvalidProtocol, NoMemory}
@@ -19,7 +19,7 @@ use Rattle.modbus_server.specs.Exchanges.{Exchange}
 use Rattle.modbus_server.specs.Served.{Past, past, with_exchange, Stands, AreAllAnswered, ServedAfter, remaining, broken, NextTakesMemory, WantingAfter, EndsAs}
 use Rattle.modbus_server.specs.State.{State}
 use Rattle.modbus_server.specs.Next.{TakesAs, Took, told_next, IsToldWell}
-use Rattle.modbus_server.specs.Transfer.{Writes, Reads, EndsInput}
+use Rattle.modbus_server.specs.Transfer.{WritesOnce, ReadsOnce, EndsInput}
 use Rattle.modbus_server.specs.Step.{FailsAs, StepsAs, ReadsLast, EndsIfMay, LeavesAs, Stepped}
 use Rattle.modbus_server.proofs.Standing.{sent_on, fed_on, halted_after, wanting_after}
 use Rattle.modbus_server.specs.Moment.{moment}
@@ -168,13 +168,13 @@ module _ (F : Framing) {S : Type 0} (A : Answering S) where
 
     -- where nothing was fed
     unfed : (P : List ℕ → List ℕ → List ℕ → Type 0) (bytes cuts written fed : List ℕ) (made : List (ℕ × ℕ)) → fed ≡ [] → made ≡ [] → P bytes cuts written
-        → P (bytes ++ fed) (cuts ++ totals (shifted (length bytes) made)) (written ++ [])
+        → P (bytes ++ fed) (cuts ++ totals (cuts_from (length bytes) made)) (written ++ [])
     unfed P bytes cuts written fed made e f p =
-        along P (bytes ++ fed) bytes (cuts ++ totals (shifted (length bytes) made)) cuts (written ++ []) written
-        (ap (λ x. bytes ++ x) e ∙ append-nil bytes) (ap (λ (m : List (ℕ × ℕ)). cuts ++ totals (shifted (length bytes) m)) f ∙ append-nil cuts) (append-nil written) p
+        along P (bytes ++ fed) bytes (cuts ++ totals (cuts_from (length bytes) made)) cuts (written ++ []) written
+        (ap (λ x. bytes ++ x) e ∙ append-nil bytes) (ap (λ (m : List (ℕ × ℕ)). cuts ++ totals (cuts_from (length bytes) m)) f ∙ append-nil cuts) (append-nil written) p
 
-    no_rooms : (bytes fed : List ℕ) (made : List (ℕ × ℕ)) → made ≡ [] → HaveRooms F.HasRoom (bytes ++ fed) (length bytes) (shifted (length bytes) made)
-    no_rooms bytes fed made e = subst (λ m. HaveRooms F.HasRoom (bytes ++ fed) (length bytes) (shifted (length bytes) m)) (sym e) tt
+    no_rooms : (bytes fed : List ℕ) (made : List (ℕ × ℕ)) → made ≡ [] → HaveRooms F.HasRoom (bytes ++ fed) (length bytes) (cuts_from (length bytes) made)
+    no_rooms bytes fed made e = subst (λ m. HaveRooms F.HasRoom (bytes ++ fed) (length bytes) (cuts_from (length bytes) m)) (sym e) tt
 
     module _ {E : Type 0} (told : E → ProcessError) (mid : State) (b : Input) (m : Output) where
       -- the reply is written
@@ -209,7 +209,7 @@ module _ (F : Framing) {S : Type 0} (A : Answering S) where
           write_fault = cause;
         }
 
-        pub stepped_sent : (result : Result Step ProcessError) → Writes mid new result → (result ≡ Err WriteFault → Rose k.faults m.faults) → Stepped F A old new (moment before a k) (moment after b m) may_read result
+        pub stepped_sent : (result : Result Step ProcessError) → WritesOnce mid new result → (result ≡ Err WriteFault → Rose k.faults m.faults) → Stepped F A old new (moment before a k) (moment after b m) may_read result
         unfolding wrote_reply
         stepped_sent (Ok Answered) writes cause =
             writes_as (Ok Answered)
@@ -245,11 +245,11 @@ module _ (F : Framing) {S : Type 0} (A : Answering S) where
             let h = took.stands behind s in
             wanting_after F A behind mid.held after h.0 after (inr (inl (takes, h.1, refl)))
 
-        passes_read : (result : Result Step ProcessError) (reads : Reads F a b mid new result) → RisesTo 0 reads.made (length reads.fed) → Passes (outside a k) (outside b m) reads.fed reads.made []
+        passes_read : (result : Result Step ProcessError) (reads : ReadsOnce F a b mid new result) → RisesTo 0 reads.made (length reads.fed) → Passes (outside a k) (outside b m) reads.fed reads.made []
         passes_read result reads rises = passes_in (outside a k) (outside b m) reads.fed reads.made unsent reads.source reads.read reads.cuts rises
 
         -- it gave nothing
-        reads_none : (result : Result Step ProcessError) (reads : Reads F a b mid new result) → reads.fed ≡ [] → reads.made ≡ []
+        reads_none : (result : Result Step ProcessError) (reads : ReadsOnce F a b mid new result) → reads.fed ≡ [] → reads.made ≡ []
             → ForAll old.held before (λ behind. StepsAs F A behind new.held after new.waiting result)
             → ForAll old.held before (λ behind. ReadsLast F behind.bytes behind.cuts behind.exchanges result)
             → LeavesAs F reads.made may_read old new before after result → Memory old.held before after result → (result ≡ Err WriteFault → ⊥)
@@ -272,7 +272,7 @@ module _ (F : Framing) {S : Type 0} (A : Answering S) where
           write_fault = λ e. absurd (no_write_fault e);
         }
 
-        pub stepped_read : (result : Result Step ProcessError) → Reads F a b mid new result → Stepped F A old new (moment before a k) (moment after b m) may_read result
+        pub stepped_read : (result : Result Step ProcessError) → ReadsOnce F a b mid new result → Stepped F A old new (moment before a k) (moment after b m) may_read result
         stepped_read (Ok MoreRead) reads =
             let gives = reads.gives in
             let fed = reads.fed in
@@ -286,15 +286,15 @@ module _ (F : Framing) {S : Type 0} (A : Answering S) where
                   let h = took.stands behind s in
                   let g = gives.6 behind.bytes behind.cuts h.0.taken h.0.stands in
                   along (λ x y z. StepsAs F A (past x y behind.opening z behind.exchanges) new.held after new.waiting (Ok MoreRead)) (behind.bytes ++ fed) (behind.bytes ++ fed)
-                  (behind.cuts ++ totals (shifted (length behind.bytes) reads.made)) (behind.cuts ++ length (behind.bytes ++ fed) ∷ []) (behind.written ++ []) behind.written refl
-                  (ap (λ (m : List (ℕ × ℕ)). behind.cuts ++ totals (shifted (length behind.bytes) m)) gives.1 ∙ ap (λ n. behind.cuts ++ n ∷ []) (sym (length-append behind.bytes fed))) (append-nil behind.written)
+                  (behind.cuts ++ totals (cuts_from (length behind.bytes) reads.made)) (behind.cuts ++ length (behind.bytes ++ fed) ∷ []) (behind.written ++ []) behind.written refl
+                  (ap (λ (m : List (ℕ × ℕ)). behind.cuts ++ totals (cuts_from (length behind.bytes) m)) gives.1 ∙ ap (λ n. behind.cuts ++ n ∷ []) (sym (length-append behind.bytes fed))) (append-nil behind.written)
                   (subst (λ w. Stands F A (past (behind.bytes ++ fed) (behind.cuts ++ length (behind.bytes ++ fed) ∷ []) behind.opening behind.written behind.exchanges) new.held after w) (sym none)
                   (fed_on F A behind mid.held new.held fed after [] h.0 g.1));
               last = all_answered;
               rooms = λ behind s.
                   let h = took.stands behind s in
                   let g = gives.6 behind.bytes behind.cuts h.0.taken h.0.stands in
-                  subst (λ (m : List (ℕ × ℕ)). HaveRooms F.HasRoom (behind.bytes ++ fed) (length behind.bytes) (shifted (length behind.bytes) m)) (sym gives.1)
+                  subst (λ (m : List (ℕ × ℕ)). HaveRooms F.HasRoom (behind.bytes ++ fed) (length behind.bytes) (cuts_from (length behind.bytes) m)) (sym gives.1)
                   (subst (λ x. F.HasRoom x gives.0) (sym (take_at behind.bytes fed (length behind.bytes) refl)) g.0, tt);
               leaves = (ap length gives.1, gives.5, none, gives.4 ∙ took.goes_on, may, took.keeps.2);
               memory = λ e. absurd cc;

@@ -4,7 +4,7 @@ use Rattle.modbus_frame.specs.declared.server.Terminated.{Terminated}
 use Rattle.modbus_frame.specs.declared.server.Terminated.TheVariants.{Finished, Aborted}
 use Rattle.modbus_server.specs.declared.error.ServeError.{ServeError}
 use Rattle.modbus_server.specs.declared.error.ServeError.TheVariants.{AcceptFault, Connect, SpawnFault, NoMemory}
-use Rattle.modbus_server.specs.Listener.{Parts, Listener, Connected, StartedFor, AcceptsOne, AcceptsMany, AcceptsLast, Accepts, unspawned, without_spawner}
+use Rattle.modbus_server.specs.Listener.{Parts, Listener, ConnectsByHook, StartedFor, AcceptsOne, AcceptsMany, AcceptsLast, Accepts, unspawned, without_spawner}
 
 module _ {A C P X K L V E H : Type 0} (parts : Parts A C P K L V E H) (looks : X → Bool → X → Type 0) (on_error : H) where
   abbrev told : Parts A C (Unit {0}) K L V E H
@@ -13,7 +13,7 @@ module _ {A C P X K L V E H : Type 0} (parts : Parts A C P K L V E H) (looks : X
   abbrev front : Listener A C P → Listener A C (Unit {0})
   front it = without_spawner it.acceptor it.hook
 
-  connected : (old new : Listener A C P) (answer : Result (Option (V × L)) E) → Connected parts old new answer → Connected told (front old) (front new) answer
+  connected : (old new : Listener A C P) (answer : Result (Option (V × L)) E) → ConnectsByHook parts old new answer → ConnectsByHook told (front old) (front new) answer
   connected old new answer c = record { link = c.link; address = c.address; accepted = c.accepted; answered = c.answered }
 
   started : (answer : Option (V × L)) (old new : P) → StartedFor parts on_error answer old new → StartedFor told on_error answer tt tt

@@ -4,7 +4,7 @@ use Rattle.modbus_frame.specs.Meaning.{Asked}
 use Rattle.modbus_frame.specs.declared.response.Response.{Response}
 use Rattle.modbus_frame.specs.declared.response.ExceptionResponse.{ExceptionResponse}
 use Rattle.modbus_pdu.specs.Limits.{max_pdu}
-use Rattle.modbus_pdu.specs.Coding.{Fits, told_size}
+use Rattle.modbus_pdu.specs.Encodes.{Fits, told_size}
 use Rattle.modbus_pdu.specs.RequestOf.{CarriesList}
 use Rattle.modbus_pdu.specs.ResponsePdu.{response_result_pdu}
 use Rattle.modbus_server.specs.declared.error.Next.{Next}

@@ -22,13 +22,13 @@ abbrev pub Run : (F : Framing) → {S : Type 0} → Answering S → S → List (
 Run F A start xs end = service.Run F.slave A start xs end
 
 -- the reply to an exchange, framed under the header of its request; silence writes nothing
-abbrev pub framed : (F : Framing) → F.Header → ℕ → Outcome → List ℕ
-framed F header code silence = []
-framed F header code (reply response) = F.adu header (reply_pdu code (reply response))
-framed F header code (exception e) = F.adu header (reply_pdu code (exception e))
+abbrev pub framed_outcome : (F : Framing) → F.Header → ℕ → Outcome → List ℕ
+framed_outcome F header code silence = []
+framed_outcome F header code (reply response) = F.adu header (reply_pdu code (reply response))
+framed_outcome F header code (exception e) = F.adu header (reply_pdu code (exception e))
 
 abbrev pub reply_of : (F : Framing) → Exchange F → List ℕ
-reply_of F x = framed F x.header (code_of x.request) x.outcome
+reply_of F x = framed_outcome F x.header (code_of x.request) x.outcome
 
 -- the replies to exchanges, in order
 abbrev pub output : (F : Framing) → List (Exchange F) → List ℕ

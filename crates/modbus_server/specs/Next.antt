@@ -2,8 +2,8 @@
 use Rattle.std.specs.Prelude.{◌≡◌, ◌≢◌, ℕ, ◌<◌, ◌≤◌, List, [], ◌∷◌, ◌++◌, length, drop, Result, Ok, Err, is_ok}
 use Rattle.modbus_server.specs.declared.error.ProcessError.{ProcessError}
 use Rattle.modbus_server.specs.declared.error.ProcessError.TheVariants as process
-use Rattle.modbus_server.specs.declared.framing.Front.{Front}
-use Rattle.modbus_server.specs.declared.framing.Front.TheVariants as front
+use Rattle.modbus_frame.specs.declared.front.Front.{Front}
+use Rattle.modbus_frame.specs.declared.front.Front.TheVariants as front
 use Rattle.modbus_server.specs.declared.error.NextError.{NextError}
 use Rattle.modbus_server.specs.declared.error.NextError.TheVariants.{Broken, Refused, TooLong, NoMemory}
 use Rattle.modbus_server.specs.declared.error.Next.{Next}

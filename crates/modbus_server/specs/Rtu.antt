@@ -1,5 +1,6 @@
 -- The frames of a serial line (MODBUS over Serial Line V1.02, section 2.5.1).
 use Rattle.std.specs.Prelude.{◌≡◌, ℕ, ◌+◌, ◌-◌, ◌<◌, List, length}
+use Rattle.modbus_pdu.specs.SlavePdu.{SlavePdu}
 use Rattle.modbus_rtu.specs.declared.verdict.Verdict.TheVariants.{Open}
 use Rattle.modbus_rtu.specs.Frame.{frame, verdict}
 use Rattle.modbus_rtu.specs.Leftmost.{IsLeftmost}
@@ -12,7 +13,7 @@ use Rattle.modbus_server.specs.declared.error.ProcessError.TheVariants.{TooManyR
 use Rattle.modbus_server.specs.Framing.{Framing}
 
 -- the first crowd comes after these frames, and there is no other fault on a line
-abbrev pub IsCrowdedAfter : List ℕ → List ℕ → List (ℕ × List ℕ) → ProcessError → Type 0
+abbrev pub IsCrowdedAfter : List ℕ → List ℕ → List SlavePdu → ProcessError → Type 0
 IsCrowdedAfter bytes cuts taken TooManyRetries = (k : ℕ) × IsFirstCrowd bytes cuts taken k
 IsCrowdedAfter bytes cuts taken _ = ⊥
 

@@ -1,6 +1,6 @@
 -- What a connection stands for over everything that it was fed, and how a run of it ends.
 use Rattle.std.specs.Prelude.{◌≡◌, ◌≢◌, ◌⊎◌, ℕ, ◌<◌, List, [], ◌∷◌, ◌++◌, map, length, All, Result, Ok, Err}
-use Rattle.modbus_link.specs.Outside.{shifted}
+use Rattle.modbus_link.specs.Outside.{Cut, cuts_from}
 use Rattle.modbus_link.specs.Reads.{totals}
 use Rattle.modbus_frame.specs.Meaning.{Asked}
 use Rattle.modbus_frame.specs.declared.fault.Reason.{Reason}
@@ -29,9 +29,9 @@ abbrev pub past : {F : Framing} {S : Type 0} → List ℕ → List ℕ → S →
 past bytes cuts opening written exchanges = record { bytes = bytes; cuts = cuts; opening = opening; written = written; exchanges = exchanges }
 
 -- it was fed more in these reads, and more was written
-abbrev pub gone_on : {F : Framing} {S : Type 0} → Past F S → List ℕ → List (ℕ × ℕ) → List ℕ → Past F S
-gone_on behind fed made sent =
-    past (behind.bytes ++ fed) (behind.cuts ++ totals (shifted (length behind.bytes) made)) behind.opening (behind.written ++ sent) behind.exchanges
+abbrev pub with_reads : {F : Framing} {S : Type 0} → Past F S → List ℕ → List Cut → List ℕ → Past F S
+with_reads behind fed made sent =
+    past (behind.bytes ++ fed) (behind.cuts ++ totals (cuts_from (length behind.bytes) made)) behind.opening (behind.written ++ sent) behind.exchanges
 
 -- one more message was answered
 abbrev pub with_exchange : {F : Framing} {S : Type 0} → Past F S → Exchange F → Past F S

@@ -2,8 +2,8 @@
 use Rattle.std.specs.Prelude.{◌≡◌, ℕ, zero, suc, ◌+◌, ◌<◌, ◌≤◌, List, [], length, Bool, true, false, Result, Ok, Err}
 use Rattle.modbus_frame.specs.declared.server.Terminated.{Terminated}
 use Rattle.modbus_frame.specs.declared.server.Terminated.TheVariants.{Finished, Aborted}
-use Rattle.modbus_link.specs.Outside.{Rose}
-use Rattle.modbus_link.specs.Passing.{Passes}
+use Rattle.modbus_link.specs.Outside.{Cut, Rose}
+use Rattle.modbus_link.specs.Passes.{Passes}
 use Rattle.modbus_link.specs.Reads.{totals, HaveRooms, some_turns, Spends}
 use Rattle.modbus_service.specs.Answering.{Answering}
 use Rattle.modbus_server.specs.declared.error.ProcessError.{ProcessError}
@@ -28,7 +28,7 @@ IsSetAfter {X} looks old count new = (now : X) × StaysUnset looks old count now
 -- each and one more, the first that said that the signal is set.
 pub record Stopped (F : Framing) {S X : Type 0} (A : Answering S) (signal : SignalMeaning X) (turns : ℕ) (before after : Watched S X) : Type 0 where
   pub fed : List ℕ
-  pub made : List (ℕ × ℕ)
+  pub made : List Cut
   pub sent : List ℕ
   pub passes : Passes before.moment.outside after.moment.outside fed made sent
   pub held : List ℕ

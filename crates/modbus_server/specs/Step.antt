@@ -1,7 +1,7 @@
 -- What the drivers of a connection promise.
 use Rattle.std.specs.Prelude.{◌≡◌, ◌≢◌, ◌⊎◌, ℕ, ◌<◌, ◌≤◌, List, [], ◌∷◌, ◌++◌, length, IsTrue, Bool, true, false, Result, Ok, Err}
-use Rattle.modbus_link.specs.Outside.{Rose, shifted}
-use Rattle.modbus_link.specs.Passing.{Passes}
+use Rattle.modbus_link.specs.Outside.{Cut, Rose, cuts_from}
+use Rattle.modbus_link.specs.Passes.{Passes}
 use Rattle.modbus_link.specs.Reads.{totals, HaveRooms, Spending, all_turns, fewer_turns, some_turns, Spends}
 use Rattle.modbus_server.specs.declared.error.ProcessError.{ProcessError}
 use Rattle.modbus_server.specs.declared.error.ProcessError.TheVariants.{ReadFault, WriteFault, BytesRemaining, InvalidRequest, ResponseTooLong, TurnLimit, NoMemory}
@@ -11,7 +11,7 @@ use Rattle.modbus_service.specs.Outcome.{silence}
 use Rattle.modbus_server.specs.Framing.{Framing, Message}
 use Rattle.modbus_service.specs.Answering.{Answering}
 use Rattle.modbus_server.specs.Exchanges.{Exchange}
-use Rattle.modbus_server.specs.Served.{Past, gone_on, with_exchange, Stands, ServedAfter, remaining, broken, refused, too_long, Unwritten, WantingAfter, AreAllAnswered, NothingFails, NextTakesMemory, EndsAs}
+use Rattle.modbus_server.specs.Served.{Past, with_reads, with_exchange, Stands, ServedAfter, remaining, broken, refused, too_long, Unwritten, WantingAfter, AreAllAnswered, NothingFails, NextTakesMemory, EndsAs}
 use Rattle.modbus_server.specs.State.{State}
 use Rattle.modbus_server.specs.Moment.{Moment}
 use Rattle.modbus_server.specs.Transfer.{EndsInput}
@@ -56,7 +56,7 @@ EndsIfMay may_read TurnLimit = ⊥
 EndsIfMay may_read _ = Unit {0}
 
 -- the reads that gave bytes, and what is held and waits after a step that may read or not
-abbrev pub LeavesAs : (F : Framing) → {S : Type 0} → List (ℕ × ℕ) → Bool → State → State → S → S → Result Step ProcessError → Type 0
+abbrev pub LeavesAs : (F : Framing) → {S : Type 0} → List Cut → Bool → State → State → S → S → Result Step ProcessError → Type 0
 LeavesAs F made may_read old new before after (Ok Answered) =
     (made ≡ []) × (length new.held < length old.held) × (new.waiting ≡ []) × (new.is_open ≡ true)
 LeavesAs F made may_read old new before after (Ok Silent) =
@@ -74,15 +74,15 @@ LeavesAs F made may_read old new before after (Err error) = (made ≡ []) × (ne
 pub record Stepped (F : Framing) {S : Type 0} (A : Answering S) (old new : State) (before after : Moment S) (may_read : Bool)
     (result : Result Step ProcessError) : Type 0 where
   pub fed : List ℕ
-  pub made : List (ℕ × ℕ)
+  pub made : List Cut
   pub sent : List ℕ
   pub passes : Passes before.outside after.outside fed made sent
   -- for all that the connection may have behind it
   pub stands : (behind : Past F S) → Stands F A behind old.held before.service []
-      → StepsAs F A (gone_on behind fed made sent) new.held after.service new.waiting result
+      → StepsAs F A (with_reads behind fed made sent) new.held after.service new.waiting result
   pub last : (behind : Past F S) → Stands F A behind old.held before.service [] → ReadsLast F behind.bytes behind.cuts behind.exchanges result
   pub rooms : (behind : Past F S) → Stands F A behind old.held before.service []
-      → HaveRooms F.HasRoom (behind.bytes ++ fed) (length behind.bytes) (shifted (length behind.bytes) made)
+      → HaveRooms F.HasRoom (behind.bytes ++ fed) (length behind.bytes) (cuts_from (length behind.bytes) made)
   pub leaves : LeavesAs F made may_read old new before.service after.service result
   -- memory is wanting only for the next message, or for the room of a read
   pub memory : result ≡ Err NoMemory → (bytes cuts : List ℕ) (taken : List (Message F)) → F.StandsFor bytes cuts old.held taken
@@ -109,7 +109,7 @@ spending_of (Err _) = some_turns
 -- What a call to the end promises, of one run, for every source and sink.
 pub record Ran (F : Framing) {S : Type 0} (A : Answering S) (turns : ℕ) (before after : Moment S) (result : Result (Unit {0}) ProcessError) : Type 0 where
   pub fed : List ℕ
-  pub made : List (ℕ × ℕ)
+  pub made : List Cut
   pub sent : List ℕ
   pub passes : Passes before.outside after.outside fed made sent
   pub served : EndsAs F A fed (totals made) before.service after.service sent result

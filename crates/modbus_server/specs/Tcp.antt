@@ -2,22 +2,14 @@
 use Rattle.std.specs.Prelude.{◌≡◌, ◌⊎◌, ℕ, ◌+◌, ◌-◌, List, [], ◌∷◌, ◌++◌, ◌<◌, length, All}
 use Rattle.modbus_frame.specs.declared.tcp.Header.{Header}
 use Rattle.modbus_tcp.specs.Adu.{adu_of, IsAdu, stream_of}
+use Rattle.modbus_tcp.specs.Limits.{longest_adu, longest_response}
 use Rattle.modbus_tcp.specs.Stream.{empty, unfinished, no_length, foreign, IsSplit}
 use Rattle.modbus_tcp.specs.declared.stream.HeaderFault.{HeaderFault}
 use Rattle.modbus_tcp.specs.declared.stream.HeaderFault.TheVariants as fault
-use Rattle.modbus_pdu.specs.Limits.{max_pdu}
 use Rattle.modbus_pdu.specs.RequestOf.{request_of}
 use Rattle.modbus_server.specs.declared.error.ProcessError.{ProcessError}
 use Rattle.modbus_server.specs.declared.error.ProcessError.TheVariants.{InvalidLength, InvalidProtocol}
 use Rattle.modbus_server.specs.Framing.{Framing}
-
--- the bytes of an MBAP header
-abbrev pub header_size : ℕ
-header_size = 7
-
--- the bytes of the longest ADU: its length, of two bytes, counts all but the first 6
-abbrev pub longest_adu : ℕ
-longest_adu = 6 + 65535
 
 -- the room of a read in bytes, which the standard doesn't tell: more than the longest ADU of a request that is answered
 abbrev pub read_room : ℕ
@@ -80,5 +72,5 @@ tcp = record {
   most = longest_adu - 1 + read_room;
   HasRoom = HasWholeRoom;
   ReadsTakeMemory = Unit {0};
-  reply_room = max_pdu + header_size;
+  reply_room = longest_response;
 }

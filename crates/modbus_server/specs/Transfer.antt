@@ -1,6 +1,6 @@
 -- What a driver moves between a connection and the outside.
 use Rattle.std.specs.Prelude.{◌≡◌, ◌≢◌, ℕ, ◌<◌, ◌≤◌, List, [], ◌∷◌, ◌++◌, length, IsTrue, false, Result, Ok, Err}
-use Rattle.modbus_link.specs.Outside.{Input, Rose, Advances, bytes_read, cuts_made}
+use Rattle.modbus_link.specs.Outside.{Cut, Input, Rose, Advances, bytes_read, cuts_made}
 use Rattle.modbus_link.specs.Reads.{ReadsPiece}
 use Rattle.modbus_server.specs.declared.error.ProcessError.{ProcessError}
 use Rattle.modbus_server.specs.declared.error.ProcessError.TheVariants.{ReadFault, WriteFault, BytesRemaining, NoMemory}
@@ -10,14 +10,14 @@ use Rattle.modbus_server.specs.Framing.{Framing, Message}
 use Rattle.modbus_server.specs.State.{State}
 
 -- all that waited was written, or the sink failed
-abbrev pub Writes : State → State → Result Step ProcessError → Type 0
-Writes old new (Ok Answered) = (new.held ≡ old.held) × (new.waiting ≡ []) × (new.is_open ≡ old.is_open)
-Writes old new (Ok _) = ⊥
-Writes old new (Err WriteFault) = (new.held ≡ old.held) × (new.is_open ≡ false)
-Writes old new (Err _) = ⊥
+abbrev pub WritesOnce : State → State → Result Step ProcessError → Type 0
+WritesOnce old new (Ok Answered) = (new.held ≡ old.held) × (new.waiting ≡ []) × (new.is_open ≡ old.is_open)
+WritesOnce old new (Ok _) = ⊥
+WritesOnce old new (Err WriteFault) = (new.held ≡ old.held) × (new.is_open ≡ false)
+WritesOnce old new (Err _) = ⊥
 
 -- of the bytes that were fed, the reads that gave bytes, and the answer
-abbrev pub GivesAs : Framing → State → State → List ℕ → List (ℕ × ℕ) → Result Step ProcessError → Type 0
+abbrev pub GivesAs : Framing → State → State → List ℕ → List Cut → Result Step ProcessError → Type 0
 GivesAs F old new fed made (Ok MoreRead) =
     (room : ℕ) × (made ≡ (length fed, room) ∷ []) × (0 < length fed) × (new.waiting ≡ old.waiting) × (new.is_open ≡ old.is_open) × (length new.held ≤ F.most)
     × ((bytes cuts : List ℕ) (taken : List (Message F)) → F.StandsFor bytes cuts old.held taken → F.HasRoom bytes room × F.StandsFor (bytes ++ fed) (cuts ++ length (bytes ++ fed) ∷ []) new.held taken)
@@ -45,9 +45,9 @@ EndsInput (Err BytesRemaining) left = left ≡ []
 EndsInput _ left = Unit {0}
 
 -- one read was made, or none where memory was refused
-pub record Reads (F : Framing) (from to : Input) (old new : State) (result : Result Step ProcessError) : Type 0 where
+pub record ReadsOnce (F : Framing) (from to : Input) (old new : State) (result : Result Step ProcessError) : Type 0 where
   pub fed : List ℕ
-  pub made : List (ℕ × ℕ)
+  pub made : List Cut
   pub source : Advances from to
   pub read : IsTrue from.told → bytes_read from to ≡ fed
   pub cuts : IsTrue from.told → cuts_made from to ≡ made

@@ -11,8 +11,9 @@ ghost use Rattle.modbus_server.specs.Next.{TakesAs, KeepsAs, Took, Fed};
 
 use crate::answer::answer;
 use crate::error::{Next, NextError};
-use crate::framing::{Framing, Front};
+use crate::framing::Framing;
 use bytes::BytesMut;
+use modbus_frame::Front;
 use modbus_link::{Failed, Polled, PolledLink};
 use modbus_service::Answerer;
 use std::alloc::{AllocError, Global};

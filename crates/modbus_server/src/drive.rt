@@ -1,7 +1,7 @@
 //! The driver of a connection over a link that may not be ready. A link that blocks is always ready, so the blocking step stands on it.
 ghost use Rattle.std.specs.Prelude.{◌≡◌, ◌≤◌, [], IsTrue, OnErr, Err};
 ghost use Rattle.modbus_link.specs.Outside.{Rose};
-ghost use Rattle.modbus_link.specs.Passing.{Sends};
+ghost use Rattle.modbus_link.specs.Passes.{Sends};
 ghost use Rattle.modbus_link.specs.Polled.{Waited};
 ghost use Rattle.modbus_server.specs.Next.{told_next, IsToldWell};
 ghost use Rattle.modbus_server.specs.Step.{Stepped};

@@ -6,8 +6,8 @@ ghost use Rattle.std.specs.Result.{ForErr};
 ghost use Rattle.modbus_frame.specs.Codes.{function_number};
 ghost use Rattle.modbus_frame.specs.FunctionCodes.{exception_bit};
 ghost use Rattle.modbus_frame.specs.Meaning.{meaning, function_asked};
-ghost use Rattle.modbus_pdu.specs.Coding.{Encodes};
-ghost use Rattle.modbus_pdu.specs.Decoding.{Decodes};
+ghost use Rattle.modbus_pdu.specs.Encodes.{Encodes};
+ghost use Rattle.modbus_pdu.specs.Decodes.{Decodes};
 ghost use Rattle.modbus_pdu.specs.RequestOf.{CarriesList};
 ghost use Rattle.modbus_pdu.specs.ResponsePdu.{response_result_pdu};
 ghost use Rattle.modbus_server.specs.declared.error.ProcessError.{ProcessError};
@@ -16,23 +16,8 @@ ghost use Rattle.modbus_server.specs.Next.{FindsNext, IsFrontWithin};
 
 use crate::error::ProcessError;
 use bytes::BytesMut;
-use modbus_frame::{EncodeError, ExceptionResponse, PduError, Request, Response, SlaveId};
+use modbus_frame::{EncodeError, ExceptionResponse, Front, PduError, Request, Response, SlaveId};
 use std::alloc::{AllocError, Global};
-
-/// What stands at the front of the bytes that are held.
-#[derive(Debug, PartialEq, Eq)]
-pub enum Front<'a, H> {
-    /// A message: what stands beside its PDU, the PDU where it lies, and how many bytes are taken off with it.
-    Message {
-        header: H,
-        pdu: &'a [u8],
-        end: usize,
-    },
-    /// No whole message. So many bytes are of no use, and those behind them wait for more.
-    Waiting {
-        dropped: usize,
-    },
-}
 
 /// The fault of a framing that has none, which is never told.
 #[derive(Clone, Copy, Debug, PartialEq, Eq)]

@@ -1,7 +1,7 @@
 //! The accept loop of a listener, whatever frames the messages of its connections.
 ghost use Rattle.std.specs.Prelude.{◌≡◌, ◌≢◌, Err, Option, Result};
 ghost use Rattle.modbus_link.specs.Outside.{Rose};
-ghost use Rattle.modbus_server.specs.Listener.{AcceptsOne, Accepts, Counted, Serves, unsignalled, unspawned, without_spawner, as_stopped, made_for};
+ghost use Rattle.modbus_server.specs.Listener.{AcceptsOne, Accepts, CountsPeers, Serves, unsignalled, unspawned, without_spawner, as_stopped, connection_for};
 ghost use Rattle.modbus_server.specs.Signal.{never_set};
 
 use crate::error::{ProcessError, ServeError};
@@ -39,7 +39,7 @@ where
     requires can { P.can_start spawner.old }
     ensures hook { C.IsAlwaysCallable on_connected.new }
     ensures can { P.can_start spawner.new }
-    ensures counted { Counted (record { accepts = A.accepts; connects = C.step; starts = P.starts })
+    ensures counted { CountsPeers (record { accepts = A.accepts; connects = C.step; starts = P.starts })
         (record {
           given = A.given;
           accept_faults = A.faults;
@@ -469,7 +469,7 @@ where
     requires { N.IsAlwaysCallable new_service.old }
     ensures again { N.IsAlwaysCallable new_service.new }
     ensures made { (made : Result (Option V) E)
-        × N.step new_service.old socket_addr made new_service.new × (result ≡ made_for link made) }
+        × N.step new_service.old socket_addr made new_service.new × (result ≡ connection_for link made) }
 {
     match new_service(socket_addr) {
         Err(error) => Err(error),

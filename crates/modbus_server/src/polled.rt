@@ -58,9 +58,9 @@ pub struct PolledProcess<I: Framing> {
 }
 
 impl<I: Framing> Model for PolledProcess<I> {
-    ghost use Rattle.modbus_server.specs.Polled.{PolledState};
+    ghost use Rattle.modbus_server.specs.Polled.{PolledProcessState};
 
-    ghost Value = { PolledState };
+    ghost Value = { PolledProcessState };
 
     ghost view = { λ polled. record { connection = polled.connection; left = polled.left } };
 }

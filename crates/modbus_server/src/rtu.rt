@@ -10,12 +10,12 @@ ghost use Rattle.modbus_server.specs.Rtu.{rtu};
 ghost use Rattle.modbus_server.specs.Moment.{moment, watched, signalled};
 
 use crate::error::ProcessError;
-use crate::framing::{Framing, Front};
+use crate::framing::Framing;
 use crate::rtu_over_tcp::process_link;
 use crate::serving::serve_until;
 use bytes::BytesMut;
 use modbus_frame::{
-    EncodeError, ExceptionResponse, PduError, Request, Response, SlaveId, Terminated,
+    EncodeError, ExceptionResponse, Front, PduError, Request, Response, SlaveId, Terminated,
 };
 use modbus_link::{Link, Stop};
 use modbus_pdu::decode_request;
@@ -91,15 +91,7 @@ impl Framing for Inbox {
 
     #[inline(always)]
     fn front<'a>(&'a self, seam: &'a mut [u8]) -> Result<Front<'a, SlaveId>, Crowd> {
-        match self.front(seam) {
-            Ok(modbus_rtu::Front::Frame { slave, pdu, end }) => Ok(Front::Message {
-                header: slave,
-                pdu,
-                end,
-            }),
-            Ok(modbus_rtu::Front::Waiting { dropped }) => Ok(Front::Waiting { dropped }),
-            Err(crowd) => Err(crowd),
-        }
+        self.front(seam)
     }
 
     fn advance(&mut self, count: usize) {

@@ -6,16 +6,16 @@ ghost use Rattle.modbus_server.specs.Tcp.{tcp, told_fault};
 ghost use Rattle.modbus_server.specs.Moment.{moment};
 
 use crate::error::ProcessError;
-use crate::framing::{Framing, Front};
+use crate::framing::Framing;
 pub use crate::listener::accept_tcp_connection;
 use crate::serving::{serve, serve_link};
 use bytes::BytesMut;
 use modbus_frame::tcp::Header;
-use modbus_frame::{EncodeError, ExceptionResponse, PduError, Request, Response, SlaveId};
+use modbus_frame::{EncodeError, ExceptionResponse, Front, PduError, Request, Response, SlaveId};
 use modbus_link::{Sink, Source};
-use modbus_pdu::{MAX_PDU, decode_request};
+use modbus_pdu::decode_request;
 use modbus_service::Answerer;
-use modbus_tcp::{HeaderFault, encode_response_adu};
+use modbus_tcp::{HeaderFault, LONGEST_RESPONSE, encode_response_adu};
 use std::alloc::{AllocError, Global};
 
 /// A connection of Modbus TCP: the bytes that were fed and not used yet, taken step by step as ADUs.
@@ -29,12 +29,6 @@ pub type ConnectionWorker<L, V, H, X> = crate::worker::ConnectionWorker<AduBuffe
 
 /// A listener of Modbus TCP.
 pub type Server<A> = crate::listener::Server<AduBuffer, A>;
-
-/// The bytes of an MBAP header (MODBUS Messaging on TCP/IP V1.0b, section 3.1.3).
-const HEADER: usize = 7;
-
-/// The bytes of the longest ADU of a response.
-const LONGEST_RESPONSE: usize = HEADER + MAX_PDU;
 
 /// How many bytes a read has room for. The standard has no such number: reads of a stream always had this room, which is more than
 /// the longest ADU of a request that is answered.
@@ -111,13 +105,7 @@ impl Framing for AduBuffer {
 
     #[inline(always)]
     fn front<'a>(&'a self, _seam: &'a mut [u8]) -> Result<Front<'a, Header>, HeaderFault> {
-        match modbus_tcp::front(self.bytes.as_slice()) {
-            Ok(modbus_tcp::Front::Adu { header, pdu, end }) => {
-                Ok(Front::Message { header, pdu, end })
-            }
-            Ok(modbus_tcp::Front::Waiting) => Ok(Front::Waiting { dropped: 0 }),
-            Err(fault) => Err(fault),
-        }
+        modbus_tcp::front(self.bytes.as_slice())
     }
 
     fn advance(&mut self, count: usize) {

@@ -9,7 +9,7 @@ use Rattle.modbus_service.specs.Outcome.{Outcome, silence}
 use Rattle.modbus_service.specs.Answering.{Answering, steady}
 use Rattle.modbus_service.specs.Exchange.{Exchange, Run, GivesOutcome}
 use Rattle.modbus_service.specs.OnlyUnit.{Giving, only_unit, only_unit_takes}
-use Rattle.modbus_service.specs.Shared.{hears, heard, Seen, RunsOverHeard}
+use Rattle.modbus_service.specs.Shared.{hears, exchanges_heard, Seen, RunsOverHeard}
 
 hears_all : (unit k : ℕ) → k ≡ 0 → hears unit k ≡ true
 hears_all unit k all = grind (arith, nat_tests)
@@ -32,7 +32,7 @@ module _ {Header S : Type 0} (slave : Header → ℕ) (A : Answering S) (unit : 
       → GivesOutcome slave A old y new → RunsOverHeard slave A unit new xs end → RunsOverHeard slave A unit old (x ∷ xs) end
   hear old new end x y xs heeds header request outcome gives more = (
     y ∷ more.0,
-    subst (λ b. Seen slave (cond b (x ∷ heard slave unit xs) (heard slave unit xs)) (y ∷ more.0)) (sym heeds) (header, request, outcome, more.1),
+    subst (λ b. Seen slave (cond b (x ∷ exchanges_heard slave unit xs) (exchanges_heard slave unit xs)) (y ∷ more.0)) (sym heeds) (header, request, outcome, more.1),
     (new, gives, more.2),
   )
 
@@ -44,7 +44,7 @@ module _ {Header S : Type 0} (slave : Header → ℕ) (A : Answering S) (unit : 
       hear old new end x x xs (hears_own unit (slave x.header) here) refl refl (λ _. refl) gives more
   heard_step old new end x xs (another one other same) more = (
     more.0,
-    subst (λ b. Seen slave (cond b (x ∷ heard slave unit xs) (heard slave unit xs)) more.0) (sym (hears_none unit (slave x.header) one other)) more.1,
+    subst (λ b. Seen slave (cond b (x ∷ exchanges_heard slave unit xs) (exchanges_heard slave unit xs)) more.0) (sym (hears_none unit (slave x.header) one other)) more.1,
     subst (λ s. Run slave A s more.0 end) same more.2,
   )
 

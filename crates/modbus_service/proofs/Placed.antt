@@ -10,7 +10,7 @@ use Rattle.modbus_service.specs.declared.only_unit.OnlyUnit.{OnlyUnit}
 use Rattle.modbus_service.specs.Outcome.{Outcome}
 use Rattle.modbus_service.specs.Answering.{Answering}
 use Rattle.modbus_service.specs.Exchange.{Exchange, Run}
-use Rattle.modbus_service.specs.Units.{LineUnits, NoneAt, placed, FirstAt, Did, units_give, units_answering}
+use Rattle.modbus_service.specs.Units.{LineUnits, NoneAt, unit_at, FirstAt, Did, units_give, units_answering}
 use Rattle.modbus_service.specs.Shared.{RunsOverHeard}
 use Rattle.modbus_service.proofs.Heard.{Step, broadcast, own, another, heard_step}
 
@@ -34,16 +34,16 @@ look_none slave (it ∷ units) none =
     look_past slave it units (All-head (λ u. u.unit ≢ slave) it units none) ∙ look_none slave units (All-tail (λ u. u.unit ≢ slave) it units none)
 
 look_first : {S : Type 0} (slave : ℕ) (before after : List (OnlyUnit S)) (service : S) → NoneAt slave before
-    → look slave (before ++ placed slave service ∷ after) ≡ Some service
-look_first slave [] after service none = look_here slave (placed slave service) after refl
+    → look slave (before ++ unit_at slave service ∷ after) ≡ Some service
+look_first slave [] after service none = look_here slave (unit_at slave service) after refl
 look_first slave (it ∷ before) after service none =
-    look_past slave it (before ++ placed slave service ∷ after) (All-head (λ u. u.unit ≢ slave) it before none)
+    look_past slave it (before ++ unit_at slave service ∷ after) (All-head (λ u. u.unit ≢ slave) it before none)
     ∙ look_first slave before after service (All-tail (λ u. u.unit ≢ slave) it before none)
 
 look_other : {S : Type 0} (slave other : ℕ) (before after : List (OnlyUnit S)) (old new : S) → other ≢ slave
-    → look slave (before ++ placed other new ∷ after) ≡ look slave (before ++ placed other old ∷ after)
+    → look slave (before ++ unit_at other new ∷ after) ≡ look slave (before ++ unit_at other old ∷ after)
 look_other slave other [] after old new differs =
-    look_past slave (placed other new) after differs ∙ sym (look_past slave (placed other old) after differs)
+    look_past slave (unit_at other new) after differs ∙ sym (look_past slave (unit_at other old) after differs)
 look_other slave other (it ∷ before) after old new differs =
     ap (λ found. cond (it.unit == slave) (Some it.service) found) (look_other slave other before after old new differs)
 
@@ -62,7 +62,7 @@ first_found slave (it ∷ units) service found =
               service = it.service;
               after = units;
               none_before = All-nil _;
-              is = ap (λ n. placed n it.service ∷ units) here;
+              is = ap (λ n. unit_at n it.service ∷ units) here;
             },
             cc,
           ))

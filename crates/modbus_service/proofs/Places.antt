@@ -14,7 +14,7 @@ use Rattle.modbus_service.specs.declared.service.ServiceError.{ServiceError}
 use Rattle.modbus_service.specs.declared.service.ServiceError.TheVariants.{Exception, NoMemory}
 use Rattle.modbus_service.specs.Outcome.{silence, reply, exception}
 use Rattle.modbus_service.specs.Answering.{Answering, Keeps}
-use Rattle.modbus_service.specs.Units.{LineUnits, NoneAt, placed, FirstAt, OneAsked, Proper, Did, Stopped, units_answering}
+use Rattle.modbus_service.specs.Units.{LineUnits, NoneAt, unit_at, FirstAt, OneAsked, Proper, Did, StoppedAtUnit, units_answering}
 
 -- a list around the item at a place
 pub split_at : {X : Type 0} (xs : List X) (i : ℕ) (x : X) → i < length xs → x ≡ get_or xs i x → xs ≡ take i xs ++ x ∷ drop (i + 1) xs
@@ -37,7 +37,7 @@ first_here units place slave it within is here none = (
     service = it.service;
     after = drop (place + 1) units;
     none_before = none;
-    is = split_at units place it within is ∙ ap (λ n. take place units ++ placed n it.service ∷ drop (place + 1) units) here;
+    is = split_at units place it within is ∙ ap (λ n. take place units ++ unit_at n it.service ∷ drop (place + 1) units) here;
   },
   length-take-le place units (omega arith),
 )
@@ -47,15 +47,15 @@ pub one_asked : {S : Type 0} (Does : S → S → Type 0) (slave : ℕ) (units ne
     (it : OnlyUnit S) (next : S) → length at.before ≡ place → it ≡ get_or units place it → news ≡ set units place (record it { service = next })
     → Does it.service next → OneAsked Does slave units news
 one_asked Does slave units news at place it next long is wrote did =
-    let found : it ≡ placed slave at.service = is ∙ ap (λ us. get_or us place it) at.is ∙ get_or_at at.before (placed slave at.service) at.after it place long in
+    let found : it ≡ unit_at slave at.service = is ∙ ap (λ us. get_or us place it) at.is ∙ get_or_at at.before (unit_at slave at.service) at.after it place long in
     let whole : news ≡ at.before ++ record it { service = next } ∷ at.after =
     wrote ∙ ap (λ us. set us place (record it { service = next })) at.is
-    ∙ set_at at.before (placed slave at.service) at.after (record it { service = next }) place long in
+    ∙ set_at at.before (unit_at slave at.service) at.after (record it { service = next }) place long in
     record {
       at = at;
       next = next;
       did = subst (λ s. Does s next) (ap (λ u. u.service) found) did;
-      now_is = whole ∙ ap (λ n. at.before ++ placed n next ∷ at.after) (ap (λ u. u.unit) found);
+      now_is = whole ∙ ap (λ n. at.before ++ unit_at n next ∷ at.after) (ap (λ u. u.unit) found);
     }
 
 -- so units do what it does
@@ -103,7 +103,7 @@ rest_more olds news i y rest = drop-set-lt (i + 1) news i y (omega arith) ∙ dr
 
 pub stopped_at : {S : Type 0} (A : Answering S) (request : Asked) (olds news : List (OnlyUnit S)) (i : ℕ) (x : OnlyUnit S) (next : S) → i < length news
     → length news ≡ length olds → x ≡ get_or news i x → drop i news ≡ drop i olds → AllZip (Did A request) (take i olds) (take i news)
-    → A.wants x.service 0 request next → Stopped A request olds (set news i (record x { service = next }))
+    → A.wants x.service 0 request next → StoppedAtUnit A request olds (set news i (record x { service = next }))
 stopped_at A request olds news i x next within long is rest told wants =
     let inside : i < length olds = omega arith in
     record {
@@ -114,8 +114,8 @@ stopped_at A request olds news i x next within long is rest told wants =
       after = drop (i + 1) olds;
       was = split_at olds i x inside (still olds news i x is rest);
       now_is = set_split news i (record x { service = next }) within
-          ∙ ap (λ n. take i news ++ placed x.unit next ∷ drop n news) (sym (add-one i))
-          ∙ ap (λ us. take i news ++ placed x.unit next ∷ us) (drop_more_same news olds i rest);
+          ∙ ap (λ n. take i news ++ unit_at x.unit next ∷ drop n news) (sym (add-one i))
+          ∙ ap (λ us. take i news ++ unit_at x.unit next ∷ us) (drop_more_same news olds i rest);
       done = told;
       wants = wants;
     }

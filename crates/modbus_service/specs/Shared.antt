@@ -13,8 +13,8 @@ abbrev pub hears : ℕ → ℕ → Bool
 hears unit slave = (slave == 0) || (slave == unit)
 
 -- the exchanges of a line that the unit at this address hears, in order
-abbrev pub heard : {Header : Type 0} → (Header → ℕ) → ℕ → List (Exchange Header) → List (Exchange Header)
-heard slave unit xs = filter (λ x. hears unit (slave x.header)) xs
+abbrev pub exchanges_heard : {Header : Type 0} → (Header → ℕ) → ℕ → List (Exchange Header) → List (Exchange Header)
+exchanges_heard slave unit xs = filter (λ x. hears unit (slave x.header)) xs
 
 -- Exchanges of a line as the service sees them that was asked: the same requests in order, and the outcomes that were sent. To a
 -- broadcast the service gave some outcome, which was not sent.
@@ -27,7 +27,7 @@ Seen slave (x ∷ xs) (y ∷ ys) =
 
 -- the service went from one state to the other over what this unit hears of these exchanges
 abbrev pub RunsOverHeard : {Header S : Type 0} → (Header → ℕ) → Answering S → ℕ → S → List (Exchange Header) → S → Type 0
-RunsOverHeard {Header} slave A unit start xs end = (ys : List (Exchange Header)) × Seen slave (heard slave unit xs) ys × Run slave A start ys end
+RunsOverHeard {Header} slave A unit start xs end = (ys : List (Exchange Header)) × Seen slave (exchanges_heard slave unit xs) ys × Run slave A start ys end
 
 -- a run of a service as one unit of a line is a run of the service over what the unit hears
 abbrev pub UnitRuns : (Header : Type 0) → {S : Type 0} → Giving S → (S → ℕ → Asked → Type 0) → Type 0

@@ -19,8 +19,8 @@ abbrev pub NoneAt : {S : Type 0} → ℕ → List (OnlyUnit S) → Type 0
 NoneAt slave units = All (λ it. it.unit ≢ slave) units
 
 -- the service at an address
-abbrev pub placed : {S : Type 0} → ℕ → S → OnlyUnit S
-placed slave service = record { unit = slave; service = service }
+abbrev pub unit_at : {S : Type 0} → ℕ → S → OnlyUnit S
+unit_at slave service = record { unit = slave; service = service }
 
 -- the first unit at an address, among these
 pub record FirstAt {S : Type 0} (slave : ℕ) (units : List (OnlyUnit S)) : Type 0 where
@@ -28,7 +28,7 @@ pub record FirstAt {S : Type 0} (slave : ℕ) (units : List (OnlyUnit S)) : Type
   pub service : S
   pub after : List (OnlyUnit S)
   pub none_before : NoneAt slave before
-  pub is : units ≡ before ++ placed slave service ∷ after
+  pub is : units ≡ before ++ unit_at slave service ∷ after
 
 -- the addresses are those of single devices, and no two are the same
 abbrev pub Proper : {S : Type 0} → List (OnlyUnit S) → Type 0
@@ -39,7 +39,7 @@ pub record Improper {S : Type 0} (slave : ℕ) (why : List (OnlyUnit S) → Type
   pub before : List (OnlyUnit S)
   pub service : S
   pub after : List (OnlyUnit S)
-  pub is : units ≡ before ++ placed slave service ∷ after
+  pub is : units ≡ before ++ unit_at slave service ∷ after
   pub proper_before : Proper before
   pub cause : why before
 
@@ -50,23 +50,23 @@ Checks units (Err (OutOfRange slave)) = Improper slave (λ before. (slave ≡ 0)
 Checks units (Err (Twice slave)) = Improper slave (λ before. FirstAt slave before) units
 
 -- units that were made
-abbrev pub Makes : {S : Type 0} → List (OnlyUnit S) → Option ExceptionCode → Result (LineUnits S) UnitsError → Type 0
-Makes units absent (Ok line) = (line ≡ record { units = units; absent = absent }) × Checks units (Ok tt)
-Makes units absent (Err error) = Checks units (Err error)
+abbrev pub MakesUnits : {S : Type 0} → List (OnlyUnit S) → Option ExceptionCode → Result (LineUnits S) UnitsError → Type 0
+MakesUnits units absent (Ok line) = (line ≡ record { units = units; absent = absent }) × Checks units (Ok tt)
+MakesUnits units absent (Err error) = Checks units (Err error)
 
 -- a unit did a broadcast, whatever it answered
 abbrev pub Did : {S : Type 0} → Answering S → Asked → OnlyUnit S → OnlyUnit S → Type 0
 Did A request old new = (new.unit ≡ old.unit) × ((told : Outcome) × A.gives old.service 0 request told new.service)
 
 -- A broadcast for which memory was wanting at one of the units: those before it did it, and those after it did not.
-pub record Stopped {S : Type 0} (A : Answering S) (request : Asked) (old new : List (OnlyUnit S)) : Type 0 where
+pub record StoppedAtUnit {S : Type 0} (A : Answering S) (request : Asked) (old new : List (OnlyUnit S)) : Type 0 where
   pub before : List (OnlyUnit S)
   pub did : List (OnlyUnit S)
   pub at : OnlyUnit S
   pub next : S
   pub after : List (OnlyUnit S)
   pub was : old ≡ before ++ at ∷ after
-  pub now_is : new ≡ did ++ placed at.unit next ∷ after
+  pub now_is : new ≡ did ++ unit_at at.unit next ∷ after
   pub done : AllZip (Did A request) before did
   pub wants : A.wants at.service 0 request next
 
@@ -75,7 +75,7 @@ pub record OneAsked {S : Type 0} (Does : S → S → Type 0) (slave : ℕ) (old 
   pub at : FirstAt slave old
   pub next : S
   pub did : Does at.service next
-  pub now_is : new ≡ at.before ++ placed slave next ∷ at.after
+  pub now_is : new ≡ at.before ++ unit_at slave next ∷ at.after
 
 -- the outcome for an address that no unit has
 abbrev pub nobody : Option ExceptionCode → Outcome
@@ -95,7 +95,7 @@ units_give A old slave request outcome new =
 abbrev pub units_want : {S : Type 0} → Answering S → LineUnits S → ℕ → Asked → LineUnits S → Type 0
 units_want A old slave request new =
     (new.absent ≡ old.absent)
-    × ((slave ≡ 0) × Stopped A request old.units new.units
+    × ((slave ≡ 0) × StoppedAtUnit A request old.units new.units
     ⊎ (slave ≢ 0) × OneAsked (λ it next. A.wants it slave request next) slave old.units new.units)
 
 abbrev pub units_answering : {S : Type 0} → Answering S → Answering (LineUnits S)

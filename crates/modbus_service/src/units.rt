@@ -3,7 +3,7 @@ ghost use Rattle.std.specs.Prelude.{◌≡◌, length, MatchOption, MatchResult}
 ghost use Rattle.std.specs.List.{AllZip};
 ghost use Rattle.modbus_frame.specs.Meaning.{meaning};
 ghost use Rattle.modbus_service.specs.Outcome.{Outcome};
-ghost use Rattle.modbus_service.specs.Units.{LineUnits, NoneAt, FirstAt, Checks, Makes, Did, Stopped, units_answering};
+ghost use Rattle.modbus_service.specs.Units.{LineUnits, NoneAt, FirstAt, Checks, MakesUnits, Did, StoppedAtUnit, units_answering};
 
 use crate::only_unit::{OnlyUnit, unsent};
 use crate::service::{Answerer, ServiceError};
@@ -48,7 +48,7 @@ impl<S: Drop> Units<S> {
         units: Vec<OnlyUnit<S>>,
         absent: Option<ExceptionCode>,
     ) -> Result<Units<S>, UnitsError>
-        ensures { Makes units.items absent result }
+        ensures { MakesUnits units.items absent result }
     {
         match check_units(&units) {
             Ok(()) => Ok(Units { units, absent }),
@@ -156,7 +156,7 @@ fn tell_all<S: Answerer>(
 ) -> Result<(), AllocError>
     ensures { MatchResult result
         (λ _. AllZip (Did S.answering (meaning request.now)) units.old units.new)
-        (λ _. Stopped S.answering (meaning request.now) units.old units.new) }
+        (λ _. StoppedAtUnit S.answering (meaning request.now) units.old units.new) }
 {
     for it in units.iter_mut() {
         tell(&mut it.service, alloc, request)?;

@@ -5,7 +5,7 @@ use Rattle.std.specs.Prelude.{if◌then◌else◌}
 use Rattle.modbus_frame.specs.FunctionCodes as number
 use Rattle.modbus_frame.specs.declared.fault.Reason.{Reason}
 use Rattle.modbus_frame.specs.Meaning.{Asked, ReadCoils, ReadDiscreteInputs, WriteSingleCoil, WriteMultipleCoils, ReadInputRegisters, ReadHoldingRegisters, WriteSingleRegister, WriteMultipleRegisters, ReportServerId, MaskWriteRegister, ReadWriteMultipleRegisters, ReadFifoQueue, ReadDeviceIdentification, Custom}
-use Rattle.modbus_pdu.specs.Decoding.{◌>>=◌}
+use Rattle.modbus_pdu.specs.Decodes.{◌>>=◌}
 use Rattle.modbus_pdu.specs.Limits.{code_pdu}
 use Rattle.modbus_pdu.specs.RequestOf.{request_of, asked_by, two_words_of, single_coil_of, coils_written_of, words_written_of, only_code_of, three_words_of, read_write_of, one_word_of, identification_of}
 use Rattle.modbus_standard.specs.Unread.{any_request_of, begins_request, no_function, unread_of}

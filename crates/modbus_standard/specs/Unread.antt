@@ -38,9 +38,9 @@ is_modelled code = list_any (λ k. code == k) (number.read_coils ∷ number.read
 
 -- The exception for a PDU of this function code that can't be read. A MEI type that is not known (6.21) is told as a function that is
 -- not known; a value, a count or a length that doesn't fit as an illegal data value (section 7).
-abbrev pub exception_for : ℕ → List ℕ → ExceptionCode
-exception_for code [] = IllegalDataValue
-exception_for code (mei ∷ rest) =
+abbrev pub exception_of_pdu : ℕ → List ℕ → ExceptionCode
+exception_of_pdu code [] = IllegalDataValue
+exception_of_pdu code (mei ∷ rest) =
     if code == number.encapsulated_interface_transport then (if mei == mei_device_identification then IllegalDataValue else IllegalFunction) else IllegalDataValue
 
 -- bytes that begin with no function code of a request: function code 0 is not known, all else is not answered
@@ -52,5 +52,5 @@ of_no_function (code ∷ rest) = if code == no_function then Refused IllegalFunc
 abbrev pub unread_of : Asked → Option Unread
 unread_of (Custom code bytes) =
     if code == no_function then Some (of_no_function bytes)
-    else if is_modelled code then Some (Refused (exception_for code bytes)) else None
+    else if is_modelled code then Some (Refused (exception_of_pdu code bytes)) else None
 unread_of _ = None

@@ -1,7 +1,7 @@
 //! A service that answers as the standard wants where a request can't be read.
 ghost use Rattle.std.specs.Prelude.{◌≡◌};
 ghost use Rattle.modbus_frame.specs.Meaning.{meaning};
-ghost use Rattle.modbus_standard.specs.Unread.{is_modelled, exception_for, unread_of};
+ghost use Rattle.modbus_standard.specs.Unread.{is_modelled, exception_of_pdu, unread_of};
 ghost use Rattle.modbus_standard.specs.Answers.{standard_answers, standard_takes};
 
 use crate::decode::NO_FUNCTION;
@@ -44,7 +44,7 @@ fn has_layout(code: u8) -> bool
 /// The exception for a PDU of this function code that can't be read: a MEI type that is not known is a function that is not known, all else
 /// is a value that doesn't fit.
 fn exception_of(code: u8, rest: &[u8]) -> ExceptionCode
-    ensures { result ≡ exception_for code rest.now }
+    ensures { result ≡ exception_of_pdu code rest.now }
 {
     match rest {
         [mei, ..]

@@ -3,7 +3,7 @@ ghost use Rattle.std.specs.Prelude.{◌≡◌, ◌<◌, true, false, drop, slice
 ghost use Rattle.modbus_frame.specs.Codes.{function_number};
 ghost use Rattle.modbus_frame.specs.FunctionCodes.{exception_bit};
 ghost use Rattle.modbus_frame.specs.Meaning.{Custom, meaning, function_asked};
-ghost use Rattle.modbus_pdu.specs.Decoding.{Decodes};
+ghost use Rattle.modbus_pdu.specs.Decodes.{Decodes};
 ghost use Rattle.modbus_pdu.specs.RequestOf.{CarriesList};
 ghost use Rattle.modbus_standard.specs.Unread.{any_request_of, begins_request};
 

@@ -12,8 +12,8 @@ use Rattle.modbus_pdu.specs.Limits.{max_read_coils, max_write_coils, max_read_re
 use Rattle.modbus_pdu.specs.ResponseLaws.{response_size}
 use Rattle.modbus_pdu.specs.ResponsePdu.{response_pdu}
 use Rattle.modbus_service.specs.Outcome.{Outcome, silence, reply, exception, reply_pdu}
-use Rattle.modbus_store.specs.Tables.{Tables, entries, written}
-use Rattle.modbus_store.specs.Step.{counts, inside, checked, both_count, both_inside, is_queue_count, queue_count, step_of, store_step}
+use Rattle.modbus_store.specs.Tables.{Tables, entries, with_entries}
+use Rattle.modbus_store.specs.Step.{is_quantity, inside, if_in_bounds, both_count, both_inside, is_queue_count, queue_count, step_of, store_step}
 
 abbrev IsShort : ℕ → Outcome → Type 0
 IsShort n outcome = length (reply_pdu n outcome) ≤ MAX_PDU
@@ -28,7 +28,7 @@ silent_fits n = omega arith
 
 -- what is checked fits where it does so within its count
 checked_fits : (n : ℕ) (count range : Bool) (done : Outcome × Tables) (t : Tables) → (count ≡ true → IsShort n done.0)
-    → IsShort n (checked count range done t).0
+    → IsShort n (if_in_bounds count range done t).0
 checked_fits n true true done t fits = fits refl
 checked_fits n true false done t fits = exception_fits n code.IllegalDataAddress
 checked_fits n false range done t fits = exception_fits n code.IllegalDataValue
@@ -41,7 +41,7 @@ left : (a b : Bool) → (a && b) ≡ true → a ≡ true
 left true b e = refl
 left false b e = cc
 
-most_of : (most count : ℕ) → counts most count ≡ true → count ≤ most
+most_of : (most count : ℕ) → is_quantity most count ≡ true → count ≤ most
 most_of most count e = leb-true count most (right (leb 1 count) (leb count most) e)
 
 -- by the sizes of responses
@@ -70,17 +70,17 @@ module _ (sizes : (r : Response) → length (response_pdu r) ≡ response_size r
 
   step_fits : (n : ℕ) (t : Tables) (request : Asked) → IsShort n (step_of t request).0
   unfolding step_of
-  step_fits n t (ReadCoils a m) = checked_fits n (counts max_read_coils m) (inside (length t.coils) a m) _ t (λ e. coils_fit n a m t.coils (most_of max_read_coils m e))
-  step_fits n t (ReadDiscreteInputs a m) = checked_fits n (counts max_read_coils m) (inside (length t.discrete_inputs) a m) _ t (λ e. inputs_fit n a m t.discrete_inputs (most_of max_read_coils m e))
-  step_fits n t (ReadHoldingRegisters a m) = checked_fits n (counts max_read_registers m) (inside (length t.holding_registers) a m) _ t (λ e. holding_fits n a m t.holding_registers (most_of max_read_registers m e))
-  step_fits n t (ReadInputRegisters a m) = checked_fits n (counts max_read_registers m) (inside (length t.input_registers) a m) _ t (λ e. input_fits n a m t.input_registers (most_of max_read_registers m e))
+  step_fits n t (ReadCoils a m) = checked_fits n (is_quantity max_read_coils m) (inside (length t.coils) a m) _ t (λ e. coils_fit n a m t.coils (most_of max_read_coils m e))
+  step_fits n t (ReadDiscreteInputs a m) = checked_fits n (is_quantity max_read_coils m) (inside (length t.discrete_inputs) a m) _ t (λ e. inputs_fit n a m t.discrete_inputs (most_of max_read_coils m e))
+  step_fits n t (ReadHoldingRegisters a m) = checked_fits n (is_quantity max_read_registers m) (inside (length t.holding_registers) a m) _ t (λ e. holding_fits n a m t.holding_registers (most_of max_read_registers m e))
+  step_fits n t (ReadInputRegisters a m) = checked_fits n (is_quantity max_read_registers m) (inside (length t.input_registers) a m) _ t (λ e. input_fits n a m t.input_registers (most_of max_read_registers m e))
   step_fits n t (WriteSingleCoil a coil) = checked_fits n true (inside (length t.coils) a 1) _ t (λ e. reply_fits n _ (omega arith))
   step_fits n t (WriteSingleRegister a w) = checked_fits n true (inside (length t.holding_registers) a 1) _ t (λ e. reply_fits n _ (omega arith))
-  step_fits n t (WriteMultipleCoils a coils) = checked_fits n (counts max_write_coils (length coils)) (inside (length t.coils) a (length coils)) _ t (λ e. reply_fits n _ (omega arith))
-  step_fits n t (WriteMultipleRegisters a ws) = checked_fits n (counts max_write_registers (length ws)) (inside (length t.holding_registers) a (length ws)) _ t (λ e. reply_fits n _ (omega arith))
+  step_fits n t (WriteMultipleCoils a coils) = checked_fits n (is_quantity max_write_coils (length coils)) (inside (length t.coils) a (length coils)) _ t (λ e. reply_fits n _ (omega arith))
+  step_fits n t (WriteMultipleRegisters a ws) = checked_fits n (is_quantity max_write_registers (length ws)) (inside (length t.holding_registers) a (length ws)) _ t (λ e. reply_fits n _ (omega arith))
   step_fits n t (MaskWriteRegister a b c) = checked_fits n true (inside (length t.holding_registers) a 1) _ t (λ e. reply_fits n _ (omega arith))
   step_fits n t (ReadWriteMultipleRegisters a m b ws) = checked_fits n (both_count m (length ws)) (both_inside (length t.holding_registers) a m b (length ws)) _ t
-      (λ e. both_fit n a m (written b ws t.holding_registers) (most_of max_read_registers m (left (counts max_read_registers m) (counts max_read_write_registers (length ws)) e)))
+      (λ e. both_fit n a m (with_entries b ws t.holding_registers) (most_of max_read_registers m (left (is_quantity max_read_registers m) (is_quantity max_read_write_registers (length ws)) e)))
   step_fits n t (ReadFifoQueue a) =
       let m = queue_count a t.holding_registers in
       checked_fits n true (inside (length t.holding_registers) a 1) _ t

@@ -11,9 +11,9 @@ use Rattle.atomic_table.specs.Table.{State, Act, step, keeps, takes, gives, step
 use Rattle.atomic_table.proofs.Lists.{set_again, set_here, set_else, one_turn, exchanged}
 use Rattle.modbus_store.specs.declared.lock.Stored.{Stored}
 use Rattle.modbus_store.specs.Legal.{Call, answer_to, replay, IsLegal, calls_by, StartsWith}
-use Rattle.modbus_store.specs.Views.{Opening, Stage, resting, waiting, serving, View, newcomer}
-use Rattle.modbus_store.specs.Lock.{tickets_of, numbers_of, tickets_in, numbers_in, IsServing, HasTicket, Account, words_of, Homes, away, home, Holds, StageFits, NumberFits, Fits, Placed, AllHeld, Kept}
-use Rattle.modbus_store.specs.Plays.{Mine, numbered, staged, ticket_of, known_of, counted, DrewNumber, DrewTicket, LookedServing, Counted, Advanced}
+use Rattle.modbus_store.specs.Views.{Opening, CallStage, resting, waiting, serving, View, newcomer}
+use Rattle.modbus_store.specs.Lock.{tickets_of, numbers_of, tickets_in, numbers_in, IsServing, HasTicket, LockAccount, words_kept, Homes, away, home, Holds, StageFits, NumberFits, Fits, Placed, AllHeld, Kept}
+use Rattle.modbus_store.specs.Plays.{Mine, with_number, with_stage, ticket_of, known_of, with_call_counted, DrewNumber, DrewTicket, LookedServing, CountsCall, Advanced}
 use Rattle.modbus_store.specs.Events.{KeptWith, Leads}
 use Rattle.modbus_store.proofs.Lists.{in_range, total-set, total-le, each_set}
 use Rattle.modbus_store.proofs.Histories.{legal-append, calls_by_more, calls_by_mine, starts_whole, starts_more, starts_trans, none_in_front}
@@ -31,7 +31,7 @@ pub same_at : (vs : List View) (i j : ℕ) (v u : View) → i ≡ j → get_elem
 same_at vs i j v u e p q = core.some-injective v u (sym p ∙ (ap (get_elem? vs) e ∙ q))
 
 -- the view at h has a stage of this kind, also after another view was changed, or this one to a view of the kind
-pub stage_stays : (P : Stage → Type 0) (vs : List View) (id h : ℕ) (v w : View) → get_elem? vs id ≡ core.some v → (P v.stage → P w.stage)
+pub stage_stays : (P : CallStage → Type 0) (vs : List View) (id h : ℕ) (v w : View) → get_elem? vs id ≡ core.some v → (P v.stage → P w.stage)
     → (u : View) × (get_elem? vs h ≡ core.some u) × P u.stage → (u : View) × (get_elem? (set vs id w) h ≡ core.some u) × P u.stage
 stage_stays P vs id h v w at more is = dite (ℕ_discrete h id)
     (λ e. (w, ap (get_elem? (set vs id w)) e ∙ set_here vs id w (in_range vs id v at), more (subst (λ (x : View). P x.stage) (same_at vs h id is.0 v e is.1 at) is.2)))
@@ -42,11 +42,11 @@ pub serving_stays : (vs : List View) (id h : ℕ) (v w : View) → get_elem? vs 
 serving_stays = stage_stays IsServing
 
 module _ (o : Opening) where
-  tickets_few : (a : Account) (count : ℕ) (homes : Homes) (j : ℕ) (v : View) → (x : Option ℕ) → NumberFits o a j v x → tickets_of v.stage ≤ numbers_of x
+  tickets_few : (a : LockAccount) (count : ℕ) (homes : Homes) (j : ℕ) (v : View) → (x : Option ℕ) → NumberFits o a j v x → tickets_of v.stage ≤ numbers_of x
   tickets_few a count homes j v None f = omega (arith, ap tickets_of f.0)
   tickets_few a count homes j v (Some n) f = one v.stage
     where
-      one : (st : Stage) → tickets_of st ≤ 1
+      one : (st : CallStage) → tickets_of st ≤ 1
       one resting = omega arith
       one (waiting t) = omega arith
       one (serving t known) = omega arith
@@ -58,7 +58,7 @@ module _ (o : Opening) where
       (λ j v e. tickets_few k.a (length s.views) s.homes j v v.number (k.each j v e).number) in omega arith
 
   module _ (s : St) (k : Kept o s) (id : ℕ) (v w : View) (at : get_elem? s.views id ≡ core.some v) where
-    pub rebuilt : (b : Account) (log : List Call) → b.log ≡ log → (bells : List ℕ) (ws : List ℕ) (hs : Homes) → ws ≡ words_of b bells → b.seats ≤ 2 ^ 32 → IsLegal o.tables b.log → ((n : ℕ) → b.seats ≤ n → calls_by n b.log ≡ [])
+    pub rebuilt : (b : LockAccount) (log : List Call) → b.log ≡ log → (bells : List ℕ) (ws : List ℕ) (hs : Homes) → ws ≡ words_kept b bells → b.seats ≤ 2 ^ 32 → IsLegal o.tables b.log → ((n : ℕ) → b.seats ≤ n → calls_by n b.log ≡ [])
         → b.served + k.a.drawn + tickets_of w.stage ≡ b.drawn + k.a.served + tickets_of v.stage
         → k.a.seats + numbers_of w.number ≤ b.seats + numbers_of v.number
         → ((j : ℕ) (u : View) → j ≢ id → get_elem? s.views j ≡ core.some u → Fits o k.a (length s.views) s.homes j u → Fits o b (length s.views) hs j u)
@@ -105,7 +105,7 @@ module _ (o : Opening) where
       let j = i - 4 in
       let is : suc (suc (suc (suc j))) ≡ i = omega arith in
       let n = f (get_or s.words i 0) in
-      let words : set s.words i n ≡ words_of k.a (set k.bells j n) = (λ z. set (k.words_are z) (sym is z) n) in (
+      let words : set s.words i n ≡ words_kept k.a (set k.bells j n) = (λ z. set (k.words_are z) (sym is z) n) in (
         me.0,
         keeps,
         tt,
@@ -118,8 +118,8 @@ module _ (o : Opening) where
   rings slots id me i f above = allowed slots id me i f (λ r m'. m' ≡ me) (λ log. log) (λ log. rings_with log id me i f above)
 
   -- STEP 1
-  module _ (a : Account) (id : ℕ) where
-    abbrev one_number : Account
+  module _ (a : LockAccount) (id : ℕ) where
+    abbrev one_number : LockAccount
     one_number = record a { seats = a.seats + 1; who = λ k. cond (eqb k a.seats) id (a.who k) }
 
     number_after : (j : ℕ) (u : View) (x : Option ℕ) → NumberFits o a j u x → NumberFits o one_number j u x
@@ -138,10 +138,10 @@ module _ (o : Opening) where
       let zero_first : v.first ≡ true → r ≡ 0 = λ t. is ∙ (f.alone t).1 in
       exchanged r n (n + 1) F
       (λ hit. let here : a.seats ≡ n = sym is ∙ hit in (
-        numbered r v,
+        with_number r v,
         keeps,
         tt,
-        rebuilt s k id v (numbered r v) at b log kept.1 k.bells (set s.words 3 (n + 1)) s.homes
+        rebuilt s k id v (with_number r v) at b log kept.1 k.bells (set s.words 3 (n + 1)) s.homes
             (ap (λ (ws : List ℕ). set ws 3 (n + 1)) k.words_are ∙ ap (λ (x : ℕ). a.drawn % 2 ^ 64 ∷ a.served % 2 ^ 64 ∷ length a.log ∷ (x + 1) ∷ k.bells) (sym here))
             (omega arith)
             k.legal
@@ -166,8 +166,8 @@ module _ (o : Opening) where
               joined = f.joined;
               stage = subst (StageFits o b s.homes id) (sym nf.0) tt;
             }
-            (held_as s k id v (numbered r v) at (λ t x. x))
-            (⊎_elim (λ h. inl h) (λ h. inr (h.0, h.1, serving_stays s.views id (a.holder a.served) v (numbered r v) at (λ x. x) h.2)) k.placed),
+            (held_as s k id v (with_number r v) at (λ t x. x))
+            (⊎_elim (λ h. inl h) (λ h. inr (h.0, h.1, serving_stays s.views id (a.holder a.served) v (with_number r v) at (λ x. x) h.2)) k.placed),
         (zero_first, (λ _. (refl, none_in_front r a.log v.seen f.seen (k.unused r (omega arith)))), λ miss. absurd (miss hit)),
       ))
       (λ miss. (v, keeps, tt, unmoved log s kept id v me.1 3 at, (zero_first, (λ hit. absurd (miss hit)), λ _. refl)))
@@ -177,14 +177,14 @@ module _ (o : Opening) where
   draws slots id me n none low = allowed slots id me 3 (λ x. either (eqb x n) (n + 1) x) (DrewNumber (step slots 3 n (n + 1) core.none) me) (λ log. log) (λ log. draws_with log slots id me n none low)
 
   -- STEP 2
-  module _ (a : Account) (id : ℕ) where
-    abbrev one_ticket : Account
+  module _ (a : LockAccount) (id : ℕ) where
+    abbrev one_ticket : LockAccount
     one_ticket = record a { drawn = a.drawn + 1; holder = λ t. cond (eqb t a.drawn) id (a.holder t) }
 
     held_before : (t : ℕ) → t < a.drawn → one_ticket.holder t ≡ a.holder t
     held_before t l = ap (λ (b : Bool). cond b id (a.holder t)) (ne_eqb t a.drawn (λ e. omega arith))
 
-    stage_after_ticket : (homes : Homes) (j : ℕ) (st : Stage) → StageFits o a homes j st → StageFits o one_ticket homes j st
+    stage_after_ticket : (homes : Homes) (j : ℕ) (st : CallStage) → StageFits o a homes j st → StageFits o one_ticket homes j st
     stage_after_ticket homes j resting f = tt
     stage_after_ticket homes j (waiting t) f = let l = f.1 in (f.0, omega arith, held_before t l ∙ f.2)
     stage_after_ticket homes j (serving t known) f = let l = f.1 in (f.0, omega arith, held_before t l ∙ f.2, f.3, f.4)
@@ -195,14 +195,14 @@ module _ (o : Opening) where
 
   -- the tickets that are held, and one more
   ticket_held : (s : St) (k : Kept o s) (id : ℕ) (v : View) → v.stage ≡ resting → get_elem? s.views id ≡ core.some v
-      → AllHeld o (one_ticket k.a id) (set s.views id (staged (waiting k.a.drawn) v))
+      → AllHeld o (one_ticket k.a id) (set s.views id (with_stage (waiting k.a.drawn) v))
   ticket_held s k id v rests at t low high = dite (ℕ_discrete t k.a.drawn)
       (λ last. (w, ap (get_elem? (set s.views id w)) (ap (λ (x : Bool). cond x id (k.a.holder t)) (eq-eqb t k.a.drawn last)) ∙ set_here s.views id w (in_range s.views id v at), sym last))
       (λ other. subst (λ (h : ℕ). (u : View) × (get_elem? (set s.views id w) h ≡ core.some u) × HasTicket t u.stage) (sym (held_before k.a id t (omega arith)))
       (stage_stays (HasTicket t) s.views id (k.a.holder t) v w at (λ (x : HasTicket t v.stage). absurd (subst (HasTicket t) rests x)) (k.held t low (omega arith))))
     where
       w : View
-      w = staged (waiting k.a.drawn) v
+      w = with_stage (waiting k.a.drawn) v
 
   pub takes_ticket_with : (log : List Call) (slots id : ℕ) (me : Mine) (n : ℕ) → me.0.number ≡ Some n → me.0.stage ≡ resting
       → Leads o log log id me 0 (λ x. (x + 1) % 2 ^ 64) (DrewTicket (step slots 0 1 0 core.none) me)
@@ -212,7 +212,7 @@ module _ (o : Opening) where
       let is : r ≡ a.drawn % 2 ^ 64 = ap (λ (ws : List ℕ). get_or ws 0 0) k.words_are in
       let f = k.each id v at in
       let kt = k.tickets in
-      let w = staged (waiting a.drawn) v in (
+      let w = with_stage (waiting a.drawn) v in (
         w,
         keeps,
         tt,
@@ -259,10 +259,10 @@ module _ (o : Opening) where
   takes_ticket slots id me n some rests = allowed slots id me 0 (λ x. (x + 1) % 2 ^ 64) (DrewTicket (step slots 0 1 0 core.none) me) (λ log. log) (λ log. takes_ticket_with log slots id me n some rests)
 
   -- STEP 3
-  abbrev number_stays : (a : Account) (j : ℕ) (u w : View) (n : ℕ) → u.number ≡ Some n → w.number ≡ Some n → w.mine ≡ u.mine → w.seen ≡ u.seen → NumberFits o a j u u.number → (n < a.seats) × (a.who n ≡ j) × (calls_by n a.log ≡ u.mine) × (calls_by n u.seen ≡ u.mine)
+  abbrev number_stays : (a : LockAccount) (j : ℕ) (u w : View) (n : ℕ) → u.number ≡ Some n → w.number ≡ Some n → w.mine ≡ u.mine → w.seen ≡ u.seen → NumberFits o a j u u.number → (n < a.seats) × (a.who n ≡ j) × (calls_by n a.log ≡ u.mine) × (calls_by n u.seen ≡ u.mine)
   number_stays a j u w n e d m q f = subst (NumberFits o a j u) e f
 
-  stage_when_away : (a : Account) (homes : Homes) (j : ℕ) (st : Stage) → StageFits o a homes j st → StageFits o a away j st
+  stage_when_away : (a : LockAccount) (homes : Homes) (j : ℕ) (st : CallStage) → StageFits o a homes j st → StageFits o a away j st
   stage_when_away a homes j resting f = tt
   stage_when_away a homes j (waiting t) f = f
   stage_when_away a homes j (serving t known) f = (f.0, f.1, f.2, f.3, refl)
@@ -283,8 +283,8 @@ module _ (o : Opening) where
       let mine_0 = mine.0 in let mine_1 = mine.1 in
       let few = drawn_few s k in
       dite (ℕ_discrete r (ticket_of v.stage % 2 ^ 64))
-      (λ hit. let turn : a.served ≡ t = one_turn a.served t (2 ^ 64) mine_0 (omega arith) (sym is ∙ (hit ∙ ap (λ (x : Stage). ticket_of x % 2 ^ 64) waits)) in
-      let w = staged (serving (ticket_of v.stage) a.log) v in
+      (λ hit. let turn : a.served ≡ t = one_turn a.served t (2 ^ 64) mine_0 (omega arith) (sym is ∙ (hit ∙ ap (λ (x : CallStage). ticket_of x % 2 ^ 64) waits)) in
+      let w = with_stage (serving (ticket_of v.stage) a.log) v in
       let same_ticket : ticket_of v.stage ≡ t = ap ticket_of waits in
       ⊎_elim
       (λ (h : (y : Stored) × (s.homes ≡ home y) × Holds o a.log y). (
@@ -348,30 +348,30 @@ module _ (o : Opening) where
   looks_serving slots id v cs n t some waits live s k wide at small = let x = looks_with k.a.log slots id v cs n t some waits live s (k, refl) at in (x.0, x.1, x.2, x.3.0, x.4.0)
 
   -- STEP 5
-  module _ (a : Account) (e : Call) where
-    abbrev one_entry : Account
+  module _ (a : LockAccount) (e : Call) where
+    abbrev one_entry : LockAccount
     one_entry = record a { log = a.log ++ e ∷ [] }
 
     number_after_entry : (id j : ℕ) (u : View) (x : Option ℕ) → a.who e.number ≡ id → j ≢ id → NumberFits o a j u x → NumberFits o one_entry j u x
     number_after_entry id j u None own other f = f
     number_after_entry id j u (Some n) own other f = (f.0, f.1, calls_by_more n a.log e (λ same. other (sym f.1 ∙ (ap a.who (sym same) ∙ own))) ∙ f.2, f.3)
 
-    stage_after_entry : (homes : Homes) (id j : ℕ) (st : Stage) → a.holder a.served ≡ id → j ≢ id → StageFits o a homes j st → StageFits o one_entry homes j st
+    stage_after_entry : (homes : Homes) (id j : ℕ) (st : CallStage) → a.holder a.served ≡ id → j ≢ id → StageFits o a homes j st → StageFits o one_entry homes j st
     stage_after_entry homes id j resting own other f = tt
     stage_after_entry homes id j (waiting t) own other f = f
     stage_after_entry homes id j (serving t known) own other f = absurd (other (sym f.2 ∙ (ap a.holder f.0 ∙ own)))
 
   counts_at : (log : List Call) (slots id : ℕ) (e : Call) (v : View) (cs : List (ℕ × S)) (t : ℕ) (known : List Call) → v.number ≡ Some e.number → v.live ≡ true
       → e.outcome ≡ answer_to (replay v.opening.tables known) e → length known + 1 < 2 ^ 64
-      → Leads o log (log ++ e ∷ []) id (staged (serving t known) v, cs) 2 (λ x. (x + 1) % 2 ^ 64) (Counted e (step slots 2 1 0 core.none) (staged (serving t known) v, cs))
+      → Leads o log (log ++ e ∷ []) id (with_stage (serving t known) v, cs) 2 (λ x. (x + 1) % 2 ^ 64) (CountsCall e (step slots 2 1 0 core.none) (with_stage (serving t known) v, cs))
   counts_at log slots id e v cs t known some live right fits s kept at =
       let k = kept.0 in
       let a = k.a in let b = one_entry a e in let r : ℕ = get_or s.words 2 0 in
-      let old = staged (serving t known) v in
+      let old = with_stage (serving t known) v in
       let f = k.each id old at in
       let mine = f.stage in
       let own : (e.number < a.seats) × (a.who e.number ≡ id) × (calls_by e.number a.log ≡ v.mine) × (calls_by e.number v.seen ≡ v.mine) = subst (NumberFits o a id old) some f.number in
-      let w = counted e old in
+      let w = with_call_counted e old in
       let all : known ≡ a.log = mine.3 in
       let grown : known ++ e ∷ [] ≡ a.log ++ e ∷ [] = ap (λ (l : List Call). l ++ e ∷ []) all in
       let served : a.holder a.served ≡ id = ap a.holder (sym mine.0) ∙ mine.2 in
@@ -418,22 +418,22 @@ module _ (o : Opening) where
 
   pub counts_with : (log : List Call) (slots id : ℕ) (e : Call) (v : View) (cs : List (ℕ × S)) (t : ℕ) (known : List Call) → v.stage ≡ serving t known → v.number ≡ Some e.number → v.live ≡ true
       → e.outcome ≡ answer_to (replay v.opening.tables known) e → length known + 1 < 2 ^ 64
-      → Leads o log (log ++ e ∷ []) id (v, cs) 2 (λ x. (x + 1) % 2 ^ 64) (Counted e (step slots 2 1 0 core.none) (v, cs))
+      → Leads o log (log ++ e ∷ []) id (v, cs) 2 (λ x. (x + 1) % 2 ^ 64) (CountsCall e (step slots 2 1 0 core.none) (v, cs))
   counts_with log slots id e v cs t known is some live right fits =
-      subst (λ (st : Stage). Leads o log (log ++ e ∷ []) id (staged st v, cs) 2 (λ x. (x + 1) % 2 ^ 64) (Counted e (step slots 2 1 0 core.none) (staged st v, cs))) (sym is) (counts_at log slots id e v cs t known some live right fits)
+      subst (λ (st : CallStage). Leads o log (log ++ e ∷ []) id (with_stage st v, cs) 2 (λ x. (x + 1) % 2 ^ 64) (CountsCall e (step slots 2 1 0 core.none) (with_stage st v, cs))) (sym is) (counts_at log slots id e v cs t known some live right fits)
 
   pub counts : (slots id : ℕ) (e : Call) (v : View) (cs : List (ℕ × S)) (t : ℕ) (known : List Call) → v.stage ≡ serving t known → v.number ≡ Some e.number → v.live ≡ true
       → e.outcome ≡ answer_to (replay v.opening.tables known) e → length known + 1 < 2 ^ 64
-      → Allows (Kept o) slots id (v, cs) 2 (λ x. (x + 1) % 2 ^ 64) (Counted e (step slots 2 1 0 core.none) (v, cs))
+      → Allows (Kept o) slots id (v, cs) 2 (λ x. (x + 1) % 2 ^ 64) (CountsCall e (step slots 2 1 0 core.none) (v, cs))
   counts slots id e v cs t known is some live right fits =
-      allowed slots id (v, cs) 2 (λ x. (x + 1) % 2 ^ 64) (Counted e (step slots 2 1 0 core.none) (v, cs)) (λ log. log ++ e ∷ []) (λ log. counts_with log slots id e v cs t known is some live right fits)
+      allowed slots id (v, cs) 2 (λ x. (x + 1) % 2 ^ 64) (CountsCall e (step slots 2 1 0 core.none) (v, cs)) (λ log. log ++ e ∷ []) (λ log. counts_with log slots id e v cs t known is some live right fits)
 
   -- STEP 7
-  module _ (a : Account) where
-    abbrev one_served : Account
+  module _ (a : LockAccount) where
+    abbrev one_served : LockAccount
     one_served = record a { served = a.served + 1 }
 
-    stage_after_served : (hs hs' : Homes) (id j : ℕ) (st : Stage) → a.holder a.served ≡ id → j ≢ id → StageFits o a hs j st → StageFits o one_served hs' j st
+    stage_after_served : (hs hs' : Homes) (id j : ℕ) (st : CallStage) → a.holder a.served ≡ id → j ≢ id → StageFits o a hs j st → StageFits o one_served hs' j st
     stage_after_served hs hs' id j resting own other f = tt
     stage_after_served hs hs' id j (waiting t) own other f = let le = f.0 in
         let ne : a.served ≢ t = λ e. other (sym f.2 ∙ (ap a.holder (sym e) ∙ own)) in (omega arith, f.1, f.2)
@@ -444,14 +444,14 @@ module _ (o : Opening) where
     number_after_served j u (Some n) f = f
 
   advances_at : (log : List Call) (slots id : ℕ) (v : View) (y : Stored) (t : ℕ) (known : List Call) (n : ℕ) → v.number ≡ Some n → v.live ≡ true → Holds v.opening known y
-      → Leads o log log id (staged (serving t known) v, (0, Some y) ∷ []) 1 (λ x. (x + 1) % 2 ^ 64) (Advanced (step slots 1 1 0 core.none) (staged (serving t known) v, (0, Some y) ∷ []))
+      → Leads o log log id (with_stage (serving t known) v, (0, Some y) ∷ []) 1 (λ x. (x + 1) % 2 ^ 64) (Advanced (step slots 1 1 0 core.none) (with_stage (serving t known) v, (0, Some y) ∷ []))
   advances_at log slots id v y t known n some live ok s kept at =
       let k = kept.0 in
       let a = k.a in let b = one_served a in let r : ℕ = get_or s.words 1 0 in
-      let old = staged (serving t known) v in
+      let old = with_stage (serving t known) v in
       let f = k.each id old at in
       let mine = f.stage in
-      let w = staged resting old in
+      let w = with_stage resting old in
       let all : known ≡ a.log = mine.3 in
       let served : a.holder a.served ≡ id = ap a.holder (sym mine.0) ∙ mine.2 in
       let homes : set s.homes 0 (core.some (Some y)) ≡ home y = ap (λ (hs : Homes). set hs 0 (core.some (Some y))) mine.4 in (
@@ -491,7 +491,7 @@ module _ (o : Opening) where
   advances : (log : List Call) (slots id : ℕ) (v : View) (y : Stored) (t : ℕ) (known : List Call) (n : ℕ) → v.stage ≡ serving t known → v.number ≡ Some n → v.live ≡ true → Holds v.opening known y
       → Leads o log log id (v, (0, Some y) ∷ []) 1 (λ x. (x + 1) % 2 ^ 64) (Advanced (step slots 1 1 0 core.none) (v, (0, Some y) ∷ []))
   advances log slots id v y t known n is some live ok =
-      subst (λ (st : Stage). Leads o log log id (staged st v, (0, Some y) ∷ []) 1 (λ x. (x + 1) % 2 ^ 64) (Advanced (step slots 1 1 0 core.none) (staged st v, (0, Some y) ∷ []))) (sym is)
+      subst (λ (st : CallStage). Leads o log log id (with_stage st v, (0, Some y) ∷ []) 1 (λ x. (x + 1) % 2 ^ 64) (Advanced (step slots 1 1 0 core.none) (with_stage st v, (0, Some y) ∷ []))) (sym is)
       (advances_at log slots id v y t known n some live ok)
 
   pub advances_with : (log : List Call) (slots id : ℕ) (me : Mine) (y : Stored) (t : ℕ) (known : List Call) (n : ℕ) → me.1 ≡ (0, Some y) ∷ [] → me.0.stage ≡ serving t known → me.0.number ≡ Some n → me.0.live ≡ true → Holds me.0.opening known y
@@ -505,7 +505,7 @@ module _ (o : Opening) where
       allowed slots id me 1 (λ x. (x + 1) % 2 ^ 64) (Advanced (step slots 1 1 0 core.none) me) (λ log. log) (λ log. advances_with log slots id me y t known n has is some live ok)
 
 -- THE START
-abbrev start : Account
+abbrev start : LockAccount
 start = record { log = []; drawn = 0; served = 0; seats = 0; who = λ n. 0; holder = λ t. 0 }
 
 start_fits : (o : Opening) (y : Stored) → Fits o start 1 (home y) 0 (newcomer o)

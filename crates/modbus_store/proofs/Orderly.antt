@@ -2,31 +2,31 @@
 use Rattle.std.proofs.Common.{◌≡◌, ℕ, ◌≤◌, ◌<◌, inl, inr, List, [], ◌∷◌, sym, refl, ap, ◌∙◌, subst, arith, ⊎_elim, Some, map, get_or}
 use Rattle.modbus_service.specs.Outcome.{silence}
 use Rattle.modbus_store.specs.Tables.{Tables}
-use Rattle.modbus_store.specs.Legal.{Call, call, Asking, asking_of, answer_to, tables_after, IsLegal, calls_by, StartsWith}
-use Rattle.modbus_store.specs.Views.{Opening, Stage, resting, waiting, serving, View}
+use Rattle.modbus_store.specs.Legal.{Call, call, CallAsked, asking_of, answer_to, tables_after, IsLegal, calls_by, StartsWith}
+use Rattle.modbus_store.specs.Views.{Opening, CallStage, resting, waiting, serving, View}
 use Rattle.modbus_store.specs.Lock.{HasTicket, Kept, NumberFits, StageFits}
 use Rattle.modbus_store.specs.Orderly.{Knows, seats, IsOrderly}
 use Rattle.modbus_store.proofs.Keeps.{St, drawn_few}
 use Rattle.modbus_store.proofs.Histories.{front_of_front, legal-front, calls_by-append}
 
 -- the call as it is answered here
-abbrev answered : Tables → Asking → Call
+abbrev answered : Tables → CallAsked → Call
 answered t a = call a.number a.slave a.asked (answer_to t (call a.number a.slave a.asked silence))
 
 -- the history of these calls
-abbrev history_of : Tables → List Asking → List Call
+abbrev history_of : Tables → List CallAsked → List Call
 history_of t [] = []
 history_of t (a ∷ all) = answered t a ∷ history_of (tables_after t (answered t a)) all
 
-history_legal : (t : Tables) (all : List Asking) → IsLegal t (history_of t all)
+history_legal : (t : Tables) (all : List CallAsked) → IsLegal t (history_of t all)
 history_legal t [] = tt
 history_legal t (a ∷ all) = (refl, history_legal (tables_after t (answered t a)) all)
 
-history_asks : (t : Tables) (all : List Asking) → map asking_of (history_of t all) ≡ all
+history_asks : (t : Tables) (all : List CallAsked) → map asking_of (history_of t all) ≡ all
 history_asks t [] = refl
 history_asks t (a ∷ all) = λ i. a ∷ history_asks (tables_after t (answered t a)) all i
 
-pub one_history : (t : Tables) (all : List Asking) → (history : List Call) × IsLegal t history × (map asking_of history ≡ all)
+pub one_history : (t : Tables) (all : List CallAsked) → (history : List Call) × IsLegal t history × (map asking_of history ≡ all)
 one_history t all = (history_of t all, history_legal t all, history_asks t all)
 
 -- a legal history is the one of its calls
@@ -44,7 +44,7 @@ module _ (o : Opening) (s : St) (k : Kept o s) where
   number_of : (j : ℕ) (v : View) (n : ℕ) → Knows s j v → v.number ≡ Some n → (n < k.a.seats) × (k.a.who n ≡ j) × (calls_by n k.a.log ≡ v.mine) × (calls_by n v.seen ≡ v.mine)
   number_of j v n at is = subst (NumberFits o k.a j v) is (k.each j v at).number
 
-  ticket_of_stage : (j t : ℕ) (st : Stage) → StageFits o k.a s.homes j st → HasTicket t st → (k.a.served ≤ t) × (t < k.a.drawn) × (k.a.holder t ≡ j)
+  ticket_of_stage : (j t : ℕ) (st : CallStage) → StageFits o k.a s.homes j st → HasTicket t st → (k.a.served ≤ t) × (t < k.a.drawn) × (k.a.holder t ≡ j)
   ticket_of_stage j t resting f h = absurd h
   ticket_of_stage j t (waiting own) f h = subst (λ (x : ℕ). (k.a.served ≤ x) × (x < k.a.drawn) × (k.a.holder x ≡ j)) h f
   ticket_of_stage j t (serving own known) f h = subst (λ (x : ℕ). (k.a.served ≤ x) × (x < k.a.drawn) × (k.a.holder x ≡ j)) h (let e = f.0 in omega arith, f.1, f.2)

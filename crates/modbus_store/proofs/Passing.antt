@@ -6,9 +6,9 @@ use lib.Seq.{set-get_or}
 use Rattle.atomic_table.specs.Table.{step, keeps, Allows, Splits, Joins}
 use Rattle.atomic_table.proofs.Lists.{at_set, at_snoc, at_longer, set_again}
 use Rattle.modbus_store.specs.Legal.{Call, IsLegal, StartsWith}
-use Rattle.modbus_store.specs.Views.{Opening, resting, View, copied, spent}
-use Rattle.modbus_store.specs.Lock.{tickets_of, numbers_of, IsServing, HasTicket, Account, NumberFits, Fits, Kept}
-use Rattle.modbus_store.specs.Plays.{Mine, longer, glued, drew, LoadedDrawn}
+use Rattle.modbus_store.specs.Views.{Opening, resting, View, split_view, spent_view}
+use Rattle.modbus_store.specs.Lock.{tickets_of, numbers_of, IsServing, HasTicket, LockAccount, NumberFits, Fits, Kept}
+use Rattle.modbus_store.specs.Plays.{Mine, longer, joined_view, with_ticket, LoadedDrawn}
 use Rattle.modbus_store.specs.Events.{KeptWith, Leads, AddsCall, LeavesHistory}
 use Rattle.modbus_store.proofs.Lists.{in_range, total-snoc}
 use Rattle.modbus_store.proofs.Histories.{legal-front, starts_whole, starts_none, front_of_front, calls_between}
@@ -26,7 +26,7 @@ module _ (o : Opening) where
       let is : r ≡ a.seats = ap (λ (ws : List ℕ). get_or ws 3 0) k.words_are in
       let f = k.each id v at in
       let few = k.few in
-      let w = drew r v in (
+      let w = with_ticket r v in (
         w,
         keeps,
         tt,
@@ -53,7 +53,7 @@ module _ (o : Opening) where
         ),
       )
     where
-      number_of : (a : Account) (id r : ℕ) (v : View) (x : Option ℕ) → NumberFits o a id v x → NumberFits o a id (drew r v) x
+      number_of : (a : LockAccount) (id r : ℕ) (v : View) (x : Option ℕ) → NumberFits o a id v x → NumberFits o a id (with_ticket r v) x
       number_of a id r v None g = g
       number_of a id r v (Some n) g = g
 
@@ -61,12 +61,12 @@ module _ (o : Opening) where
   loads slots id me = allowed o slots id me 3 (λ x. x) (LoadedDrawn (step slots 3 0 0 core.none) me) (λ log. log) (λ log. loads_with log slots id me)
 
   -- STEP 8
-  pub splits_with : (log : List Call) (id : ℕ) (v : View) (n : ℕ) → v.live ≡ true → v.number ≡ Some n → Splits (KeptWith o log) id v v (copied v)
+  pub splits_with : (log : List Call) (id : ℕ) (v : View) (n : ℕ) → v.live ≡ true → v.number ≡ Some n → Splits (KeptWith o log) id v v (split_view v)
   splits_with log id v n live some s with_log at =
       let k = with_log.0 in
       let a = k.a in
       let f = k.each id v at in
-      let w = copied v in
+      let w = split_view v in
       let views = s.views ++ w ∷ [] in
       let nobody : (j : ℕ) (u : View) → get_elem? s.views j ≡ core.some u → u.first ≡ true → ⊥ = λ j u e t.
       let g = k.each j u e in let one = (g.alone t).0 in let p = in_range s.views j u e in let q = in_range s.views id v at in
@@ -91,36 +91,36 @@ module _ (o : Opening) where
       } in
       subst (λ (vs : List View). KeptWith o log record { words = s.words; homes = s.homes; views = vs ++ w ∷ [] }) (sym (set_again s.views id v at)) (kept, with_log.1)
 
-  pub splits : (id : ℕ) (v : View) (n : ℕ) → v.live ≡ true → v.number ≡ Some n → Splits (Kept o) id v v (copied v)
+  pub splits : (id : ℕ) (v : View) (n : ℕ) → v.live ≡ true → v.number ≡ Some n → Splits (Kept o) id v v (split_view v)
   splits id v n live some s k at = (splits_with k.a.log id v n live some s (k, refl) at).0
 
   -- STEP 9
-  module _ (a : Account) (v w : View) (seen_v : StartsWith a.log v.seen) (seen_w : StartsWith a.log w.seen) where
+  module _ (a : LockAccount) (v w : View) (seen_v : StartsWith a.log v.seen) (seen_w : StartsWith a.log w.seen) where
     -- by which of the two lists is longer
     glued_lists : (b : Bool) → nat_lt (length v.seen) (length w.seen) ≡ b
         → StartsWith a.log (cond b w.seen v.seen) × StartsWith (cond b w.seen v.seen) v.seen × StartsWith (cond b w.seen v.seen) w.seen
     glued_lists true e = let l : length v.seen < length w.seen = grind arith in (seen_w, front_of_front a.log v.seen w.seen seen_v seen_w (omega arith), starts_whole w.seen)
     glued_lists false e = let l : length w.seen ≤ length v.seen = grind arith in (seen_v, starts_whole v.seen, front_of_front a.log w.seen v.seen seen_w seen_v l)
 
-    glued_number : (id : ℕ) (x : Option ℕ) → NumberFits o a id v x → NumberFits o a id (glued v w) x
+    glued_number : (id : ℕ) (x : Option ℕ) → NumberFits o a id v x → NumberFits o a id (joined_view v w) x
     glued_number id None g = g
     glued_number id (Some n) g = let h = glued_lists (nat_lt (length v.seen) (length w.seen)) refl in
         (g.0, g.1, g.2, calls_between n a.log v.seen (longer v.seen w.seen) h.0 h.1 (g.2 ∙ sym g.3) ∙ g.3)
 
-  spends : (log : List Call) (s : St) → KeptWith o log s → (other : ℕ) (w : View) → get_elem? s.views other ≡ core.some w → w.stage ≡ resting → KeptWith o log record { words = s.words; homes = s.homes; views = set s.views other spent }
+  spends : (log : List Call) (s : St) → KeptWith o log s → (other : ℕ) (w : View) → get_elem? s.views other ≡ core.some w → w.stage ≡ resting → KeptWith o log record { words = s.words; homes = s.homes; views = set s.views other spent_view }
   spends log s kept other w there rests =
       let k = kept.0 in
       let a = k.a in
-      rebuilt o s k other w spent there a log kept.1 k.bells s.words s.homes k.words_are k.few k.legal k.unused (omega (arith, ap tickets_of rests)) (omega arith) (λ j u _ e p. p)
+      rebuilt o s k other w spent_view there a log kept.1 k.bells s.words s.homes k.words_are k.few k.legal k.unused (omega (arith, ap tickets_of rests)) (omega arith) (λ j u _ e p. p)
       record { same = λ e. absurd (off e); alone = λ e. absurd (off e); number = (refl, refl); seen = starts_none a.log; drawn = omega arith; joined = (([], refl), ([], refl)); stage = tt }
-      (held_as o s k other w spent there (λ t (x : HasTicket t w.stage). subst (HasTicket t) rests x))
-      (⊎_elim (λ p. inl p) (λ p. inr (p.0, p.1, serving_stays s.views other (a.holder a.served) w spent there (λ x. subst IsServing rests x) p.2)) k.placed)
+      (held_as o s k other w spent_view there (λ t (x : HasTicket t w.stage). subst (HasTicket t) rests x))
+      (⊎_elim (λ p. inl p) (λ p. inr (p.0, p.1, serving_stays s.views other (a.holder a.served) w spent_view there (λ x. subst IsServing rests x) p.2)) k.placed)
 
-  pub joins_with : (log : List Call) (id : ℕ) (v : View) (other : ℕ) (w : View) → w.stage ≡ resting → Joins (KeptWith o log) id v other w (glued v w) spent
+  pub joins_with : (log : List Call) (id : ℕ) (v : View) (other : ℕ) (w : View) → w.stage ≡ resting → Joins (KeptWith o log) id v other w (joined_view v w) spent_view
   joins_with log id v other w rests s kept at apart there =
       let k = kept.0 in
       let a = k.a in
-      let both = glued v w in
+      let both = joined_view v w in
       let f = k.each id v at in
       let was : get_elem? s.views other ≡ core.some w = ⊎_elim (λ (t : (other ≡ id) × (both ≡ w)). absurd (apart t.0)) (λ (t : (other ≢ id) × (get_elem? s.views other ≡ core.some w)). t.1) (at_set s.views id other both w there) in
       let g = k.each other w was in
@@ -132,7 +132,7 @@ module _ (o : Opening) where
       (⊎_elim (λ p. inl p) (λ p. inr (p.0, p.1, serving_stays s.views id (a.holder a.served) v both at (λ x. x) p.2)) k.placed) in
       spends log record { words = s.words; homes = s.homes; views = set s.views id both } first other w there rests
 
-  pub joins : (id : ℕ) (v : View) (other : ℕ) (w : View) → w.stage ≡ resting → Joins (Kept o) id v other w (glued v w) spent
+  pub joins : (id : ℕ) (v : View) (other : ℕ) (w : View) → w.stage ≡ resting → Joins (Kept o) id v other w (joined_view v w) spent_view
   joins id v other w rests s k at apart there = (joins_with k.a.log id v other w rests s (k, refl) at apart there).0
 
 -- THE EVENT

@@ -11,10 +11,10 @@ use Rattle.modbus_store.specs.Tables.{Tables}
 use Rattle.modbus_store.specs.Legal.{Call, answer_to, tables_after, replay, IsLegal, calls_by}
 use Rattle.modbus_store.specs.Views.{View, resting, waiting, serving}
 use Rattle.modbus_store.specs.Lock.{Records, Holds, opening_of}
-use Rattle.modbus_store.specs.Plays.{Mine, staged, known_of, counted, GotTurn, LookedServing}
+use Rattle.modbus_store.specs.Plays.{Mine, with_stage, known_of, with_call_counted, GotTurn, LookedServing}
 use Rattle.modbus_store.specs.Passes.{Pass}
 use Rattle.modbus_store.specs.Events.{AddsNoCall}
-use Rattle.modbus_store.specs.Turns.{Rests, Ripe, TookTurn, Extends, Serves}
+use Rattle.modbus_store.specs.Turns.{IsAtRest, Ripe, TookTurn, ExtendsView, ServesCall}
 use Rattle.modbus_store.proofs.Histories.{replay-append, legal-append, calls_by_mine, none_between}
 
 -- the value that a store begins with goes with no calls
@@ -29,7 +29,7 @@ abbrev look : Step (Option Stored)
 look = step 1 1 0 0 none
 
 -- the load that finds one's ticket gives the turn
-pub hits : (m me m' : Mine) (r ticket t : ℕ) → ticket ≡ t % 2 ^ 64 → me ≡ (staged (waiting t) m.0, m.1) → r ≡ ticket → LookedServing look me r m' → GotTurn (staged (waiting t) m.0, m.1) m'
+pub hits : (m me m' : Mine) (r ticket t : ℕ) → ticket ≡ t % 2 ^ 64 → me ≡ (with_stage (waiting t) m.0, m.1) → r ≡ ticket → LookedServing look me r m' → GotTurn (with_stage (waiting t) m.0, m.1) m'
 hits m me m' r ticket t low is same told = (subst (λ (x : Mine). LookedServing look x r m') is told).0 (same ∙ low)
 
 pub holds_value : (m m' : Mine) → GotTurn m m' → (x : Option Stored) × (m'.1 ≡ (0, x) ∷ rest m'.1)
@@ -42,17 +42,17 @@ head_value d (x ∷ xs) = x.1
 some_same : (x y : Stored) → ◌≡◌ {A = Option Stored} (Some x) (Some y) → x ≡ y
 some_same x y e = cc
 
-pub took : (n t : ℕ) (m m' m'' : Mine) (x : Option Stored) (y : Stored) → Rests n m → GotTurn (staged (waiting t) m.0, m.1) m' → m'.1 ≡ (0, x) ∷ rest m'.1 → m'' ≡ (m'.0, (0, None) ∷ rest m'.1) → x ≡ Some y → TookTurn n m m'' y
+pub took : (n t : ℕ) (m m' m'' : Mine) (x : Option Stored) (y : Stored) → IsAtRest n m → GotTurn (with_stage (waiting t) m.0, m.1) m' → m'.1 ≡ (0, x) ∷ rest m'.1 → m'' ≡ (m'.0, (0, None) ∷ rest m'.1) → x ≡ Some y → TookTurn n m m'' y
 took n t m m' m'' x y rests got has after is =
     let v = m.0 in
     let slots : m'.1 ≡ (0, Some got.1) ∷ m.1 = ap (λ (z : Mine). z.1) got.2 in
     let value : Some y ≡ Some got.1 = sym is ∙ (ap (head_value None) (sym has ∙ slots)) in
     let same : y ≡ got.1 = some_same y got.1 value in
     let empty : rest m'.1 ≡ [] = ap rest slots ∙ rests.2 in
-    let view : m'.0 ≡ staged (serving t got.0) v = ap (λ (z : Mine). z.0) got.2 in
+    let view : m'.0 ≡ with_stage (serving t got.0) v = ap (λ (z : Mine). z.0) got.2 in
     let log : got.0 ≡ known_of m''.0.stage = sym (ap (λ (z : Mine). known_of z.0.stage) after ∙ ap (λ (z : View). known_of z.stage) view) in
-    let named : m'.0 ≡ staged (serving t (known_of m''.0.stage)) v = view ∙ ap (λ l. staged (serving t l) v) log in
-    let whole : m'' ≡ (staged (serving t (known_of m''.0.stage)) v, (0, None) ∷ []) = after ∙ (λ i. (named i, (0, None) ∷ empty i)) in
+    let named : m'.0 ≡ with_stage (serving t (known_of m''.0.stage)) v = view ∙ ap (λ l. with_stage (serving t l) v) log in
+    let whole : m'' ≡ (with_stage (serving t (known_of m''.0.stage)) v, (0, None) ∷ []) = after ∙ (λ i. (named i, (0, None) ∷ empty i)) in
     let own = got.6 n rests.0.1 in (
       t,
       whole,
@@ -63,14 +63,14 @@ pub replay_one : (o : Tables) (t : Tables) (log : List Call) (c : Call) → t �
 replay_one o t log c is = ap (λ v. tables_after v c) is ∙ sym (replay-append o log (c ∷ []))
 
 -- the pass after its call
-pub extends : (c : Call) (m m' : Mine) (y : Stored) (w : View) → Rests c.number m → TookTurn c.number m m' y → c.outcome ≡ answer_to y.store c
-    → w ≡ staged resting (counted c m'.0) → Extends c m.0 w × (w.seen ≡ known_of m'.0.stage ++ c ∷ [])
+pub extends : (c : Call) (m m' : Mine) (y : Stored) (w : View) → IsAtRest c.number m → TookTurn c.number m m' y → c.outcome ≡ answer_to y.store c
+    → w ≡ with_stage resting (with_call_counted c m'.0) → ExtendsView c m.0 w × (w.seen ≡ known_of m'.0.stage ++ c ∷ [])
 extends c m m' y w rests took right is =
     let v = m.0 in
     let log = known_of m'.0.stage in
     let ripe = took.2 in
-    let view : m'.0 ≡ staged (serving took.0 log) v = ap (λ (z : Mine). z.0) took.1 in
-    let now : w ≡ record v { stage = resting; seen = log ++ c ∷ []; mine = v.mine ++ c ∷ [] } = is ∙ ap (λ (z : View). staged resting (counted c z)) view in
+    let view : m'.0 ≡ with_stage (serving took.0 log) v = ap (λ (z : Mine). z.0) took.1 in
+    let now : w ≡ record v { stage = resting; seen = log ++ c ∷ []; mine = v.mine ++ c ∷ [] } = is ∙ ap (λ (z : View). with_stage resting (with_call_counted c z)) view in
     let seen : w.seen ≡ log ++ c ∷ [] = ap (λ (z : View). z.seen) now in
     let mine : w.mine ≡ v.mine ++ c ∷ [] = ap (λ (z : View). z.mine) now in
     let others = ripe.2.0 in
@@ -104,7 +104,7 @@ records_more b h h' log c fits is = subst (λ x. Records b x (log ++ c ∷ [])) 
     grown false (Some l) f = f
 
 -- the value goes with the history that the view knows, once the call joined it
-pub holds_more : (v w : View) (y y' : Stored) (c : Call) → Holds v.opening (known_of v.stage) y → w ≡ counted c v → Serves y c y'
+pub holds_more : (v w : View) (y y' : Stored) (c : Call) → Holds v.opening (known_of v.stage) y → w ≡ with_call_counted c v → ServesCall y c y'
     → Holds w.opening (known_of w.stage) y'
 holds_more v w y y' c holds is done =
     let log = known_of v.stage in

@@ -8,11 +8,11 @@ use Rattle.modbus_store.specs.declared.lock.Stored.{Stored}
 use Rattle.modbus_service.specs.declared.service.ServiceError.{ServiceError}
 use Rattle.modbus_service.specs.declared.service.ServiceError.TheVariants.{NoMemory}
 use Rattle.modbus_store.specs.Legal.{Call, answer_to, replay, calls_by}
-use Rattle.modbus_store.specs.Views.{Opening, resting, waiting, serving, View, copied, spent}
+use Rattle.modbus_store.specs.Views.{Opening, resting, waiting, serving, View, split_view, spent_view}
 use Rattle.modbus_store.specs.Lock.{Holds, Kept}
 use Rattle.modbus_store.specs.Orderly.{Knows, IsOrderly}
 use Rattle.modbus_store.specs.Passes.{Pass}
-use Rattle.modbus_store.specs.Plays.{Mine, ticket_of, known_of, DrewNumber, DrewTicket, LookedServing, Counted, Advanced, LoadedDrawn, glued}
+use Rattle.modbus_store.specs.Plays.{Mine, ticket_of, known_of, DrewNumber, DrewTicket, LookedServing, CountsCall, Advanced, LoadedDrawn, joined_view}
 
 -- the rule of the lock holds, with this history
 abbrev pub KeptWith : Opening → List Call → State (Option Stored) View → Type 0
@@ -42,7 +42,7 @@ on i a b = step 1 i a b core.none
 abbrev pub AddsCall : Opening → List Call → ℕ → Mine → Type 0
 AddsCall o history id me = (c : Call) (t : ℕ) (known : List Call) → me.0.stage ≡ serving t known → me.0.number ≡ Some c.number → me.0.live ≡ true
     → c.outcome ≡ answer_to (replay me.0.opening.tables known) c → length known + 1 < 2 ^ 64
-    → Leads o history (history ++ c ∷ []) id me 2 one_more (Counted c (on 2 1 0) me)
+    → Leads o history (history ++ c ∷ []) id me 2 one_more (CountsCall c (on 2 1 0) me)
 
 -- Each other step leaves the history as it was.
 pub record LeavesHistory (o : Opening) (history : List Call) (id : ℕ) (me : Mine) : Type 0 where
@@ -57,8 +57,8 @@ pub record LeavesHistory (o : Opening) (history : List Call) (id : ℕ) (me : Mi
   pub loads : Leads o history history id me 3 (λ x. x) (LoadedDrawn (on 3 0 0) me)
   -- a step on a word that passes sleep on
   pub rings : (i : ℕ) (f : ℕ → ℕ) → 4 ≤ i → Leads o history history id me i f (λ r m. m ≡ me)
-  pub splits : (n : ℕ) → me.0.live ≡ true → me.0.number ≡ Some n → Splits (KeptWith o history) id me.0 me.0 (copied me.0)
-  pub joins : (other : ℕ) (w : View) → w.stage ≡ resting → Joins (KeptWith o history) id me.0 other w (glued me.0 w) spent
+  pub splits : (n : ℕ) → me.0.live ≡ true → me.0.number ≡ Some n → Splits (KeptWith o history) id me.0 me.0 (split_view me.0)
+  pub joins : (other : ℕ) (w : View) → w.stage ≡ resting → Joins (KeptWith o history) id me.0 other w (joined_view me.0 w) spent_view
 
 -- Where memory was refused the pass added no call: wherever the rule holds with the seat of this pass as it then is, the history has of its
 -- number the calls that the pass had made before, and no other.

@@ -41,10 +41,10 @@ abbrev pub StartsWith : List Call → List Call → Type 0
 StartsWith cs front = (rest : List Call) × (cs ≡ front ++ rest)
 
 -- a call without its outcome
-pub record Asking : Type 0 where
+pub record CallAsked : Type 0 where
   pub number : ℕ
   pub slave : ℕ
   pub asked : Asked
 
-abbrev pub asking_of : Call → Asking
+abbrev pub asking_of : Call → CallAsked
 asking_of c = record { number = c.number; slave = c.slave; asked = c.asked }

@@ -2,7 +2,7 @@ pub mod Tables
 pub mod Opening
 pub mod Step
 pub mod Lent
-pub mod Planning
+pub mod Plan
 pub mod Legal
 pub mod Outcomes
 pub mod Views
@@ -10,6 +10,6 @@ pub mod Lock
 pub mod Plays
 pub mod Turns
 pub mod Passes
-pub mod Standing
+pub mod Stands
 pub mod Orderly
 pub mod Events

@@ -6,10 +6,10 @@ use lib.ListN.{get_elem?}
 use Rattle.atomic_table.specs.Table.{State}
 use Rattle.modbus_store.specs.declared.lock.Stored.{Stored}
 use Rattle.modbus_store.specs.Legal.{Call, replay, IsLegal, calls_by, StartsWith}
-use Rattle.modbus_store.specs.Views.{Opening, Stage, resting, waiting, serving, View}
+use Rattle.modbus_store.specs.Views.{Opening, CallStage, resting, waiting, serving, View}
 
 -- how many tickets a seat holds, and how many numbers it has: none or one
-abbrev pub tickets_of : Stage → ℕ
+abbrev pub tickets_of : CallStage → ℕ
 tickets_of resting = 0
 tickets_of (waiting t) = 1
 tickets_of (serving t known) = 1
@@ -28,19 +28,19 @@ tickets_in vs = total (λ (v : View). tickets_of v.stage) vs
 abbrev pub numbers_in : List View → ℕ
 numbers_in vs = total (λ (v : View). numbers_of v.number) vs
 
-abbrev pub IsServing : Stage → Type 0
+abbrev pub IsServing : CallStage → Type 0
 IsServing resting = ⊥
 IsServing (waiting t) = ⊥
 IsServing (serving t known) = Unit {0}
 
-abbrev pub HasTicket : ℕ → Stage → Type 0
+abbrev pub HasTicket : ℕ → CallStage → Type 0
 HasTicket t resting = ⊥
 HasTicket t (waiting own) = own ≡ t
 HasTicket t (serving own known) = own ≡ t
 
 -- What words and views come to: the calls of the history, how many tickets were drawn and served, how many numbers were drawn, and which
 -- seat has a number or a ticket
-pub record Account : Type 0 where
+pub record LockAccount : Type 0 where
   pub log : List Call
   pub drawn : ℕ
   pub served : ℕ
@@ -48,8 +48,8 @@ pub record Account : Type 0 where
   pub who : ℕ → ℕ
   pub holder : ℕ → ℕ
 
-abbrev pub words_of : Account → List ℕ → List ℕ
-words_of a bells = a.drawn % 2 ^ 64 ∷ a.served % 2 ^ 64 ∷ length a.log ∷ a.seats ∷ bells
+abbrev pub words_kept : LockAccount → List ℕ → List ℕ
+words_kept a bells = a.drawn % 2 ^ 64 ∷ a.served % 2 ^ 64 ∷ length a.log ∷ a.seats ∷ bells
 
 abbrev pub Homes : Type 0
 Homes = List (core.Option (Option Stored))
@@ -76,8 +76,8 @@ opening_of y = record { tables = y.store; recorded = is_some y.history }
 abbrev pub Holds : Opening → List Call → Stored → Type 0
 Holds o log y = (y.count ≡ length log) × Records o.recorded y.history log × (y.store ≡ replay o.tables log)
 
-module _ (o : Opening) (a : Account) where
-  abbrev pub StageFits : Homes → ℕ → Stage → Type 0
+module _ (o : Opening) (a : LockAccount) where
+  abbrev pub StageFits : Homes → ℕ → CallStage → Type 0
   StageFits homes j resting = Unit {0}
   StageFits homes j (waiting t) = (a.served ≤ t) × (t < a.drawn) × (a.holder t ≡ j)
   StageFits homes j (serving t known) = (t ≡ a.served) × (t < a.drawn) × (a.holder t ≡ j) × (known ≡ a.log) × (homes ≡ away)
@@ -108,9 +108,9 @@ module _ (o : Opening) (a : Account) where
   AllHeld views = (t : ℕ) → a.served ≤ t → t < a.drawn → (v : View) × (get_elem? views (a.holder t) ≡ core.some v) × HasTicket t v.stage
 
 pub record Kept (o : Opening) (s : State (Option Stored) View) : Type 0 where
-  pub a : Account
+  pub a : LockAccount
   pub bells : List ℕ
-  pub words_are : s.words ≡ words_of a bells
+  pub words_are : s.words ≡ words_kept a bells
   pub few : a.seats ≤ 2 ^ 32
   pub legal : IsLegal o.tables a.log
   pub unused : (n : ℕ) → a.seats ≤ n → calls_by n a.log ≡ []

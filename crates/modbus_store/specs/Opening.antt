@@ -18,10 +18,10 @@ abbrev pub zeros_of : Sizes → Bool → Tables
 zeros_of sizes broadcast = record { coils = replicate sizes.coils false; discrete_inputs = replicate sizes.discrete_inputs false; holding_registers = replicate sizes.holding_registers 0; input_registers = replicate sizes.input_registers 0; broadcast = broadcast }
 
 -- a store with these tables, and a bad size exactly where one does not fit
-abbrev pub Opens : Bool → Tables → Result Tables StoreError → Type 0
-Opens fit tables (Ok store) = IsTrue fit × (store ≡ tables)
-Opens fit tables (Err BadSize) = fit ≡ false
-Opens fit tables (Err NoMemory) = IsTrue fit
+abbrev pub OpensTables : Bool → Tables → Result Tables StoreError → Type 0
+OpensTables fit tables (Ok store) = IsTrue fit × (store ≡ tables)
+OpensTables fit tables (Err BadSize) = fit ≡ false
+OpensTables fit tables (Err NoMemory) = IsTrue fit
 
 -- an entry was set, or the address lies past the end and nothing changed
 abbrev pub Sets : {T E : Type 0} → Bool → T → T → Result (Unit {0}) E → T → Type 0

@@ -13,7 +13,7 @@ outcome_of (outcome.Response response) = said.reply response
 outcome_of (outcome.Exception code) = said.exception code
 
 -- the answer of a service that has an outcome
-abbrev pub answer_of : Outcome → Result (Option Response) ServiceError
-answer_of outcome.Silent = Ok None
-answer_of (outcome.Response response) = Ok (Some response)
-answer_of (outcome.Exception code) = Err (error.Exception code)
+abbrev pub result_of : Outcome → Result (Option Response) ServiceError
+result_of outcome.Silent = Ok None
+result_of (outcome.Response response) = Ok (Some response)
+result_of (outcome.Exception code) = Err (error.Exception code)

@@ -35,12 +35,12 @@ pub record IsInLine (pass : Pass) : Type 0 where
   pub own : calls_by pass.number pass.seen ≡ pass.mine
 
 -- the first pass
-abbrev pub opened : TableId → Opening → Pass
-opened table opening = record { table = table; opening = opening; number = 0; seen = []; mine = []; drawn = 0 }
+abbrev pub first_pass : TableId → Opening → Pass
+first_pass table opening = record { table = table; opening = opening; number = 0; seen = []; mine = []; drawn = 0 }
 
 -- One call with its outcome: the pass has then seen what it had seen, calls of others, and this call. So the answer is that of a store of
 -- one caller at this place of the one history.
-pub record Calls (old : Pass) (slave : ℕ) (asked : Asked) (outcome : Outcome) (new : Pass) : Type 0 where
+pub record CallsAsPass (old : Pass) (slave : ℕ) (asked : Asked) (outcome : Outcome) (new : Pass) : Type 0 where
   pub others : List Call
   pub seen : new.seen ≡ (old.seen ++ others) ++ call old.number slave asked outcome ∷ []
   pub apart : calls_by old.number others ≡ []
@@ -54,7 +54,7 @@ abbrev pub MayWant : Pass → ℕ → Asked → Type 0
 MayWant pass slave asked = Unit {0}
 
 abbrev pub caller : Answering Pass
-caller = steady Calls MayWant
+caller = steady CallsAsPass MayWant
 
 -- A pass that was split off has seen as much, has a number of its own, and made no call.
 pub record SplitsOff (old : Pass) (drawn : ℕ) (new : Pass) : Type 0 where

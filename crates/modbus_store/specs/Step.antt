@@ -9,29 +9,29 @@ use Rattle.modbus_frame.specs.Meaning as asked
 use Rattle.modbus_pdu.specs.Limits.{max_read_coils, max_write_coils, max_read_registers, max_write_registers, max_read_write_registers, max_fifo_count}
 use Rattle.modbus_service.specs.Outcome.{Outcome, silence, reply, exception}
 use Rattle.modbus_service.specs.Answering.{Answering, steady}
-use Rattle.modbus_store.specs.Tables.{Tables, entries, written, with_coils, with_registers}
+use Rattle.modbus_store.specs.Tables.{Tables, entries, with_entries, with_coils, with_registers}
 
 -- a count is one of 1 to the greatest
-abbrev pub counts : ℕ → ℕ → Bool
-counts most count = nat_le 1 count && nat_le count most
+abbrev pub is_quantity : ℕ → ℕ → Bool
+is_quantity most count = nat_le 1 count && nat_le count most
 
 -- so many entries from an address on are inside a table of this size
 abbrev pub inside : ℕ → ℕ → ℕ → Bool
 inside size address count = nat_le (address + count) size
 
 -- A bad count is told before a bad range; an exception changes nothing.
-abbrev pub checked : Bool → Bool → Outcome × Tables → Tables → Outcome × Tables
-checked count range done tables =
+abbrev pub if_in_bounds : Bool → Bool → Outcome × Tables → Tables → Outcome × Tables
+if_in_bounds count range done tables =
     if count then (if range then done else (exception code.IllegalDataAddress, tables))
     else (exception code.IllegalDataValue, tables)
 
 -- where the AND mask has 1 the old bit stays, and elsewhere the OR mask's bit stands (section 6.16)
-abbrev pub masked : ℕ → ℕ → ℕ → ℕ
-masked and_mask or_mask word = bit_or (bit_and word and_mask) (bit_and or_mask (0xFFFF - and_mask))
+abbrev pub masked_word : ℕ → ℕ → ℕ → ℕ
+masked_word and_mask or_mask word = bit_or (bit_and word and_mask) (bit_and or_mask (0xFFFF - and_mask))
 
 -- the bounds of a read and a write
 abbrev pub both_count : ℕ → ℕ → Bool
-both_count n m = counts max_read_registers n && counts max_read_write_registers m
+both_count n m = is_quantity max_read_registers n && is_quantity max_read_write_registers m
 
 abbrev pub both_inside : ℕ → ℕ → ℕ → ℕ → ℕ → Bool
 both_inside size a n b m = inside size a n && inside size b m
@@ -48,34 +48,34 @@ queue a registers = entries (a + 1) (queue_count a registers) registers
 
 -- An address outside the table is told first, then a count above the greatest, and then registers outside the table.
 abbrev pub queue_checked : ℕ → List ℕ → Outcome × Tables → Tables → Outcome × Tables
-queue_checked a registers done tables = checked true (inside (length registers) a 1)
-    (checked (is_queue_count (queue_count a registers)) (inside (length registers) (a + 1) (queue_count a registers)) done tables) tables
+queue_checked a registers done tables = if_in_bounds true (inside (length registers) a 1)
+    (if_in_bounds (is_queue_count (queue_count a registers)) (inside (length registers) (a + 1) (queue_count a registers)) done tables) tables
 
 -- what a request does, whatever its slave
 unfoldable pub step_of : Tables → Asked → Outcome × Tables
-step_of t (asked.ReadCoils a n) = checked (counts max_read_coils n) (inside (length t.coils) a n)
+step_of t (asked.ReadCoils a n) = if_in_bounds (is_quantity max_read_coils n) (inside (length t.coils) a n)
     (reply (response.ReadCoils (entries a n t.coils)), t) t
-step_of t (asked.ReadDiscreteInputs a n) = checked (counts max_read_coils n) (inside (length t.discrete_inputs) a n)
+step_of t (asked.ReadDiscreteInputs a n) = if_in_bounds (is_quantity max_read_coils n) (inside (length t.discrete_inputs) a n)
     (reply (response.ReadDiscreteInputs (entries a n t.discrete_inputs)), t) t
-step_of t (asked.ReadHoldingRegisters a n) = checked (counts max_read_registers n) (inside (length t.holding_registers) a n)
+step_of t (asked.ReadHoldingRegisters a n) = if_in_bounds (is_quantity max_read_registers n) (inside (length t.holding_registers) a n)
     (reply (response.ReadHoldingRegisters (entries a n t.holding_registers)), t) t
-step_of t (asked.ReadInputRegisters a n) = checked (counts max_read_registers n) (inside (length t.input_registers) a n)
+step_of t (asked.ReadInputRegisters a n) = if_in_bounds (is_quantity max_read_registers n) (inside (length t.input_registers) a n)
     (reply (response.ReadInputRegisters (entries a n t.input_registers)), t) t
-step_of t (asked.WriteSingleCoil a coil) = checked true (inside (length t.coils) a 1)
-    (reply (response.WriteSingleCoil a coil), with_coils t (written a (coil ∷ []) t.coils)) t
-step_of t (asked.WriteSingleRegister a word) = checked true (inside (length t.holding_registers) a 1)
-    (reply (response.WriteSingleRegister a word), with_registers t (written a (word ∷ []) t.holding_registers)) t
-step_of t (asked.WriteMultipleCoils a coils) = checked (counts max_write_coils (length coils)) (inside (length t.coils) a (length coils))
-    (reply (response.WriteMultipleCoils a (length coils)), with_coils t (written a coils t.coils)) t
-step_of t (asked.WriteMultipleRegisters a words) = checked (counts max_write_registers (length words)) (inside (length t.holding_registers) a (length words))
-    (reply (response.WriteMultipleRegisters a (length words)), with_registers t (written a words t.holding_registers)) t
-step_of t (asked.MaskWriteRegister a and_mask or_mask) = checked true (inside (length t.holding_registers) a 1) (
+step_of t (asked.WriteSingleCoil a coil) = if_in_bounds true (inside (length t.coils) a 1)
+    (reply (response.WriteSingleCoil a coil), with_coils t (with_entries a (coil ∷ []) t.coils)) t
+step_of t (asked.WriteSingleRegister a word) = if_in_bounds true (inside (length t.holding_registers) a 1)
+    (reply (response.WriteSingleRegister a word), with_registers t (with_entries a (word ∷ []) t.holding_registers)) t
+step_of t (asked.WriteMultipleCoils a coils) = if_in_bounds (is_quantity max_write_coils (length coils)) (inside (length t.coils) a (length coils))
+    (reply (response.WriteMultipleCoils a (length coils)), with_coils t (with_entries a coils t.coils)) t
+step_of t (asked.WriteMultipleRegisters a words) = if_in_bounds (is_quantity max_write_registers (length words)) (inside (length t.holding_registers) a (length words))
+    (reply (response.WriteMultipleRegisters a (length words)), with_registers t (with_entries a words t.holding_registers)) t
+step_of t (asked.MaskWriteRegister a and_mask or_mask) = if_in_bounds true (inside (length t.holding_registers) a 1) (
   reply (response.MaskWriteRegister a and_mask or_mask),
-  with_registers t (written a (masked and_mask or_mask (slice_index t.holding_registers a) ∷ []) t.holding_registers),
+  with_registers t (with_entries a (masked_word and_mask or_mask (slice_index t.holding_registers a) ∷ []) t.holding_registers),
 ) t
-step_of t (asked.ReadWriteMultipleRegisters a n b words) = checked (both_count n (length words))
+step_of t (asked.ReadWriteMultipleRegisters a n b words) = if_in_bounds (both_count n (length words))
     (both_inside (length t.holding_registers) a n b (length words))
-    (reply (response.ReadWriteMultipleRegisters (entries a n (written b words t.holding_registers))), with_registers t (written b words t.holding_registers)) t
+    (reply (response.ReadWriteMultipleRegisters (entries a n (with_entries b words t.holding_registers))), with_registers t (with_entries b words t.holding_registers)) t
 step_of t (asked.ReadFifoQueue a) = queue_checked a t.holding_registers (reply (response.ReadFifoQueue (queue a t.holding_registers)), t) t
 step_of t _ = (exception code.IllegalFunction, t)
 

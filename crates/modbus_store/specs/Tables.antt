@@ -14,8 +14,8 @@ abbrev pub entries : {A : Type 0} → ℕ → ℕ → List A → List A
 entries address count table = take count (drop address table)
 
 -- the table with these entries from an address on; all others stay
-abbrev pub written : {A : Type 0} → ℕ → List A → List A → List A
-written address values table = take address table ++ values ++ drop (address + length values) table
+abbrev pub with_entries : {A : Type 0} → ℕ → List A → List A → List A
+with_entries address values table = take address table ++ values ++ drop (address + length values) table
 
 -- the tables with other coils, with other holding registers
 abbrev pub with_coils : Tables → List Bool → Tables

@@ -5,9 +5,9 @@ use Rattle.atomic_table.specs.Seated.{TableId}
 use Rattle.modbus_store.specs.declared.lock.Stored.{Stored}
 use Rattle.modbus_store.specs.declared.turn.Filed.{Filed}
 use Rattle.modbus_store.specs.Legal.{Call, answer_to, tables_after, replay, IsLegal, calls_by, StartsWith}
-use Rattle.modbus_store.specs.Views.{resting, serving, View, copied}
+use Rattle.modbus_store.specs.Views.{resting, serving, View, split_view}
 use Rattle.modbus_store.specs.Lock.{Holds}
-use Rattle.modbus_store.specs.Plays.{Mine, staged, known_of, numbered}
+use Rattle.modbus_store.specs.Plays.{Mine, with_stage, known_of, with_number}
 
 -- a table of the lock's size
 abbrev pub IsDesk : TableId → Type 0
@@ -17,8 +17,8 @@ abbrev pub IsNumbered : ℕ → View → Type 0
 IsNumbered n v = (v.live ≡ true) × (v.number ≡ Some n)
 
 -- the seat of a pass between two calls
-abbrev pub Rests : ℕ → Mine → Type 0
-Rests n m = IsNumbered n m.0 × (m.0.stage ≡ resting) × (m.1 ≡ [])
+abbrev pub IsAtRest : ℕ → Mine → Type 0
+IsAtRest n m = IsNumbered n m.0 × (m.0.stage ≡ resting) × (m.1 ≡ [])
 
 -- the value is what all calls of the history leave; the history is legal and begins with what was seen, and of this number it has the
 -- view's own calls
@@ -30,10 +30,10 @@ Ripe n v log y =
 -- the seat has the turn, and the value was taken out of its slot
 abbrev pub TookTurn : ℕ → Mine → Mine → Stored → Type 0
 TookTurn n m m' y =
-    (t : ℕ) × (m' ≡ (staged (serving t (known_of m'.0.stage)) m.0, (0, None) ∷ [])) × Ripe n m.0 (known_of m'.0.stage) y
+    (t : ℕ) × (m' ≡ (with_stage (serving t (known_of m'.0.stage)) m.0, (0, None) ∷ [])) × Ripe n m.0 (known_of m'.0.stage) y
 
-abbrev pub HasTurn : ℕ → List Call → Mine → Type 0
-HasTurn n log m = IsNumbered n m.0 × ((t : ℕ) × (m.0.stage ≡ serving t log)) × (m.1 ≡ (0, None) ∷ [])
+abbrev pub HasTurnOf : ℕ → List Call → Mine → Type 0
+HasTurnOf n log m = IsNumbered n m.0 × ((t : ℕ) × (m.0.stage ≡ serving t log)) × (m.1 ≡ (0, None) ∷ [])
 
 -- the call was answered as a store of one caller answers it here
 abbrev pub MayCount : List Call → Call → View → Type 0
@@ -41,19 +41,19 @@ MayCount log c v = (c.outcome ≡ answer_to (replay v.opening.tables log) c) × 
 
 -- the seat that was split off, with a number of its own
 abbrev pub IsGiven : ℕ → ℕ → View → Mine → Type 0
-IsGiven old n v m = (m ≡ (numbered n (copied v), [])) × (calls_by n v.seen ≡ []) × (old < n)
+IsGiven old n v m = (m ≡ (with_number n (split_view v), [])) × (calls_by n v.seen ≡ []) × (old < n)
 
 -- one call: the view has then seen what it had seen, calls of others, and this call. The whole is legal, and the view's calls in it are all
 -- that it made
-abbrev pub Extends : Call → View → View → Type 0
-Extends c v w =
+abbrev pub ExtendsView : Call → View → View → Type 0
+ExtendsView c v w =
     (w ≡ record v { seen = w.seen; mine = v.mine ++ c ∷ [] })
     × ((others : List Call) × (calls_by c.number others ≡ []) × (w.seen ≡ (v.seen ++ others) ++ c ∷ []))
     × IsLegal v.opening.tables w.seen
     × (calls_by c.number w.seen ≡ w.mine)
 
 -- the stored value after a call that was answered as a store of one caller answers it
-pub record Serves (old : Stored) (c : Call) (new : Stored) : Type 0 where
+pub record ServesCall (old : Stored) (c : Call) (new : Stored) : Type 0 where
   pub answer : c.outcome ≡ answer_to old.store c
   pub store : new.store ≡ tables_after old.store c
   pub count : new.count ≡ old.count + 1

@@ -9,11 +9,11 @@ pub record Opening : Type 0 where
   pub recorded : Bool
 
 -- Where a seat stands at the lock. Tickets count on past 2^64.
-pub data Stage : Type 0 where
-  resting : Stage
-  waiting : (ticket : ℕ) → Stage
+pub data CallStage : Type 0 where
+  resting : CallStage
+  waiting : (ticket : ℕ) → CallStage
   -- it has the turn, and knows the calls of the history
-  serving : (ticket : ℕ) → (known : List Call) → Stage
+  serving : (ticket : ℕ) → (known : List Call) → CallStage
 
 pub record View : Type 0 where
   -- a view that was joined to another is spent
@@ -22,7 +22,7 @@ pub record View : Type 0 where
   pub first : Bool
   pub opening : Opening
   pub number : Option ℕ
-  pub stage : Stage
+  pub stage : CallStage
   -- the calls that it has seen, and those that it made
   pub seen : List Call
   pub mine : List Call
@@ -41,9 +41,9 @@ abbrev pub newcomer : Opening → View
 newcomer o = fresh true true o []
 
 -- a seat that was split off
-abbrev pub copied : View → View
-copied v = fresh true false v.opening v.seen
+abbrev pub split_view : View → View
+split_view v = fresh true false v.opening v.seen
 
 -- what is left of a view that was joined to another
-abbrev pub spent : View
-spent = fresh false false (record { tables = record { coils = []; discrete_inputs = []; holding_registers = []; input_registers = []; broadcast = false }; recorded = false }) []
+abbrev pub spent_view : View
+spent_view = fresh false false (record { tables = record { coils = []; discrete_inputs = []; holding_registers = []; input_registers = []; broadcast = false }; recorded = false }) []

@@ -1,6 +1,6 @@
 //! What a request changes of the tables of a device.
 ghost use Rattle.std.specs.Prelude.{length};
-ghost use Rattle.modbus_store.specs.Tables.{written};
+ghost use Rattle.modbus_store.specs.Tables.{with_entries};
 ghost use Rattle.modbus_store.specs.Step.{inside};
 ghost use Rattle.modbus_store.specs.Opening.{Sets};
 
@@ -34,7 +34,7 @@ pub(crate) fn write_entries<T: Copy>(
     values: &[T],
 ) -> Result<(), OutOfRange>
     ensures { Sets (inside (length table.old) first (length values.now)) table.old
-        (written first values.now table.old) result table.new }
+        (with_entries first values.now table.old) result table.new }
 {
     if !is_inside(table.len(), first, values.len()) {
         return Err(OutOfRange);

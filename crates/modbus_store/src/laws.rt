@@ -7,7 +7,7 @@ ghost use Rattle.modbus_service.specs.Outcome.{reply_pdu};
 ghost use Rattle.modbus_store.specs.Tables.{Tables};
 ghost use Rattle.modbus_store.specs.Step.{store_step};
 ghost use Rattle.modbus_store.specs.declared.lock.Stored.{Stored};
-ghost use Rattle.modbus_store.specs.Legal.{Call, Asking, asking_of, IsLegal};
+ghost use Rattle.modbus_store.specs.Legal.{Call, CallAsked, asking_of, IsLegal};
 ghost use Rattle.modbus_store.specs.Views.{Opening, View};
 ghost use Rattle.modbus_store.specs.Lock.{Kept};
 ghost use Rattle.modbus_store.specs.Plays.{Mine};
@@ -26,7 +26,7 @@ pub fn answers_fit()
 
 /// Calls, each of a pass and a slave, have exactly one legal history from given tables: there is one, and there are no two.
 pub fn calls_have_one_history()
-    ensures is_there { (tables : Tables) (asked : List Asking)
+    ensures is_there { (tables : Tables) (asked : List CallAsked)
         → (history : List Call) × IsLegal tables history × (map asking_of history ≡ asked) }
     ensures is_one { (tables : Tables) (one other : List Call) → IsLegal tables one
         → IsLegal tables other → map asking_of one ≡ map asking_of other → one ≡ other }

@@ -22,11 +22,11 @@ pub(crate) struct Stored {
 pub(crate) struct View;
 
 impl Model for View {
-    ghost use Rattle.modbus_store.specs.Views.{View as Known, spent};
+    ghost use Rattle.modbus_store.specs.Views.{View as Known, spent_view};
 
     ghost Value = { Known };
 
-    ghost view = { λ _. spent };
+    ghost view = { λ _. spent_view };
 }
 
 /// The rule that holds between any two steps.
@@ -87,9 +87,9 @@ pub(crate) struct CountCall<E> {
 }
 
 impl<E: Adds> Play<Option<Stored>, View> for CountCall<E> {
-    ghost use Rattle.modbus_store.specs.Plays.{Counted};
+    ghost use Rattle.modbus_store.specs.Plays.{CountsCall};
 
-    ghost then = { Counted E.added };
+    ghost then = { CountsCall E.added };
 }
 
 /// Step 7: lets the next one in, and gives the slot back.
@@ -114,23 +114,23 @@ impl Play<Option<Stored>, View> for Ring {
 pub(crate) struct Copies;
 
 impl Split<View> for Copies {
-    ghost use Rattle.modbus_store.specs.Views.{copied};
+    ghost use Rattle.modbus_store.specs.Views.{split_view};
 
     ghost left = { λ v. v };
 
-    ghost right = { copied };
+    ghost right = { split_view };
 }
 
 /// Step 9: a seat takes in what another has seen.
 pub(crate) struct Glues;
 
 impl Join<View> for Glues {
-    ghost use Rattle.modbus_store.specs.Views.{spent};
-    ghost use Rattle.modbus_store.specs.Plays.{glued};
+    ghost use Rattle.modbus_store.specs.Views.{spent_view};
+    ghost use Rattle.modbus_store.specs.Plays.{joined_view};
 
-    ghost both = { glued };
+    ghost both = { joined_view };
 
-    ghost spent = { spent };
+    ghost spent = { spent_view };
 }
 
 /// Step 10: loads how many numbers were drawn.

@@ -1,7 +1,7 @@
 //! The outcome of a call.
 ghost use Rattle.std.specs.Prelude.{◌≡◌, IfOk};
-ghost use Rattle.modbus_store.specs.Outcomes.{outcome_of, answer_of};
-ghost use Rattle.modbus_store.specs.Planning.{told};
+ghost use Rattle.modbus_store.specs.Outcomes.{outcome_of, result_of};
+ghost use Rattle.modbus_store.specs.Plan.{outcome_planned};
 
 use modbus_frame::{ExceptionCode, Response};
 use modbus_service::ServiceError;
@@ -32,7 +32,7 @@ impl Outcome {
 
     /// The outcome of a response; a broadcast has none.
     pub(crate) fn of(response: Option<Response>) -> Outcome
-        ensures { outcome_of result ≡ told response }
+        ensures { outcome_of result ≡ outcome_planned response }
     {
         match response {
             Some(response) => Outcome::Response(response),
@@ -42,7 +42,7 @@ impl Outcome {
 
     /// The answer of a service with this outcome.
     pub(crate) fn into_answer(self) -> Result<Option<Response>, ServiceError>
-        ensures { result ≡ answer_of self }
+        ensures { result ≡ result_of self }
     {
         match self {
             Outcome::Silent => Ok(None),

@@ -22,11 +22,11 @@ impl Model for StorePass {
 
     ghost Value = { Pass };
 
-    ghost use Rattle.modbus_store.specs.Standing.{pass_of, Stands};
+    ghost use Rattle.modbus_store.specs.Stands.{pass_of, StandsInside};
 
     ghost view = { pass_of };
 
-    ghost invariant = { Stands };
+    ghost invariant = { StandsInside };
 }
 
 impl StorePass {
@@ -62,7 +62,7 @@ impl Model for LastTurn {
 
     ghost Value = { Pass };
 
-    ghost use Rattle.modbus_store.specs.Standing.{last_of, IsLast};
+    ghost use Rattle.modbus_store.specs.Stands.{last_of, IsLast};
 
     ghost view = { last_of };
 

@@ -1,8 +1,8 @@
 //! A request in two parts: its plan, which takes all memory and changes nothing, and its change, which takes none.
 ghost use Rattle.std.specs.Prelude.{◌≡◌};
 ghost use Rattle.modbus_frame.specs.Meaning.{meaning};
-ghost use Rattle.modbus_store.specs.Step.{masked};
-ghost use Rattle.modbus_store.specs.Planning.{Plans, Steps, changed};
+ghost use Rattle.modbus_store.specs.Step.{masked_word};
+ghost use Rattle.modbus_store.specs.Plan.{Plans, Steps, tables_after};
 
 use crate::bounds::{check_count, check_range};
 use crate::change::{Change, write_entries};
@@ -28,7 +28,7 @@ pub struct Planned<'a> {
 pub(crate) trait Target<'a> {
     ghost use Rattle.modbus_store.specs.Tables.{Tables};
     ghost use Rattle.modbus_store.specs.declared.change.Change.TheVariants as change;
-    ghost use Rattle.modbus_store.specs.Planning.{changed};
+    ghost use Rattle.modbus_store.specs.Plan.{tables_after};
 
     ghost tables: { Self → Tables };
 
@@ -56,21 +56,21 @@ pub(crate) trait Target<'a> {
 
     /// Takes in one coil.
     fn set_coil(&mut self, address: Address, coil: Coil)
-        ensures { becomes self.old (changed (tables self.old) (change.Coil address coil)) self.new };
+        ensures { becomes self.old (tables_after (tables self.old) (change.Coil address coil)) self.new };
 
     /// Takes in coils one after another.
     fn set_coils(&mut self, first: Address, coils: &'a [Coil])
-        ensures { becomes self.old (changed (tables self.old) (change.Coils first coils.entry))
+        ensures { becomes self.old (tables_after (tables self.old) (change.Coils first coils.entry))
             self.new };
 
     /// Takes in one holding register.
     fn set_register(&mut self, address: Address, word: Word)
-        ensures { becomes self.old (changed (tables self.old) (change.Register address word))
+        ensures { becomes self.old (tables_after (tables self.old) (change.Register address word))
             self.new };
 
     /// Takes in holding registers one after another.
     fn set_registers(&mut self, first: Address, words: &'a [Word])
-        ensures { becomes self.old (changed (tables self.old) (change.Registers first words.entry))
+        ensures { becomes self.old (tables_after (tables self.old) (change.Registers first words.entry))
             self.new };
 }
 
@@ -134,11 +134,11 @@ struct Draft<'s, 'a> {
 
 impl<'s, 'a> Target<'a> for Draft<'s, 'a> {
     ghost use Rattle.std.specs.Prelude.{◌≡◌};
-    ghost use Rattle.modbus_store.specs.Planning.{changed};
+    ghost use Rattle.modbus_store.specs.Plan.{tables_after};
 
     ghost tables = { λ draft. draft.store.now };
 
-    ghost becomes = { λ old after new. changed old.store.now new.change ≡ after };
+    ghost becomes = { λ old after new. tables_after old.store.now new.change ≡ after };
 
     #[inline(always)]
     fn coils(&self) -> &[Coil] {
@@ -228,7 +228,7 @@ impl RegisterStore {
 
     /// Makes a change, as `plan` told it. One that reaches past the end of its table changes nothing. It takes no memory.
     pub fn commit(&mut self, change: Change<'_>)
-        ensures { self.new ≡ changed self.old change.entry }
+        ensures { self.new ≡ tables_after self.old change.entry }
     {
         match change {
             Change::Nothing => {}
@@ -329,7 +329,7 @@ pub(crate) fn step<'a, T: Target<'a>>(
 
 /// A register with the bits changed where the AND mask has 0, to those of the OR mask (section 6.16).
 fn mask_word(word: Word, and_mask: Word, or_mask: Word) -> Word
-    ensures { result ≡ masked and_mask or_mask word }
+    ensures { result ≡ masked_word and_mask or_mask word }
 {
     (word & and_mask) | (or_mask & !and_mask)
 }

@@ -1,7 +1,7 @@
 //! What a request reads of the tables (Modbus Application Protocol V1.1b3, section 6).
 ghost use Rattle.std.specs.Prelude.{◌≡◌, ◌≤◌, ◌+◌, ◌<◌, ℕ, Bool, List, Ok, Err, length, slice_index};
-ghost use Rattle.modbus_store.specs.Tables.{entries, written};
-ghost use Rattle.modbus_store.specs.Planning.{ReadsAs, ReadsAfter, ReadsQueue};
+ghost use Rattle.modbus_store.specs.Tables.{entries, with_entries};
+ghost use Rattle.modbus_store.specs.Plan.{ReadsAs, ReadsAfter, ReadsQueue};
 
 use crate::bounds::{check_both, check_count, check_range};
 use modbus_frame::{Address, ExceptionCode, Quantity, Word};
@@ -30,7 +30,7 @@ pub(crate) fn read_entries<T: Copy>(
 /// A register as it is after words were written from a place on.
 fn register_after(table: &[Word], first: usize, words: &[Word], place: usize) -> Word
     requires { (first + length words.now ≤ length table.now) × (place < length table.now) }
-    ensures { result ≡ slice_index (written first words.now table.now) place }
+    ensures { result ≡ slice_index (with_entries first words.now table.now) place }
 {
     if first <= place && place < first + words.len() {
         words[place - first]

@@ -54,9 +54,9 @@ impl<'t, R> SharedStore<'t, R> {
 }
 
 impl<'t, R: Wait> Service for SharedStore<'t, R> {
-    ghost use Rattle.modbus_store.specs.Passes.{Calls, MayWant};
+    ghost use Rattle.modbus_store.specs.Passes.{CallsAsPass, MayWant};
 
-    ghost answers = { Calls };
+    ghost answers = { CallsAsPass };
 
     ghost takes_memory = { MayWant };
 

@@ -2,11 +2,11 @@
 ghost use Rattle.std.specs.Prelude.{◌≡◌, true, ◌∷◌, [], ◌^◌, ◌<◌, ◌≤◌, None, IfSome, IfNone, MatchBool};
 ghost use Rattle.modbus_frame.specs.Meaning.{meaning};
 ghost use Rattle.modbus_store.specs.Outcomes.{outcome_of};
-ghost use Rattle.modbus_store.specs.Views.{resting, copied};
-ghost use Rattle.modbus_store.specs.Plays.{staged, counted, known_of, glued, drew, numbered};
+ghost use Rattle.modbus_store.specs.Views.{resting, split_view};
+ghost use Rattle.modbus_store.specs.Plays.{with_stage, with_call_counted, known_of, joined_view, with_ticket, with_number};
 ghost use Rattle.modbus_store.specs.Legal.{call, calls_by, IsLegal, StartsWith};
 ghost use Rattle.modbus_store.specs.Lock.{Holds};
-ghost use Rattle.modbus_store.specs.Turns.{IsDesk, IsNumbered, Rests, TookTurn, HasTurn, MayCount, IsGiven};
+ghost use Rattle.modbus_store.specs.Turns.{IsDesk, IsNumbered, IsAtRest, TookTurn, HasTurnOf, MayCount, IsGiven};
 
 use crate::lock::{
     Adds, Advance, Copies, CountCall, DrawNumber, DrawTicket, Glues, InTurn, LoadDrawn,
@@ -42,7 +42,7 @@ const MOST_PASSES: u64 = 1 << 32;
 /// Waits for the turn, and takes the value out of the slot.
 pub(crate) fn take_turn<R: Wait>(desk: &Desk, rt: &R, seat: &mut Spot, number: u32) -> Stored
     requires desk { (seat.old.table_id ≡ desk.now.table_id) × IsDesk desk.now.table_id }
-    requires rests { Rests number seat.old.me }
+    requires rests { IsAtRest number seat.old.me }
     ensures desk { seat.new.table_id ≡ seat.old.table_id }
     ensures turn { TookTurn number seat.old.me seat.new.me result }
 {
@@ -74,7 +74,7 @@ fn pause<R: Wait>(desk: &Desk, rt: &R, looks: &mut Looks, marked: Option<u64>)
 
 fn wait_turn<R: Wait>(desk: &Desk, rt: &R, seat: &mut Spot, number: u32) -> Stored
     requires desk { (seat.old.table_id ≡ desk.now.table_id) × IsDesk desk.now.table_id }
-    requires rests { Rests number seat.old.me }
+    requires rests { IsAtRest number seat.old.me }
     ensures desk { seat.new.table_id ≡ seat.old.table_id }
     ensures turn { TookTurn number seat.old.me seat.new.me result }
 {
@@ -95,10 +95,10 @@ fn wait_turn<R: Wait>(desk: &Desk, rt: &R, seat: &mut Spot, number: u32) -> Stor
 /// Puts the value back, ends the turn, and wakes who waits.
 pub(crate) fn leave(desk: &Desk, seat: &mut Spot, number: u32, stored: Stored)
     requires desk { (seat.old.table_id ≡ desk.now.table_id) × IsDesk desk.now.table_id }
-    requires turn { HasTurn number (known_of seat.old.me.0.stage) seat.old.me }
+    requires turn { HasTurnOf number (known_of seat.old.me.0.stage) seat.old.me }
     requires value { Holds seat.old.me.0.opening (known_of seat.old.me.0.stage) stored }
     ensures desk { seat.new.table_id ≡ seat.old.table_id }
-    ensures rests { seat.new.me ≡ (staged resting seat.old.me.0, []) }
+    ensures rests { seat.new.me ≡ (with_stage resting seat.old.me.0, []) }
 {
     let _ = number;
     drop(desk.exchange(seat, 0, Some(stored)));
@@ -116,10 +116,10 @@ fn count_as<E: Adds>(
     requires call { call number request.now.slave (meaning request.now.request)
         (outcome_of outcome.now) ≡ E.added }
     requires desk { (seat.old.table_id ≡ desk.now.table_id) × IsDesk desk.now.table_id }
-    requires turn { HasTurn number (known_of seat.old.me.0.stage) seat.old.me }
+    requires turn { HasTurnOf number (known_of seat.old.me.0.stage) seat.old.me }
     requires legal { MayCount (known_of seat.old.me.0.stage) E.added seat.old.me.0 }
     ensures desk { seat.new.table_id ≡ seat.old.table_id }
-    ensures counted { seat.new.me ≡ (counted E.added seat.old.me.0, seat.old.me.1) }
+    ensures counted { seat.new.me ≡ (with_call_counted E.added seat.old.me.0, seat.old.me.1) }
 {
     let _ = number;
     let _ = request;
@@ -136,13 +136,13 @@ pub(crate) fn count(
     outcome: &Outcome,
 )
     requires desk { (seat.old.table_id ≡ desk.now.table_id) × IsDesk desk.now.table_id }
-    requires turn { HasTurn number (known_of seat.old.me.0.stage) seat.old.me }
+    requires turn { HasTurnOf number (known_of seat.old.me.0.stage) seat.old.me }
     requires legal { MayCount (known_of seat.old.me.0.stage)
         (call number request.now.slave (meaning request.now.request) (outcome_of outcome.now))
         seat.old.me.0 }
     ensures desk { seat.new.table_id ≡ seat.old.table_id }
     ensures counted { seat.new.me ≡ (
-      counted
+      with_call_counted
           (call number request.now.slave (meaning request.now.request) (outcome_of outcome.now))
           seat.old.me.0,
       seat.old.me.1,
@@ -156,7 +156,7 @@ pub(crate) fn load_drawn(desk: &Desk, seat: &mut Spot, number: u32) -> u64
     requires desk { (seat.old.table_id ≡ desk.now.table_id) × IsDesk desk.now.table_id }
     requires number { IsNumbered number seat.old.me.0 }
     ensures desk { seat.new.table_id ≡ seat.old.table_id }
-    ensures drawn { seat.new.me ≡ (drew result seat.old.me.0, seat.old.me.1) }
+    ensures drawn { seat.new.me ≡ (with_ticket result seat.old.me.0, seat.old.me.1) }
     ensures within { (result ≤ 2 ^ 32) × (number < result) }
     ensures known { IsLegal seat.old.me.0.opening.tables seat.old.me.0.seen
         × (calls_by number seat.old.me.0.seen ≡ seat.old.me.0.mine) }
@@ -172,7 +172,7 @@ pub(crate) fn draw_number(desk: &Desk, seat: &mut Spot, number: u64) -> bool
     requires desk { (seat.old.table_id ≡ desk.now.table_id) × IsDesk desk.now.table_id }
     requires none { (seat.old.me.0.number ≡ None) × (number < 2 ^ 32) }
     ensures desk { seat.new.table_id ≡ seat.old.table_id }
-    ensures drawn { MatchBool result ((seat.new.me ≡ (numbered number seat.old.me.0, seat.old.me.1))
+    ensures drawn { MatchBool result ((seat.new.me ≡ (with_number number seat.old.me.0, seat.old.me.1))
         × (calls_by number seat.old.me.0.seen ≡ [])) (seat.new.me ≡ seat.old.me) }
     ensures first { seat.old.me.0.first ≡ true → number ≡ 0 → result ≡ true }
 {
@@ -184,7 +184,7 @@ fn copy(desk: &Desk, seat: &mut Spot, number: u32) -> Spot
     requires desk { (seat.old.table_id ≡ desk.now.table_id) × IsDesk desk.now.table_id }
     requires number { IsNumbered number seat.old.me.0 }
     ensures old { (seat.new.table_id ≡ seat.old.table_id) × (seat.new.me ≡ seat.old.me) }
-    ensures new { (result.table_id ≡ seat.old.table_id) × (result.me ≡ (copied seat.old.me.0, [])) }
+    ensures new { (result.table_id ≡ seat.old.table_id) × (result.me ≡ (split_view seat.old.me.0, [])) }
 {
     let _ = number;
     desk.split_seat::<Copies>(seat)
@@ -196,7 +196,7 @@ pub(crate) fn glue(desk: &Desk, seat: &mut Spot, other: Spot)
         × IsDesk desk.now.table_id }
     requires other { (other.me.0.stage ≡ resting) × (other.me.1 ≡ []) }
     ensures { (seat.new.table_id ≡ seat.old.table_id)
-        × (seat.new.me ≡ (glued seat.old.me.0 other.me.0, seat.old.me.1)) }
+        × (seat.new.me ≡ (joined_view seat.old.me.0 other.me.0, seat.old.me.1)) }
 {
     desk.join_seat::<Glues>(seat, other);
 }
@@ -209,9 +209,9 @@ pub(crate) fn split<R: Wait>(
     number: u32,
 ) -> (u64, Option<(Spot, u32)>)
     requires desk { (seat.old.table_id ≡ desk.now.table_id) × IsDesk desk.now.table_id }
-    requires rests { Rests number seat.old.me }
+    requires rests { IsAtRest number seat.old.me }
     ensures desk { seat.new.table_id ≡ seat.old.table_id }
-    ensures old { seat.new.me ≡ (drew result.0 seat.old.me.0, []) }
+    ensures old { seat.new.me ≡ (with_ticket result.0 seat.old.me.0, []) }
     ensures some { IfSome result.1 (λ t. (t.0.table_id ≡ seat.old.table_id)
         × IsGiven number t.1 seat.old.me.0 t.0.me × (result.0 ≡ t.1)) }
     ensures none { IfNone result.1 (result.0 ≡ 2 ^ 32) }

@@ -1,8 +1,8 @@
 //! The tables of a device, and what a request does to them.
 ghost use Rattle.std.specs.Prelude.{◌≡◌, ◌&&◌, [], ◌∷◌, length, slice_get, IfOk, Err};
 ghost use Rattle.modbus_frame.specs.Meaning.{meaning};
-ghost use Rattle.modbus_store.specs.Tables.{Tables, written, with_discrete_inputs, with_input_registers};
-ghost use Rattle.modbus_store.specs.Opening.{fits_table, zeros_of, Opens, Sets};
+ghost use Rattle.modbus_store.specs.Tables.{Tables, with_entries, with_discrete_inputs, with_input_registers};
+ghost use Rattle.modbus_store.specs.Opening.{fits_table, zeros_of, OpensTables, Sets};
 ghost use Rattle.modbus_service.specs.Answering.{Keeps};
 ghost use Rattle.modbus_store.specs.Step.{device, inside};
 
@@ -71,7 +71,7 @@ impl RegisterStore {
     /// # Errors
     /// `BadSize` exactly where a size is not 1 to 65536; else `NoMemory` where memory was refused.
     pub fn new(alloc: Global, sizes: Sizes, broadcast: bool) -> Result<RegisterStore, StoreError>
-        ensures { Opens (fits_table sizes.coils && fits_table sizes.discrete_inputs && fits_table
+        ensures { OpensTables (fits_table sizes.coils && fits_table sizes.discrete_inputs && fits_table
             sizes.holding_registers && fits_table sizes.input_registers) (zeros_of sizes broadcast)
             result }
     {
@@ -100,7 +100,7 @@ impl RegisterStore {
         input_registers: &[Word],
         broadcast: bool,
     ) -> Result<RegisterStore, StoreError>
-        ensures { Opens (fits_table (length coils.now) && fits_table (length discrete_inputs.now) &&
+        ensures { OpensTables (fits_table (length coils.now) && fits_table (length discrete_inputs.now) &&
             fits_table (length holding_registers.now) && fits_table (length input_registers.now))
             (record {
               coils = coils.now;
@@ -164,7 +164,7 @@ impl RegisterStore {
     /// `OutOfRange` exactly past the end; the store is then as it was.
     pub fn set_discrete(&mut self, address: Address, state: Coil) -> Result<(), OutOfRange>
         ensures { Sets (inside (length self.old.discrete_inputs) address 1) self.old
-            (with_discrete_inputs self.old (written address (state ∷ []) self.old.discrete_inputs))
+            (with_discrete_inputs self.old (with_entries address (state ∷ []) self.old.discrete_inputs))
             result self.new }
     {
         write_entries(self.discrete_inputs.as_mut_slice(), address, &[state])
@@ -176,7 +176,7 @@ impl RegisterStore {
     /// `OutOfRange` exactly past the end; the store is then as it was.
     pub fn set_input(&mut self, address: Address, word: Word) -> Result<(), OutOfRange>
         ensures { Sets (inside (length self.old.input_registers) address 1) self.old
-            (with_input_registers self.old (written address (word ∷ []) self.old.input_registers))
+            (with_input_registers self.old (with_entries address (word ∷ []) self.old.input_registers))
             result self.new }
     {
         write_entries(self.input_registers.as_mut_slice(), address, &[word])

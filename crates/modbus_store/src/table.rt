@@ -4,7 +4,7 @@ ghost use Rattle.modbus_frame.specs.Meaning.{meaning};
 ghost use Rattle.modbus_service.specs.Answering.{Keeps};
 ghost use Rattle.modbus_store.specs.Lock.{opening_of};
 ghost use Rattle.modbus_store.specs.Events.{AddsNoCall};
-ghost use Rattle.modbus_store.specs.Passes.{IsPassOf, caller, opened, SplitsOff, TakesIn, Closes};
+ghost use Rattle.modbus_store.specs.Passes.{IsPassOf, caller, first_pass, SplitsOff, TakesIn, Closes};
 
 use crate::history::History;
 use crate::lock::{InTurn, Stored, View};
@@ -66,7 +66,7 @@ impl StoreTable {
     pub fn open(alloc: Global, store: RegisterStore) -> Result<(StoreTable, StorePass), AllocError>
         ensures table { IfOk result (λ r. r.0.opening
             ≡ record { tables = store; recorded = true }) }
-        ensures pass { IfOk result (λ r. r.1 ≡ opened r.0.table r.0.opening) }
+        ensures pass { IfOk result (λ r. r.1 ≡ first_pass r.0.table r.0.opening) }
     {
         let history = Some(History::new(alloc));
         open_with(alloc, store, history)
@@ -82,7 +82,7 @@ impl StoreTable {
     ) -> Result<(StoreTable, StorePass), AllocError>
         ensures table { IfOk result (λ r. r.0.opening
             ≡ record { tables = store; recorded = false }) }
-        ensures pass { IfOk result (λ r. r.1 ≡ opened r.0.table r.0.opening) }
+        ensures pass { IfOk result (λ r. r.1 ≡ first_pass r.0.table r.0.opening) }
     {
         open_with(alloc, store, None)
     }
@@ -195,7 +195,7 @@ fn open_with(
     requires { IfSome history (λ kept. kept ≡ []) }
     ensures table { IfOk result (λ r. r.0.opening
         ≡ record { tables = store; recorded = is_some history }) }
-    ensures pass { IfOk result (λ r. r.1 ≡ opened r.0.table r.0.opening) }
+    ensures pass { IfOk result (λ r. r.1 ≡ first_pass r.0.table r.0.opening) }
 {
     let stored = Stored {
         store,

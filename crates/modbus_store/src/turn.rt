@@ -4,9 +4,9 @@ ghost use Rattle.std.specs.Option.{option_map};
 ghost use Rattle.modbus_frame.specs.Meaning.{meaning};
 ghost use Rattle.modbus_store.specs.Outcomes.{outcome_of};
 ghost use Rattle.modbus_store.specs.Legal.{call};
-ghost use Rattle.modbus_store.specs.Turns.{IsDesk, Rests, Extends, Serves, Files};
+ghost use Rattle.modbus_store.specs.Turns.{IsDesk, IsAtRest, ExtendsView, ServesCall, Files};
 ghost use Rattle.modbus_store.specs.Step.{store_step};
-ghost use Rattle.modbus_store.specs.Planning.{changed};
+ghost use Rattle.modbus_store.specs.Plan.{tables_after};
 
 use crate::change::Change;
 use crate::history::{Entry, History, Roomy};
@@ -89,7 +89,7 @@ fn settle<'a>(
 ) -> Result<(Outcome, Change<'a>), AllocError>
     ensures { IfOk result (λ done.
         store_step store.now request.now.slave (meaning request.now.request)
-        ≡ (outcome_of done.0, changed store.now done.1)) }
+        ≡ (outcome_of done.0, tables_after store.now done.1)) }
 {
     match store.plan(alloc, request) {
         Ok(Planned { response, change }) => Ok((Outcome::of(response), change)),
@@ -105,7 +105,7 @@ fn serve(
     number: u32,
     request: &SlaveRequest<'_>,
 ) -> Result<(Stored, Outcome), (Stored, AllocError)>
-    ensures ok { IfOk result (λ done. Serves stored
+    ensures ok { IfOk result (λ done. ServesCall stored
         (call number request.now.slave (meaning request.now.request) (outcome_of done.1)) done.0) }
     ensures err { IfErr result (λ e. e.0 ≡ stored) }
 {
@@ -165,10 +165,10 @@ pub(crate) fn turn<R: Wait>(
     request: &SlaveRequest<'_>,
 ) -> Result<(Outcome, u64), AllocError>
     requires desk { (seat.old.table_id ≡ desk.now.table_id) × IsDesk desk.now.table_id }
-    requires rests { Rests number seat.old.me }
+    requires rests { IsAtRest number seat.old.me }
     ensures desk { seat.new.table_id ≡ seat.old.table_id }
-    ensures rests { Rests number seat.new.me }
-    ensures ok { IfOk result (λ r. Extends
+    ensures rests { IsAtRest number seat.new.me }
+    ensures ok { IfOk result (λ r. ExtendsView
         (call number request.now.slave (meaning request.now.request) (outcome_of r.0)) seat.old.me.0
         seat.new.me.0 × (r.1 ≡ length seat.new.me.0.seen)) }
     ensures err { IfErr result (λ _. seat.new.me ≡ seat.old.me) }

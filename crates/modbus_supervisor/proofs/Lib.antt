@@ -1,3 +1,2 @@
 pub mod Appended
-pub mod Trimmed
 pub mod Holding

@@ -1,4 +1,3 @@
-pub mod Text
 pub mod Lines
-pub mod Seen
+pub mod SeenLine
 pub mod Reads

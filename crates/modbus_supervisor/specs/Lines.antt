@@ -5,14 +5,14 @@ use Rattle.json.specs.Token.{Token, begin_object, end_object, key, number, strin
 use Rattle.json.specs.Print.{print}
 use Rattle.modbus_poll.specs.declared.value.Value.{Value}
 use Rattle.modbus_poll.specs.declared.value.Value.TheVariants.{Unsigned, Signed, Text}
-use Rattle.modbus_supervisor.specs.Text.{shown_bytes, trimmed}
+use Rattle.modbus_poll.specs.Text.{shown_bytes, trimmed}
 
 -- each object begins with the device: its name in the list, and its unit identifier
-abbrev pub head : List ℕ → ℕ → List Token
-head device unit = begin_object ∷ key (codes "device") ∷ string device ∷ key (codes "unit") ∷ number (decimal unit) ∷ []
+abbrev pub line_head : List ℕ → ℕ → List Token
+line_head device unit = begin_object ∷ key (codes "device") ∷ string device ∷ key (codes "unit") ∷ number (decimal unit) ∷ []
 
-abbrev pub line_of : List Token → List ℕ
-line_of tokens = print (tokens ++ end_object ∷ []) ++ 10 ∷ []
+abbrev pub text_of_tokens : List Token → List ℕ
+text_of_tokens tokens = print (tokens ++ end_object ∷ []) ++ 10 ∷ []
 
 -- a value of JSON: a number, or what is shown for a text as a string
 abbrev pub json_value : Value → Token
@@ -22,16 +22,16 @@ json_value (Text bytes) = string (shown_bytes (trimmed bytes))
 
 -- an item has this value
 abbrev pub changed_line : List ℕ → ℕ → List ℕ → Value → List ℕ
-changed_line device unit item value = line_of (head device unit ++ key (codes "item") ∷ string item ∷ key (codes "value") ∷ json_value value ∷ [])
+changed_line device unit item value = text_of_tokens (line_head device unit ++ key (codes "item") ∷ string item ∷ key (codes "value") ∷ json_value value ∷ [])
 
 -- the device answers its read with this exception
 abbrev pub refused_line : List ℕ → ℕ → List ℕ → ℕ → List ℕ
 refused_line device unit item exception =
-    line_of (head device unit ++ key (codes "item") ∷ string item ∷ key (codes "exception") ∷ number (decimal exception) ∷ [])
+    text_of_tokens (line_head device unit ++ key (codes "item") ∷ string item ∷ key (codes "exception") ∷ number (decimal exception) ∷ [])
 
 -- the device is away, and why; it is back
 abbrev pub away_line : List ℕ → ℕ → List ℕ → List ℕ
-away_line device unit why = line_of (head device unit ++ key (codes "away") ∷ boolean true ∷ key (codes "why") ∷ string why ∷ [])
+away_line device unit why = text_of_tokens (line_head device unit ++ key (codes "away") ∷ boolean true ∷ key (codes "why") ∷ string why ∷ [])
 
 abbrev pub back_line : List ℕ → ℕ → List ℕ
-back_line device unit = line_of (head device unit ++ key (codes "away") ∷ boolean false ∷ [])
+back_line device unit = text_of_tokens (line_head device unit ++ key (codes "away") ∷ boolean false ∷ [])

@@ -1,10 +1,9 @@
 //! The lines that the program prints, each an object of JSON (RFC 8259).
 ghost use Rattle.std.specs.Prelude.{◌≡◌, ◌++◌, ◌∷◌, [], IfOk, OnOk};
-ghost use Rattle.modbus_supervisor.specs.Lines.{head, line_of, json_value, changed_line, refused_line, away_line, back_line};
+ghost use Rattle.modbus_supervisor.specs.Lines.{line_head, text_of_tokens, json_value, changed_line, refused_line, away_line, back_line};
 
-use crate::text::shown;
 use json::Writer;
-use modbus_poll::Value;
+use modbus_poll::{Value, shown};
 use std::alloc::{AllocError, Global};
 
 /// A device, as each line names it.
@@ -20,7 +19,7 @@ pub struct Label<'a> {
 fn begin(alloc: Global, device: Label<'_>) -> Result<Writer, AllocError>
     ensures before { IfOk result (λ writer. writer.before ≡ []) }
     ensures tokens { IfOk result (λ writer. writer.tokens
-        ≡ head device.entry.name.now device.entry.unit) }
+        ≡ line_head device.entry.name.now device.entry.unit) }
 {
     let mut writer = Writer::new(Vec::new(alloc));
     writer.begin_object()?;
@@ -34,7 +33,7 @@ fn begin(alloc: Global, device: Label<'_>) -> Result<Writer, AllocError>
 /// Ends an object and its line.
 fn end(mut writer: Writer) -> Result<Vec<u8>, AllocError>
     requires { writer.before ≡ [] }
-    ensures { IfOk result (λ line. line.items ≡ line_of writer.tokens) }
+    ensures { IfOk result (λ line. line.items ≡ text_of_tokens writer.tokens) }
 {
     writer.end_object()?;
     let mut line = writer.into_inner();

@@ -8,7 +8,6 @@ mod list;
 mod plan;
 mod reads;
 mod supervise;
-mod text;
 mod turn;
 mod watched;
 mod words;

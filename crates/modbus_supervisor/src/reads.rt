@@ -2,7 +2,7 @@
 ghost use Rattle.std.specs.Prelude.{◌≡◌, ◌↔◌, true, length, Some, IsTrue, IfOk, IfSome};
 ghost use Rattle.modbus_poll.specs.Items.{width, lies_in};
 ghost use Rattle.modbus_poll.specs.Values.{value};
-ghost use Rattle.modbus_poll.specs.Words.{words_in};
+ghost use Rattle.modbus_poll.specs.Words.{words_of_read};
 ghost use Rattle.modbus_supervisor.specs.Reads.{GivesPoint, ReadsAlone};
 
 use crate::list::Wanted;
@@ -68,7 +68,7 @@ impl TableRead {
 fn words_in<'a>(read: &Read, words: &'a [Word], item: &Item) -> &'a [Word]
     requires lies { lies_in item.now read.now ≡ true }
     requires count { length words.now ≡ read.now.count }
-    ensures words { result.now ≡ words_in read.now words.now item.now }
+    ensures words { result.now ≡ words_of_read read.now words.now item.now }
     ensures length { length result.now ≡ width item.now.kind }
 {
     let start = usize::from(item.address - read.address);
@@ -88,7 +88,7 @@ pub fn value_in(
 ) -> Result<Option<Value>, AllocError>
     ensures { lies_in item.now read.now ≡ true → length words.now ≡ read.now.count
         → IfOk result (λ found. found
-        ≡ Some (value item.now.kind (words_in read.now words.now item.now))) }
+        ≡ Some (value item.now.kind (words_of_read read.now words.now item.now))) }
 {
     if !read.holds(item) || words.len() != usize::from(read.count) {
         return Ok(None);

@@ -1,6 +1,6 @@
 //! What is watched of a device: its reads, and what was seen last of each item.
 ghost use Rattle.std.specs.Prelude.{◌≡◌, ◌≢◌, ◌++◌, Some, OnOk};
-ghost use Rattle.modbus_supervisor.specs.Seen.{seen_line};
+ghost use Rattle.modbus_supervisor.specs.SeenLine.{seen_line};
 
 use crate::lines::{Label, away_line, back_line, changed_line, refused_line};
 use crate::list::Wanted;

@@ -8,9 +8,9 @@ use Rattle.std.proofs.lemmas.Nat.{be_bytes_2, from_be_bytes-to_be_bytes_2}
 use Rattle.modbus_frame.specs.declared.tcp.Header.{Header}
 use Rattle.modbus_pdu.specs.Fields.{word_at}
 use Rattle.modbus_pdu.specs.Laws.{IsByte}
-use Rattle.modbus_pdu.specs.Writing.{word}
+use Rattle.modbus_pdu.specs.Word.{word}
 use Rattle.modbus_tcp.specs.declared.mbap.Mbap.{Mbap}
-use Rattle.modbus_tcp.specs.Decoding.{Tells}
+use Rattle.modbus_tcp.specs.Decoder.{TellsHeader}
 use Rattle.modbus_tcp.specs.Adu.{adu_of, IsAdu}
 use Rattle.modbus_tcp.specs.Stream.{told_length, Rest, empty, unfinished, no_length, foreign, IsRest, BeginsWith}
 use Rattle.modbus_tcp.specs.Limits.{uncounted, unit_identifier, mbap_header, modbus_protocol}
@@ -93,7 +93,7 @@ same_header header other p q =
     ap (λ t. with t header.unit_id) p ∙ ap (λ u. with other.transaction_id u) q
 
 -- what a header tells of its ADU
-pub tells_adu : (bytes : List ℕ) (mbap : Mbap) (end : ℕ) → All IsByte bytes → Tells bytes mbap → 0 < mbap.length → end ≤ length bytes → mbap.protocol ≡ modbus_protocol → end ≡ uncounted + mbap.length →
+pub tells_adu : (bytes : List ℕ) (mbap : Mbap) (end : ℕ) → All IsByte bytes → TellsHeader bytes mbap → 0 < mbap.length → end ≤ length bytes → mbap.protocol ≡ modbus_protocol → end ≡ uncounted + mbap.length →
     BeginsWith bytes (mbap.header, take (end - mbap_header) (drop mbap_header bytes)) (drop end bytes)
 tells_adu bytes mbap end bounded tells some whole ours is =
     let header : mbap.header ≡ header_of bytes = same_header mbap.header (header_of bytes) tells.transaction tells.unit_id in

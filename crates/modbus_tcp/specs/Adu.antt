@@ -3,7 +3,7 @@ use Rattle.std.specs.Prelude.{ℕ, ◌+◌, ◌-◌, ◌≤◌, List, ◌∷◌,
 use Rattle.std.specs.List.{flat_map}
 use Rattle.modbus_frame.specs.declared.tcp.Header.{Header}
 use Rattle.modbus_pdu.specs.Laws.{IsWord}
-use Rattle.modbus_pdu.specs.Writing.{word}
+use Rattle.modbus_pdu.specs.Word.{word}
 use Rattle.modbus_tcp.specs.Limits.{unit_identifier, max_length, modbus_protocol}
 
 -- the transaction, the protocol, the length of what follows, the unit identifier, and the PDU (section 3.1.3)

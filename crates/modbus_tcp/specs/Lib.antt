@@ -1,4 +1,4 @@
 pub mod Adu
 pub mod Limits
 pub mod Stream
-pub mod Decoding
+pub mod Decoder

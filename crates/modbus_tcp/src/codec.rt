@@ -5,21 +5,21 @@ ghost use Rattle.std.specs.Result.{ForErr};
 ghost use Rattle.modbus_frame.specs.Codes.{function_number};
 ghost use Rattle.modbus_frame.specs.FunctionCodes.{exception_bit};
 ghost use Rattle.modbus_frame.specs.Meaning.{meaning};
-ghost use Rattle.modbus_pdu.specs.Coding.{Encodes};
+ghost use Rattle.modbus_pdu.specs.Encodes.{Encodes};
 ghost use Rattle.modbus_pdu.specs.RequestOf.{CarriesList, request_of};
 ghost use Rattle.modbus_pdu.specs.ResponseOf.{AnswerCarriesMemory, response_result_of};
 ghost use Rattle.modbus_pdu.specs.RequestPdu.{request_pdu};
 ghost use Rattle.modbus_pdu.specs.ResponsePdu.{response_result_pdu};
-ghost use Rattle.modbus_tcp.specs.Decoding.{ReadsAdu};
+ghost use Rattle.modbus_tcp.specs.Decoder.{ReadsAdu};
 ghost use Rattle.modbus_tcp.specs.Adu.{adu_of};
 ghost use Rattle.modbus_tcp.specs.Limits.{longest_adu};
 
 use crate::decoder::TcpError;
 use crate::encoder::{encode_request_adu, encode_response_adu};
 use crate::mbap::{HEADER, front};
-use crate::stream::{Front, HeaderFault};
+use crate::stream::HeaderFault;
 use bytes::BytesMut;
-use modbus_frame::{EncodeError, PduError, RequestPdu, tcp};
+use modbus_frame::{EncodeError, Front, PduError, RequestPdu, tcp};
 use modbus_pdu::{decode_request, read_response_pdu};
 use std::alloc::Global;
 
@@ -55,7 +55,7 @@ impl ClientCodec {
         ensures short { result ≡ Ok None → length buf.new.items < longest_adu }
     {
         match front(buf.as_slice()) {
-            Ok(Front::Adu { header, pdu, end }) => match read_response_pdu(alloc, pdu) {
+            Ok(Front::Message { header, pdu, end }) => match read_response_pdu(alloc, pdu) {
                 Ok(pdu) => {
                     buf.advance(end);
                     Ok(Some(tcp::ResponseAdu { hdr: header, pdu }))
@@ -66,7 +66,7 @@ impl ClientCodec {
                 }
                 Err(PduError::NoMemory) => Err(TcpError::NoMemory),
             },
-            Ok(Front::Waiting) => Ok(None),
+            Ok(Front::Waiting { .. }) => Ok(None),
             Err(HeaderFault::InvalidLength) => Err(TcpError::InvalidLength),
             Err(HeaderFault::InvalidProtocol(protocol)) => {
                 buf.advance(HEADER);
@@ -118,7 +118,7 @@ impl ServerCodec {
         ensures short { result ≡ Ok None → length buf.new.items < longest_adu }
     {
         match front(buf.as_slice()) {
-            Ok(Front::Adu { header, pdu, end }) => match decode_request(alloc, pdu) {
+            Ok(Front::Message { header, pdu, end }) => match decode_request(alloc, pdu) {
                 Ok(request) => {
                     buf.advance(end);
                     Ok(Some(tcp::RequestAdu {
@@ -132,7 +132,7 @@ impl ServerCodec {
                 }
                 Err(PduError::NoMemory) => Err(TcpError::NoMemory),
             },
-            Ok(Front::Waiting) => Ok(None),
+            Ok(Front::Waiting { .. }) => Ok(None),
             Err(HeaderFault::InvalidLength) => Err(TcpError::InvalidLength),
             Err(HeaderFault::InvalidProtocol(protocol)) => {
                 buf.advance(HEADER);

@@ -1,13 +1,13 @@
 //! The decoder that takes ADUs off the front of a buffer (MODBUS Messaging on TCP/IP V1.0b, section 3.1.3).
 ghost use Rattle.std.specs.Prelude.{◌≡◌, ◌<◌, Ok, None, length};
 ghost use Rattle.modbus_tcp.specs.declared.decoder.TcpError.TheVariants as errors;
-ghost use Rattle.modbus_tcp.specs.Decoding.{TakesAdu, error_of};
+ghost use Rattle.modbus_tcp.specs.Decoder.{TakesAdu, error_of};
 ghost use Rattle.modbus_tcp.specs.Limits.{longest_adu};
 
 use crate::mbap::{HEADER, front};
-use crate::stream::{Front, HeaderFault};
+use crate::stream::HeaderFault;
 use bytes::{Bytes, BytesMut};
-use modbus_frame::{PduError, Reason, tcp};
+use modbus_frame::{Front, PduError, Reason, tcp};
 use std::alloc::{AllocError, Global};
 
 /// Why no ADU is given.
@@ -72,12 +72,12 @@ impl AduDecoder {
         ensures short { result ≡ Ok None → length buf.new.items < longest_adu }
     {
         match front(buf.as_slice()) {
-            Ok(Front::Adu { header, end, .. }) => {
+            Ok(Front::Message { header, end, .. }) => {
                 let mut pdu = buf.freeze_to(end)?;
                 pdu.advance(HEADER);
                 Ok(Some((header, pdu)))
             }
-            Ok(Front::Waiting) => Ok(None),
+            Ok(Front::Waiting { .. }) => Ok(None),
             Err(HeaderFault::InvalidLength) => Err(TcpError::InvalidLength),
             Err(HeaderFault::InvalidProtocol(protocol)) => {
                 buf.advance(HEADER);

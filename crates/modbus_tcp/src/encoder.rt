@@ -4,13 +4,13 @@ ghost use Rattle.std.specs.Result.{ForErr};
 ghost use Rattle.modbus_frame.specs.Codes.{function_number};
 ghost use Rattle.modbus_frame.specs.FunctionCodes.{exception_bit};
 ghost use Rattle.modbus_frame.specs.Meaning.{meaning};
-ghost use Rattle.modbus_pdu.specs.Coding.{Encodes};
+ghost use Rattle.modbus_pdu.specs.Encodes.{Encodes};
 ghost use Rattle.modbus_pdu.specs.Limits.{max_pdu};
 ghost use Rattle.modbus_pdu.specs.RequestPdu.{request_pdu};
 ghost use Rattle.modbus_pdu.specs.ResponsePdu.{response_result_pdu};
-ghost use Rattle.modbus_pdu.specs.Writing.{word};
+ghost use Rattle.modbus_pdu.specs.Word.{word};
 ghost use Rattle.modbus_tcp.specs.Adu.{adu_of};
-ghost use Rattle.modbus_tcp.specs.Limits.{unit_identifier, mbap_header, modbus_protocol};
+ghost use Rattle.modbus_tcp.specs.Limits.{unit_identifier, mbap_header, longest_response, modbus_protocol};
 
 use crate::mbap::{HEADER, MODBUS, UNIT_IDENTIFIER};
 use bytes::BytesMut;
@@ -21,7 +21,7 @@ use modbus_pdu::{
 use std::alloc::Global;
 
 /// Appends the header of an ADU whose PDU has so many bytes (section 3.1.3).
-#[inline]
+#[inline(always)]
 fn put_header(buf: &mut BytesMut, header: tcp::Header, pdu_len: usize)
     requires fits { pdu_len ≤ max_pdu }
     requires room { mbap_header ≤ buf.old.spare }
@@ -77,6 +77,7 @@ pub fn encode_response_adu(
         (response_result_pdu answer.now) buf.old.items result buf.new.items }
     ensures memory { result ≡ Err EncodeError.NoMemory
         → buf.old.spare < length (adu_of header (response_result_pdu answer.now)) }
+    ensures longest { result ≡ Err EncodeError.NoMemory → buf.old.spare < longest_response }
 
     // All in all the buffer has as much room as it had.
     ensures room { length buf.old.items + buf.old.spare ≤ length buf.new.items + buf.new.spare }

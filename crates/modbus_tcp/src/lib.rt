@@ -17,5 +17,5 @@ pub use crate::codec::{ClientCodec, ServerCodec};
 pub use crate::decoder::{AduDecoder, TcpError};
 pub use crate::encoder::{encode_request_adu, encode_response_adu};
 pub use crate::mbap::{HEADER, MODBUS, UNCOUNTED, front};
-pub use crate::stream::{Front, HeaderFault, LONGEST_ADU, LONGEST_RESPONSE};
+pub use crate::stream::{HeaderFault, LONGEST_ADU, LONGEST_RESPONSE};
 pub use crate::transaction::TransactionIds;

@@ -1,12 +1,12 @@
 //! The MBAP header, and what stands at the front of the bytes of a stream (MODBUS Messaging on TCP/IP V1.0b, section 3.1.3).
 ghost use Rattle.std.specs.Prelude.{◌≡◌, ◌+◌, ◌<◌, ◌≤◌, ◌↔◌, All, length, drop, IfSome, IsNone};
 ghost use Rattle.modbus_pdu.specs.Laws.{IsByte};
-ghost use Rattle.modbus_tcp.specs.Decoding.{Finds, Tells};
+ghost use Rattle.modbus_tcp.specs.Decoder.{FindsAdu, TellsHeader};
 ghost use Rattle.modbus_tcp.specs.Stream.{BeginsWith};
 ghost use Rattle.modbus_tcp.specs.Limits.{uncounted, mbap_header, modbus_protocol};
 
-use crate::stream::{Front, HeaderFault};
-use modbus_frame::tcp;
+use crate::stream::HeaderFault;
+use modbus_frame::{Front, tcp};
 
 /// How many bytes of a header stand before those that its length counts: the transaction, the protocol and the length (section 3.1.3).
 pub const UNCOUNTED: usize = 6;
@@ -42,7 +42,7 @@ impl Mbap {
 #[inline]
 fn read_header(bytes: &[u8]) -> Option<Mbap>
     ensures none { IsNone result ↔ (length bytes.now < mbap_header) }
-    ensures tells { IfSome result (Tells bytes.now) }
+    ensures tells { IfSome result (TellsHeader bytes.now) }
     ensures bytes { All IsByte bytes.now }
 {
     match bytes {
@@ -62,7 +62,7 @@ fn read_header(bytes: &[u8]) -> Option<Mbap>
 #[inline]
 fn pdu_of(bytes: &[u8], mbap: Mbap) -> &[u8]
     requires bytes { All IsByte bytes.now }
-    requires tells { Tells bytes.now mbap }
+    requires tells { TellsHeader bytes.now mbap }
     requires some { 0 < mbap.length }
     requires whole { uncounted + mbap.length ≤ length bytes.now }
     requires ours { mbap.protocol ≡ modbus_protocol }
@@ -79,23 +79,23 @@ fn pdu_of(bytes: &[u8], mbap: Mbap) -> &[u8]
 /// `InvalidLength` exactly where the header tells the length 0. `InvalidProtocol` with the number, exactly where the ADU is whole and
 /// its protocol is not Modbus.
 #[inline]
-pub fn front(bytes: &[u8]) -> Result<Front<'_>, HeaderFault>
-    ensures finds { Finds bytes.now result }
+pub fn front(bytes: &[u8]) -> Result<Front<'_, tcp::Header>, HeaderFault>
+    ensures finds { FindsAdu bytes.now result }
 {
     let Some(mbap) = read_header(bytes) else {
-        return Ok(Front::Waiting);
+        return Ok(Front::Waiting { dropped: 0 });
     };
     if mbap.length == 0 {
         return Err(HeaderFault::InvalidLength);
     }
     let end = mbap.adu_len();
     if bytes.len() < end {
-        return Ok(Front::Waiting);
+        return Ok(Front::Waiting { dropped: 0 });
     }
     if mbap.protocol != MODBUS {
         return Err(HeaderFault::InvalidProtocol(mbap.protocol));
     }
-    Ok(Front::Adu {
+    Ok(Front::Message {
         header: mbap.header,
         pdu: pdu_of(bytes, mbap),
         end,

@@ -1,7 +1,6 @@
 //! What may stand at the front of the bytes of a stream (MODBUS Messaging on TCP/IP V1.0b, section 3.1.3).
 
 use crate::mbap::{HEADER, UNCOUNTED};
-use modbus_frame::tcp;
 use modbus_pdu::MAX_PDU;
 
 /// The greatest length that a header can tell.
@@ -12,22 +11,6 @@ pub const LONGEST_ADU: usize = UNCOUNTED + MAX_LENGTH;
 
 /// The bytes of the longest ADU of a response, whose PDU is as long as a PDU may be: 260.
 pub const LONGEST_RESPONSE: usize = HEADER + MAX_PDU;
-
-/// What stands at the front of the bytes of a stream.
-#[derive(Clone, Copy, Debug, PartialEq, Eq)]
-pub enum Front<'a> {
-    /// A whole ADU.
-    Adu {
-        /// What its header tells.
-        header: tcp::Header,
-        /// Its PDU.
-        pdu: &'a [u8],
-        /// How many bytes the whole ADU has. What follows it begins there.
-        end: usize,
-    },
-    /// No byte, or a front of an ADU: more bytes are waited for.
-    Waiting,
-}
 
 /// Why no ADU stands at the front, and none comes by waiting.
 #[derive(Clone, Copy, Debug, PartialEq, Eq)]

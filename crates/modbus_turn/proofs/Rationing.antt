@@ -3,7 +3,7 @@ use Rattle.std.proofs.Common.{◌≡◌, ℕ, ◌+◌, ◌-◌, ◌<◌, List, [
 use Rattle.std.specs.Prelude.{if◌then◌else◌}
 use Rattle.std.proofs.lemmas.List.{length-take, length-drop, length-map}
 use Rattle.modbus_link.specs.Outside.{outside, Input, Output, Advances, Gives, cuts_made, one_cut, input_through, output_through}
-use Rattle.modbus_link.specs.Passing.{Passes}
+use Rattle.modbus_link.specs.Passes.{Passes}
 use Rattle.modbus_link.specs.Through.{tail_of}
 use Rattle.modbus_turn.specs.Rationed.{reads_in_all, left_behind, rationed_input}
 

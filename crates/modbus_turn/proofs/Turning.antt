@@ -3,8 +3,8 @@ use Rattle.std.proofs.Common.{◌≡◌, ℕ, List, [], ◌++◌, refl, sym, ap,
 use Rattle.modbus_link.specs.declared.polled.Polled.{Polled}
 use Rattle.modbus_link.specs.declared.polled.Polled.TheVariants.{Ready, Pending}
 use Rattle.modbus_link.specs.Line.{LinkMeaning}
-use Rattle.modbus_link.specs.Outside.{outside, Input, input_through, output_through, shifted}
-use Rattle.modbus_link.specs.Passing.{passes_both}
+use Rattle.modbus_link.specs.Outside.{outside, Input, input_through, output_through, cuts_from}
+use Rattle.modbus_link.specs.Passes.{passes_both}
 use Rattle.modbus_link.specs.Reads.{totals}
 use Rattle.modbus_service.specs.Answering.{Answering}
 use Rattle.modbus_server.specs.declared.error.ProcessError.{ProcessError}
@@ -55,7 +55,7 @@ module _ (F : Framing) {S : Type 0} (A : Answering S) {L : Type 0} (M : LinkMean
     goes_on poll turns first own alone =
         let now = poll.goes_on (polled_past turns alone.bytes alone.made (saying_again own before.service) alone.written) (started turns first own alone) in
         let bytes = alone.bytes ++ poll.fed in
-        let made = alone.made ++ shifted (length alone.bytes) poll.made in
+        let made = alone.made ++ cuts_from (length alone.bytes) poll.made in
         let written = alone.written ++ poll.sent in
         let stood = standing F A turns bytes made written own before.service after.service new.process.connection new.process.left
         (subst (λ (t : InTurnState S). PollStands F T (polled_past turns bytes made (saying_again own before.service) written) t (polled new.process.connection new.process.left)) (own_state after own_after) now) in (

@@ -1,22 +1,22 @@
 -- What one turn of a connection promises, where others have their turns before and after it.
 use Rattle.std.specs.Prelude.{◌≡◌, ℕ, List, [], ◌++◌, Bool, true, false, Result}
 use Rattle.modbus_link.specs.Line.{LinkMeaning}
-use Rattle.modbus_link.specs.Passing.{Passes}
+use Rattle.modbus_link.specs.Passes.{Passes}
 use Rattle.modbus_server.specs.declared.error.ProcessError.{ProcessError}
 use Rattle.modbus_server.specs.Framing.{Framing}
-use Rattle.modbus_server.specs.Polled.{polled, polled_past, PolledState, PollStands}
+use Rattle.modbus_server.specs.Polled.{polled, polled_past, PolledProcessState, PollStands}
 use Rattle.modbus_server.specs.Step.{Ran}
 use Rattle.modbus_service.specs.Answering.{Answering}
 use Rattle.modbus_turn.specs.declared.turn.Turn.{Turn}
 use Rattle.modbus_turn.specs.declared.turn.Turn.TheVariants.{Waiting, Spent, Over}
 use Rattle.modbus_turn.specs.InTurn.{Said, RunOver, in_turn, saying_again}
-use Rattle.modbus_link.specs.Outside.{outside}
+use Rattle.modbus_link.specs.Outside.{Cut, outside}
 use Rattle.modbus_server.specs.Moment.{moment}
 
 -- a connection: its link, and what its server keeps
 pub record SeatState (L : Type 0) : Type 0 where
   pub link : L
-  pub process : PolledState
+  pub process : PolledProcessState
 
 -- whether the connection goes on after a turn
 abbrev pub is_going_on : Turn → Bool
@@ -35,7 +35,7 @@ module _ (F : Framing) {S : Type 0} (A : Answering S) {L : Type 0} (M : LinkMean
   -- polled server of a connection does that is alone, over all its polls, whose service says all this to it, whatever else the service does.
   pub record StandsAlone (turns : ℕ) (first : L) (own : List Said) (seat : SeatState L) : Type 0 where
     pub bytes : List ℕ
-    pub made : List (ℕ × ℕ)
+    pub made : List Cut
     pub written : List ℕ
     pub passes : Passes (outside (M.input first) (M.output first)) (outside (M.input seat.link) (M.output seat.link)) bytes made written
     pub stands : (service : S) → PollStands F (in_turn A) (polled_past turns bytes made (saying_again own service) written) (saying_again [] service) (polled seat.process.connection seat.process.left)

@@ -1,7 +1,7 @@
 use Rattle.std.proofs.Common.{subst, ◌-◌, ◌^◌, None, Ok}
 use Rattle.modbus_link.specs.Line.{meaning_of}
 use Rattle.modbus_gateway.specs.Forwarded.{Forwarded}
-use Rattle.modbus_app.specs.Ending.{EndsBy}
+use Rattle.modbus_app.specs.Ends.{EndsBy}
 use Rattle.modbus_app.proofs.gateway.forward_to.Goals as goal
 use Rattle.modbus_server.specs.Moment.{moment}
 

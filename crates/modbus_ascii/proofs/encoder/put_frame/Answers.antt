@@ -1,5 +1,5 @@
 use Rattle.std.proofs.Common.{◌∷◌, ◌++◌, ◌∙◌, [], length, ap, arith, length-append}
-use Rattle.modbus_ascii.specs.Encoding.{text_of}
+use Rattle.modbus_ascii.specs.Encoder.{text_of}
 use Rattle.modbus_ascii.specs.Limits.{colon, carriage_return, line_feed}
 use Rattle.modbus_ascii.proofs.Framing.{frame-pieces, length-text_of}
 use Rattle.modbus_ascii.proofs.encoder.put_frame.Goals as goal

@@ -1,5 +1,5 @@
 use Rattle.std.proofs.Common.{◌≡◌, ◌+◌, ◌*◌, ◌++◌, take}
-use Rattle.modbus_ascii.specs.Encoding.{text_of}
+use Rattle.modbus_ascii.specs.Encoder.{text_of}
 use Rattle.modbus_ascii.proofs.encoder.put_text.Given as goal
 
 -- the digits of the bytes so far

@@ -1,6 +1,6 @@
 use Rattle.std.proofs.Common.{length, List, ℕ, arith}
 use Rattle.modbus_pdu.specs.ResponsePdu.{response_result_pdu}
-use Rattle.modbus_ascii.specs.Encoding.{frame}
+use Rattle.modbus_ascii.specs.Encoder.{frame}
 use Rattle.modbus_c.proofs.Replying.{text_len, no_error, has_room}
 use Rattle.modbus_c.proofs.ascii.text_into.Goals as goal
 

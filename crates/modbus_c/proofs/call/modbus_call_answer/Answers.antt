@@ -1,5 +1,5 @@
 use Rattle.std.proofs.Common.{rules, take, drop}
-use Rattle.modbus_c.specs.Calls.{asked_by as header_of}
+use Rattle.modbus_c.specs.Calls.{header_asked as header_of}
 use Rattle.modbus_c.specs.Inbox.{held}
 use Rattle.modbus_c.proofs.Judging.{found_under}
 use Rattle.modbus_c.proofs.call.modbus_call_answer.Goals as goal

@@ -1,6 +1,6 @@
 use Rattle.std.proofs.Common.{◌≡◌, ℕ, ◌+◌, List, [], ◌∷◌, ◌++◌, take, drop, length, sym, ap, ◌∙◌, subst, arith, length-take}
 use Rattle.std.proofs.lemmas.List.{take_all, take_more}
-use Rattle.modbus_ascii.specs.Decoder.{Decodes}
+use Rattle.modbus_ascii.specs.Decoder.{DecodesText}
 use Rattle.modbus_ascii.specs.Frames.{frames}
 use Rattle.modbus_ascii.specs.Text.{open_end}
 use Rattle.modbus_c.proofs.Texts.{nothing_open, nothing_quiet, delivers_first, delivers_none, delivers_nothing}
@@ -15,7 +15,7 @@ texts-preserved c =
     let more = take_more bytes place 0 c.texts-test.true in let decodes = c.feed.ensures.reads taken now.decodes in record {
       within = c.open_from-start.ensures.within;
       quiet = ap frames more ∙ c.in_default.ensures.gives taken now.decodes ∙ ap (λ f. f ++ []) now.quiet;
-      decodes = subst (λ b. Decodes b c.feed.new.self) (sym more) decodes;
+      decodes = subst (λ b. DecodesText b c.feed.new.self) (sym more) decodes;
       begins = subst (λ b. drop c.open_from-start.result b ≡ open_end b) (sym more)
           (c.open_from-start.ensures.begins taken (omega (arith, length-take place bytes, c.texts-test.true)) now.begins decodes);
     }

@@ -1,6 +1,6 @@
 use Rattle.std.proofs.Common.{drop, ap, ◌∙◌, arith}
 use Rattle.modbus_client.specs.Call.{CallAlone}
-use Rattle.modbus_link.specs.Passing.{wrote_more}
+use Rattle.modbus_link.specs.Passes.{wrote_more}
 use Rattle.modbus_client.proofs.Turning.{keeps_more}
 use Rattle.modbus_client.proofs.drive.flush.Goals as goal
 

@@ -6,12 +6,12 @@ use Rattle.modbus_client.proofs.transactions.end_of_another.Goals as goal
 
 pub returns-then-is_own : goal.returns-then-is_own
 returns-then-is_own c = λ message others begins.
-    let found = rw c.in-Ok-Adu.field-0-is at c.in-Ok-Adu.ensures.finds in
-    let same = c.one_front.ensures.adu c.args.bytes.now others (drop c.in-Ok-Adu.end c.args.bytes.now) message (c.in-Ok-Adu.header, c.in-Ok-Adu.field-0-1.now) begins found.0 in
+    let found = rw c.in-Ok-Message.field-0-is at c.in-Ok-Message.ensures.finds in
+    let same = c.one_front.ensures.adu c.args.bytes.now others (drop c.in-Ok-Message.end c.args.bytes.now) message (c.in-Ok-Message.header, c.in-Ok-Message.field-0-1.now) begins found.0 in
     ap (λ (m : Header × List ℕ). header_seen m.0) same.0 ∙ c.is_own.ensures.0 c.if-is_own.true
 
 pub returns-in-Ok-Waiting : goal.returns-in-Ok-Waiting
-returns-in-Ok-Waiting c = λ message others begins. elim (rw c.in-Ok-Waiting.field-0-is at c.in-Ok-Waiting.ensures.finds).0 [
+returns-in-Ok-Waiting c = λ message others begins. elim (rw c.in-Ok-Waiting.field-0-is at c.in-Ok-Waiting.ensures.finds).1 [
   | inl none ↦ absurd (c.one_front.ensures.apart c.args.bytes.now others message empty begins none)
   | inr some ↦ absurd (c.one_front.ensures.apart c.args.bytes.now others message unfinished begins some)
 ]

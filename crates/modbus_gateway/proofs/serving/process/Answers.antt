@@ -1,7 +1,7 @@
 use Rattle.std.proofs.Common.{rules, ◌≡◌, subst}
 use Rattle.modbus_link.specs.Line.{meaning_of}
 use Rattle.modbus_server.specs.Tcp.{tcp}
-use Rattle.modbus_gateway.specs.Forwarding.{forwards}
+use Rattle.modbus_gateway.specs.Forwards.{forwards}
 use Rattle.modbus_gateway.specs.Forwarded.{Forwarded}
 use Rattle.modbus_gateway.proofs.Behind.{steps_behind, ran_behind, completes_behind}
 use Rattle.modbus_gateway.proofs.Fitting.{replies_fit}

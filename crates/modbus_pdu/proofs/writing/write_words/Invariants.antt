@@ -1,5 +1,5 @@
 use Rattle.std.proofs.Common.{◌≡◌, ◌*◌, take}
-use Rattle.modbus_pdu.specs.Writing.{words}
+use Rattle.modbus_pdu.specs.Word.{words}
 use Rattle.modbus_pdu.proofs.writing.write_words.Given as goal
 
 abbrev pub invariant-loop-i : goal.invariant-loop-i

@@ -2,7 +2,7 @@ use Rattle.std.proofs.Common.{ℕ, List, sym, subst}
 use Rattle.modbus_poll.specs.declared.polling.PollError.TheVariants.{NoMemory}
 use Rattle.modbus_poll.specs.declared.read.Read.{Read}
 use Rattle.modbus_poll.specs.Words.{AreWordsOf}
-use Rattle.modbus_poll.specs.Polls.{Reads}
+use Rattle.modbus_poll.specs.Polls.{ReadsEach}
 use Rattle.modbus_poll.specs.Inputs.{AsksInputs}
 use Rattle.modbus_poll.proofs.Making.{words_made, lacks_last, stops_with}
 use Rattle.modbus_poll.proofs.inputs.poll_inputs.Goals as goal
@@ -17,4 +17,4 @@ pub returns-in_err-values_among-clause-stops : goal.returns-in_err-values_among-
 returns-in_err-values_among-clause-stops g c =
     stops_with (AsksInputs g.R.Client.answers) c.args.plan.now c.args.reader.now _ NoMemory _ c.from_residual-in_err-values_among.ensures.1
     (lacks_last (AsksInputs g.R.Client.answers) c.args.plan.now c.in_ok-found.found.items c.args.reader.now c.read_inputs.new.reader
-    (subst (λ (reads : List Read). Reads (AsksInputs g.R.Client.answers) c.args.reader.now reads c.in_ok-found.found.items c.read_inputs.new.reader) c.reads.ensures c.in_ok-found.ensures.made))
+    (subst (λ (reads : List Read). ReadsEach (AsksInputs g.R.Client.answers) c.args.reader.now reads c.in_ok-found.found.items c.read_inputs.new.reader) c.reads.ensures c.in_ok-found.ensures.made))

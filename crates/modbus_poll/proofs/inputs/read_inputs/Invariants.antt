@@ -1,10 +1,10 @@
 use Rattle.std.proofs.Common.{◌≤◌, length, take, vec_capacity}
-use Rattle.modbus_poll.specs.Polls.{Reads}
+use Rattle.modbus_poll.specs.Polls.{ReadsEach}
 use Rattle.modbus_poll.specs.Inputs.{AsksInputs}
 use Rattle.modbus_poll.proofs.inputs.read_inputs.Given as goal
 
 abbrev pub invariant-loop-place : goal.invariant-loop-place
 invariant-loop-place g l = record {
-  made : Reads (AsksInputs g.R.Client.answers) l.initial.reader (take l.place l.reads) l.found.items l.reader;
+  made : ReadsEach (AsksInputs g.R.Client.answers) l.initial.reader (take l.place l.reads) l.found.items l.reader;
   room : length l.reads ≤ vec_capacity l.found;
 }

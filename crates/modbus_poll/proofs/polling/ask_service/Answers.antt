@@ -1,8 +1,8 @@
 use Rattle.std.proofs.Common.{subst}
-use Rattle.modbus_client.specs.Matching.{Answer}
+use Rattle.modbus_client.specs.Matches.{Answer}
 use Rattle.modbus_client.specs.Back.{ComesBack}
 use Rattle.modbus_client.specs.Exchange.{ExchangesLocally}
-use Rattle.modbus_poll.specs.Polls.{asked}
+use Rattle.modbus_poll.specs.Polls.{request_for}
 use Rattle.modbus_poll.proofs.Served.{request_fits, registers_alone}
 use Rattle.modbus_poll.proofs.polling.ask_service.Goals as goal
 
@@ -13,6 +13,6 @@ as_words-requires g c =
 
 pub returns : goal.returns
 returns g c = record {
-  exchanges = subst (λ (a : Answer). ExchangesLocally g.V.Answerer.answering c.args.service.now c.exchange.new.service c.args.slave.0 (asked c.args.read.now) a) c.as_words.ensures c.exchange.ensures.exchanges;
-  comes_back = subst (λ (a : Answer). ComesBack g.V.Answerer.answering c.args.service.now c.exchange.new.service c.args.slave.0 (asked c.args.read.now) a) c.as_words.ensures c.exchange.ensures.comes_back;
+  exchanges = subst (λ (a : Answer). ExchangesLocally g.V.Answerer.answering c.args.service.now c.exchange.new.service c.args.slave.0 (request_for c.args.read.now) a) c.as_words.ensures c.exchange.ensures.exchanges;
+  comes_back = subst (λ (a : Answer). ComesBack g.V.Answerer.answering c.args.service.now c.exchange.new.service c.args.slave.0 (request_for c.args.read.now) a) c.as_words.ensures c.exchange.ensures.comes_back;
 }

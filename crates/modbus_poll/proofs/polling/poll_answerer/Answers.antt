@@ -2,7 +2,7 @@ use Rattle.std.proofs.Common.{ℕ, List, sym, subst}
 use Rattle.modbus_poll.specs.declared.polling.PollError.TheVariants.{NoMemory}
 use Rattle.modbus_poll.specs.declared.read.Read.{Read}
 use Rattle.modbus_poll.specs.Words.{AreWordsOf}
-use Rattle.modbus_poll.specs.Polls.{AsksService, Reads}
+use Rattle.modbus_poll.specs.Polls.{AsksService, ReadsEach}
 use Rattle.modbus_poll.proofs.Making.{words_made, lacks_last, stops_with}
 use Rattle.modbus_poll.proofs.polling.poll_answerer.Goals as goal
 
@@ -16,4 +16,4 @@ pub returns-in_err-values_among-clause-stops : goal.returns-in_err-values_among-
 returns-in_err-values_among-clause-stops g c =
     stops_with (AsksService g.V.Answerer.answering c.args.slave.0) c.args.plan.now c.args.service.now _ NoMemory _ c.from_residual-in_err-values_among.ensures.1
     (lacks_last (AsksService g.V.Answerer.answering c.args.slave.0) c.args.plan.now c.in_ok-found.found.items c.args.service.now c.read_by_service.new.service
-    (subst (λ (reads : List Read). Reads (AsksService g.V.Answerer.answering c.args.slave.0) c.args.service.now reads c.in_ok-found.found.items c.read_by_service.new.service) c.reads.ensures c.in_ok-found.ensures.made))
+    (subst (λ (reads : List Read). ReadsEach (AsksService g.V.Answerer.answering c.args.slave.0) c.args.service.now reads c.in_ok-found.found.items c.read_by_service.new.service) c.reads.ensures c.in_ok-found.ensures.made))

@@ -1,6 +1,6 @@
 use Rattle.std.proofs.Common.{◌≡◌, [], take, map}
 use Rattle.csv.specs.Records.{fields_of, partial_of}
-use Rattle.modbus_poller.specs.Shown.{shown}
+use Rattle.modbus_poll.specs.Text.{shown}
 use Rattle.modbus_poller.proofs.lines.csv_line.Given as goal
 
 abbrev pub invariant-loop-value : goal.invariant-loop-value

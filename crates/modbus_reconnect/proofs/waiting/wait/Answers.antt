@@ -1,6 +1,6 @@
 use Rattle.std.proofs.Common.{◌+◌, ◌∙◌, refl, arith}
 use Rattle.modbus_link.specs.Line.{meaning_of}
-use Rattle.modbus_reconnect.specs.SettlingState.{line_by}
+use Rattle.modbus_reconnect.specs.SettleState.{line_by}
 use Rattle.modbus_reconnect.proofs.Waited.{none_counted, some_counted, going_none, going_more, gives_up, answered, rose_once}
 use Rattle.modbus_reconnect.proofs.waiting.wait.Goals as goal
 

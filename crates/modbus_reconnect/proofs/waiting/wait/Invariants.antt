@@ -1,6 +1,6 @@
 use Rattle.std.proofs.Common.{◌≡◌, ◌<◌, [], IsTrue}
 use Rattle.modbus_link.specs.Line.{meaning_of}
-use Rattle.modbus_reconnect.specs.SettlingState.{line_by}
+use Rattle.modbus_reconnect.specs.SettleState.{line_by}
 use Rattle.modbus_reconnect.proofs.Waited.{Going}
 use Rattle.modbus_reconnect.proofs.waiting.wait.Given as goal
 

@@ -1,6 +1,6 @@
 use Rattle.std.proofs.Common.{drop, ap, ◌∙◌, arith}
 use Rattle.modbus_server.specs.State.{State}
-use Rattle.modbus_link.specs.Passing.{wrote_more}
+use Rattle.modbus_link.specs.Passes.{wrote_more}
 use Rattle.modbus_server.proofs.Moved.{keeps_more}
 use Rattle.modbus_server.proofs.drive.flush.Goals as goal
 

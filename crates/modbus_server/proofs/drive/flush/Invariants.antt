@@ -1,5 +1,5 @@
 use Rattle.std.proofs.Common.{◌≡◌, ◌≤◌, length}
-use Rattle.modbus_link.specs.Passing.{Sends}
+use Rattle.modbus_link.specs.Passes.{Sends}
 use Rattle.modbus_server.proofs.drive.flush.Given as goal
 
 abbrev pub invariant-loop-link : goal.invariant-loop-link

@@ -1,5 +1,5 @@
 use Rattle.std.proofs.Common.{◌∙◌, arith, ap}
-use Rattle.modbus_store.specs.Plays.{Mine, staged}
+use Rattle.modbus_store.specs.Plays.{Mine, with_stage}
 use Rattle.modbus_store.specs.Views.{waiting}
 use Rattle.modbus_store.proofs.Keeps.{takes_ticket, looks_serving}
 use Rattle.modbus_store.proofs.Turning.{hits, holds_value}
@@ -29,4 +29,4 @@ exchange-requires g c =
     let p = c.prepare-marked.ensures in
     let t = c.fetch_add-ticket.ensures.2 in
     let l = c.load-serving.ensures in
-    (l.0 ∙ (p.0 ∙ (i.0 ∙ (c.fetch_add-ticket.ensures.0 ∙ c.requires.desk.0))), holds_value (staged (waiting t.0) c.args.seat.now.me.0, c.args.seat.now.me.1) _ (hits c.args.seat.now.me _ _ _ _ _ t.1 (p.1 ∙ (i.1 ∙ t.2)) c.if-serving-ticket.true l.2))
+    (l.0 ∙ (p.0 ∙ (i.0 ∙ (c.fetch_add-ticket.ensures.0 ∙ c.requires.desk.0))), holds_value (with_stage (waiting t.0) c.args.seat.now.me.0, c.args.seat.now.me.1) _ (hits c.args.seat.now.me _ _ _ _ _ t.1 (p.1 ∙ (i.1 ∙ t.2)) c.if-serving-ticket.true l.2))

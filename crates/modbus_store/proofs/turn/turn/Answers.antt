@@ -4,7 +4,7 @@ use Rattle.modbus_store.specs.Outcomes.{outcome_of}
 use Rattle.modbus_store.specs.Legal.{Call, call}
 use Rattle.modbus_store.specs.Views.{Opening, resting}
 use Rattle.modbus_store.specs.Lock.{Holds}
-use Rattle.modbus_store.specs.Plays.{Mine, staged, known_of}
+use Rattle.modbus_store.specs.Plays.{Mine, with_stage, known_of}
 use Rattle.modbus_store.proofs.Turning.{extends, holds_more}
 use Rattle.modbus_store.proofs.turn.turn.Goals as goal
 
@@ -24,6 +24,6 @@ returns-in-Ok-clause-ok g c =
     let e : Call = call c.args.number c.args.request.now.slave (meaning c.args.request.now.request) (outcome_of c.in-Ok.outcome) in
     let done = c.in-Ok.ensures.ok in
     let x = extends e c.args.seat.now.me c.take_turn-stored.new.seat.me c.take_turn-stored.result c.leave.new.seat.me.0 c.requires.rests t done.answer
-    (ap (λ (m : Mine). m.0) c.leave.ensures.rests ∙ ap (λ (m : Mine). staged resting m.0) c.count.ensures.counted) in
+    (ap (λ (m : Mine). m.0) c.leave.ensures.rests ∙ ap (λ (m : Mine). with_stage resting m.0) c.count.ensures.counted) in
     let len : length c.leave.new.seat.me.0.seen ≡ length (log ++ e ∷ []) = ap length x.1 in
     (x.0, omega (arith, t.2.0.0, len, length-append log (e ∷ []), done.count))

@@ -2,7 +2,7 @@ use Rattle.std.proofs.Common.{◌≡◌, ◌-◌, ◌≤◌, ◌++◌, ◌∙◌
 use Rattle.std.specs.Prelude.{List, ℕ}
 use Rattle.circular_buffer.specs.Buffer.{Buffer}
 use Rattle.modbus_ascii.specs.declared.scan.Scan.{Scan}
-use Rattle.modbus_ascii.specs.Stands.{opening}
+use Rattle.modbus_ascii.specs.Stands.{after_last_end}
 use Rattle.modbus_ascii.specs.Scan.{Scans}
 use Rattle.modbus_ascii.proofs.Buffering.{scan-behind, scan-left}
 use Rattle.modbus_ascii.proofs.buffer.AsciiBufferFraming.advance.Goals as goal
@@ -12,7 +12,7 @@ run-requires c =
     let items = c.self.inside.ring.items in
     let scan = c.self.inside.scan in
     let now : Scan = record { decoder = scan.decoder; fed = 0; «open» = scan.«open»; found = false } in
-    scan-behind (opening items ++ take scan.fed items) c.truncate_front.new.self.items c.begins_within-within.result scan now c.self.invariant.scans.1 c.if-self.true
+    scan-behind (after_last_end items ++ take scan.fed items) c.truncate_front.new.self.items c.begins_within-within.result scan now c.self.invariant.scans.1 c.if-self.true
     c.begins_within-within.ensures c.if-not-within.true refl refl refl refl
 
 pub invariant_of-self-then-left-self : goal.invariant_of-self-then-left-self

@@ -7,13 +7,13 @@ use Rattle.modbus_service.specs.declared.service.ServiceError.{ServiceError}
 use Rattle.modbus_service.specs.declared.service.ServiceError.TheVariants.{Exception, NoMemory}
 use Rattle.modbus_diagnostics.specs.declared.heard.Heard.{Heard}
 use Rattle.modbus_diagnostics.specs.declared.port.Port.{Port}
-use Rattle.modbus_diagnostics.specs.Hearing.{heard}
+use Rattle.modbus_diagnostics.specs.Heard.{heard_as}
 use Rattle.modbus_diagnostics.specs.Port.{told_end, counted_when, hearing, port_answering}
 use Rattle.modbus_diagnostics.proofs.port.PortAnswerer.ask.Goals as goal
 
 by_told : {S : Type 0} (A : Answering S) (old new : Port S) (slave : ℕ) (request : Asked) (told : Result (Option Response) ServiceError)
-    → (new.units ≡ old.units) × (new.counters ≡ counted_when old.counters (heard old.units.items slave request) (told_end told))
-    × Keeps (hearing A old.counters (heard old.units.items slave request)) old.service slave request told new.service
+    → (new.units ≡ old.units) × (new.counters ≡ counted_when old.counters (heard_as old.units.items slave request) (told_end told))
+    × Keeps (hearing A old.counters (heard_as old.units.items slave request)) old.service slave request told new.service
     → Keeps (port_answering A) old slave request told new
 by_told A old new slave request (Ok None) done = done
 by_told A old new slave request (Ok (Some response)) done = done
@@ -21,7 +21,7 @@ by_told A old new slave request (Err (Exception code)) done = done
 by_told A old new slave request (Err NoMemory) done = done
 
 keeps_port : {S : Type 0} (A : Answering S) (old new : Port S) (slave : ℕ) (request : Asked) (h : Heard)
-    (told : Result (Option Response) ServiceError) → h ≡ heard old.units.items slave request
+    (told : Result (Option Response) ServiceError) → h ≡ heard_as old.units.items slave request
     → Keeps (hearing A old.counters h) old.service slave request told new.service
     → new.counters ≡ counted_when old.counters h (told_end told) → new.units ≡ old.units
     → Keeps (port_answering A) old slave request told new
@@ -35,5 +35,5 @@ returns g c =
     let units = c.deref.ensures.value in
     keeps_port g.S.Answerer.answering old (record { units = old.units; service = c.tell-told.new.service; counters = c.after_told-self.result })
     c.args.request.slave (meaning c.args.request.request) c.hear-heard.result c.tell-told.result
-    (c.hear-heard.ensures ∙ ap (λ us. heard us c.args.request.slave (meaning c.args.request.request)) units)
+    (c.hear-heard.ensures ∙ ap (λ us. heard_as us c.args.request.slave (meaning c.args.request.request)) units)
     c.tell-told.ensures c.after_told-self.ensures refl

@@ -2,7 +2,7 @@ use Rattle.std.proofs.Common.{◌≡◌, ◌∙◌, Bool, refl, sym, ap}
 use Rattle.std.specs.Prelude.{true, false, if◌then◌else◌}
 use Rattle.modbus_link.specs.declared.polled.Polled.TheVariants.{Ready, Pending}
 use Rattle.modbus_frame.specs.Meaning.{meaning}
-use Rattle.modbus_reconnect.specs.Owing.{leaves_nothing}
+use Rattle.modbus_reconnect.specs.Owes.{leaves_nothing}
 use Rattle.modbus_fleet.specs.declared.conversation.Stand.TheVariants.{Away, Idle}
 use Rattle.modbus_fleet.proofs.conversation.Conversation.go_on.Goals as goal
 

@@ -1,7 +1,7 @@
 use Rattle.std.proofs.Common.{◌≡◌, ℕ, zero, suc, ◌+◌, ◌<◌, ◌≤◌, refl, sym, ap, ◌∙◌, arith}
 use Rattle.modbus_link.specs.Line.{meaning_of}
 use Rattle.modbus_frame.specs.Meaning.{meaning}
-use Rattle.modbus_client.specs.Connecting.{connector_of}
+use Rattle.modbus_client.specs.Connects.{connector_of}
 use Rattle.modbus_reconnect.specs.State.{ReconnectingState, meaning_by}
 use Rattle.modbus_reconnect.proofs.Vain.{tried_of, one_more, ends_by_answer, ends_by_count, retries_after, counted}
 use Rattle.modbus_reconnect.proofs.client.ReconnectingClientClient.call.Goals as goal

@@ -1,9 +1,9 @@
 use Rattle.std.proofs.Common.{◌≡◌, ℕ}
 use Rattle.modbus_link.specs.Line.{meaning_of}
-use Rattle.modbus_client.specs.Connecting.{connector_of}
+use Rattle.modbus_client.specs.Connects.{connector_of}
 use Rattle.modbus_reconnect.specs.State.{meaning_by}
 use Rattle.modbus_frame.specs.Meaning.{meaning}
-use Rattle.modbus_reconnect.specs.Calling.{TriesInVain}
+use Rattle.modbus_reconnect.specs.Calls.{TriesInVain}
 use Rattle.modbus_reconnect.proofs.client.ReconnectingClientClient.call.Given as goal
 
 -- as many tries as rounds were made in vain

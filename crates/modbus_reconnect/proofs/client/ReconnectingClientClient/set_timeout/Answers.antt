@@ -1,6 +1,6 @@
 use Rattle.std.proofs.Common.{refl}
 use Rattle.modbus_link.specs.Line.{meaning_of}
-use Rattle.modbus_client.specs.Connecting.{connector_of}
+use Rattle.modbus_client.specs.Connects.{connector_of}
 use Rattle.modbus_reconnect.specs.State.{meaning_by}
 use Rattle.modbus_reconnect.proofs.Kept.{ready_of, limited_is_ready}
 use Rattle.modbus_reconnect.proofs.client.ReconnectingClientClient.set_timeout.Goals as goal

@@ -1,5 +1,5 @@
 use Rattle.modbus_link.specs.Line.{meaning_of}
-use Rattle.modbus_client.specs.Connecting.{connector_of}
+use Rattle.modbus_client.specs.Connects.{connector_of}
 use Rattle.modbus_reconnect.specs.State.{meaning_by}
 use Rattle.modbus_reconnect.proofs.Kept.{ready_of, slaved_is_ready}
 use Rattle.modbus_reconnect.proofs.client.ReconnectingClientSlaveContext.set_slave.Goals as goal

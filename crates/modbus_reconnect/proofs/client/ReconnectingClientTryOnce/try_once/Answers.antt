@@ -1,6 +1,6 @@
 use Rattle.std.proofs.Common.{◌∙◌, Some, None}
 use Rattle.modbus_link.specs.Line.{meaning_of}
-use Rattle.modbus_client.specs.Connecting.{connector_of}
+use Rattle.modbus_client.specs.Connects.{connector_of}
 use Rattle.modbus_reconnect.specs.State.{meaning_by}
 use Rattle.modbus_frame.specs.Meaning.{meaning}
 use Rattle.modbus_reconnect.proofs.Kept.{kept_is_ready, moved}

@@ -1,6 +1,6 @@
 use Rattle.std.proofs.Common.{inr, refl}
 use Rattle.modbus_link.specs.Line.{meaning_of}
-use Rattle.modbus_reconnect.specs.SettlingState.{line_by}
+use Rattle.modbus_reconnect.specs.SettleState.{line_by}
 use Rattle.modbus_reconnect.proofs.Cleared.{settles_line}
 use Rattle.modbus_reconnect.proofs.settling_client.SettlingClient.clear.Goals as goal
 

@@ -1,7 +1,7 @@
 use Rattle.std.proofs.Common.{ℕ, ap, subst, sym, ◌∙◌}
 use Rattle.modbus_link.specs.Line.{meaning_of}
 use Rattle.modbus_frame.specs.Meaning.{meaning}
-use Rattle.modbus_reconnect.specs.SettlingState.{SettlingState, line_by}
+use Rattle.modbus_reconnect.specs.SettleState.{SettlingState, line_by}
 use Rattle.modbus_reconnect.specs.OnLine.{AsksOn}
 use Rattle.modbus_reconnect.proofs.Cleared.{calls_asked}
 use Rattle.modbus_reconnect.proofs.settling_client.SettlingClientClient.call.Goals as goal

@@ -1,5 +1,4 @@
-use Rattle.modbus_server.proofs.Rooms.{frame_room}
 use Rattle.modbus_server.proofs.rtu.InboxFraming.encode_answer.Goals as goal
 
 pub returns-clause-memory : goal.returns-clause-memory
-returns-clause-memory c = frame_room c.args.header c.args.reply.now.spare _ c.args.reply.now.items _ c.encode_response_frame.result c.encode_response_frame.ensures.encodes c.encode_response_frame.ensures.memory
+returns-clause-memory c = c.encode_response_frame.ensures.longest

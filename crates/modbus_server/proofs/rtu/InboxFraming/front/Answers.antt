@@ -1,9 +1,8 @@
+use Rattle.modbus_server.proofs.Fronts.{finds_frame, frame_within}
 use Rattle.modbus_server.proofs.rtu.InboxFraming.front.Goals as goal
 
-pub returns-in-Ok-Frame-clause-finds : goal.returns-in-Ok-Frame-clause-finds
-returns-in-Ok-Frame-clause-finds c = λ bytes cuts taken s. (rw c.in-Ok-Frame.field-0-is at c.in-Ok-Frame.ensures.stands) bytes cuts taken s
+pub returns-clause-finds : goal.returns-clause-finds
+returns-clause-finds c = λ bytes cuts taken s. finds_frame bytes cuts taken c.args.self.now c.front.result (c.front.ensures.stands bytes cuts taken s)
 
-pub returns-in-Ok-Waiting-clause-finds : goal.returns-in-Ok-Waiting-clause-finds
-returns-in-Ok-Waiting-clause-finds c = λ bytes cuts taken s.
-    let found = (rw c.in-Ok-Waiting.field-0-is at c.in-Ok-Waiting.ensures.stands) bytes cuts taken s in
-    (found.0, found.1)
+pub returns-clause-within : goal.returns-clause-within
+returns-clause-within c = frame_within c.args.self.now c.front.result c.front.ensures.finds

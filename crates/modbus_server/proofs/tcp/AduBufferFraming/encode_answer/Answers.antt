@@ -1,5 +1,4 @@
-use Rattle.modbus_server.proofs.Rooms.{adu_room}
 use Rattle.modbus_server.proofs.tcp.AduBufferFraming.encode_answer.Goals as goal
 
 pub returns-clause-memory : goal.returns-clause-memory
-returns-clause-memory c = adu_room _ c.args.reply.now.spare _ c.args.reply.now.items _ c.encode_response_adu.result c.encode_response_adu.ensures.encodes c.encode_response_adu.ensures.memory
+returns-clause-memory c = c.encode_response_adu.ensures.longest

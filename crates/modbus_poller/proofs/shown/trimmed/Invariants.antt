@@ -1,9 +1,0 @@
-use Rattle.std.proofs.Common.{◌≡◌, ◌≤◌, take}
-use Rattle.modbus_poller.specs.Shown.{trimmed}
-use Rattle.modbus_poller.proofs.shown.trimmed.Given as goal
-
-abbrev pub invariant-loop-place : goal.invariant-loop-place
-invariant-loop-place l = record {
-  within : l.end ≤ l.place;
-  kept : take l.end l.bytes ≡ trimmed (take l.place l.bytes);
-}

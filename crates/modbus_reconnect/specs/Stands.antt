@@ -1,0 +1,46 @@
+-- What a link stands for that is used for a call: nothing is owed on it.
+use Rattle.std.specs.Prelude.{◌≡◌, ℕ, Option, None, Some, Ok, IsTrue}
+use Rattle.std.specs.declared.net.SocketAddr.{SocketAddr}
+use Rattle.std.specs.declared.time.Duration.{Duration}
+use Rattle.modbus_link.specs.Line.{KeepsEnds}
+use Rattle.modbus_frame.specs.Meaning.{Asked}
+use Rattle.modbus_client.specs.Matches.{Answer}
+use Rattle.modbus_client.specs.State.{ClientState, attached_client}
+use Rattle.modbus_client.specs.Calls.{Called}
+use Rattle.modbus_client.specs.Ends.{Limited}
+use Rattle.modbus_reconnect.specs.Owes.{leaves_nothing}
+use Rattle.modbus_reconnect.specs.State.{Settings, Meaning}
+
+-- A client of a link that was just made: it asked nothing, and has this slave and these turns. The link is as it was given, but for the
+-- timeout, which is set on it.
+pub record IsFresh {H I C L : Type 0} (m : Meaning H I C L) (settings : Settings) (given : L) (client : ClientState I L) : Type 0 where
+  pub state : client ≡ record (attached_client m.heading client.link settings.slave) { turns = settings.turns }
+  pub timed : m.link.line client.link ≡ record (m.link.line given) { timeout = settings.timeout }
+  pub ends : KeepsEnds m.link given client.link
+
+-- Nothing is owed on the link of this client: the connector gave the link for this address, and each call since was answered by its own
+-- reply, with no byte left over, or sent nothing. Between the calls its slave, its turns and its timeout were set.
+pub data OwesNothing {H I C L : Type 0} (m : Meaning H I C L) (address : SocketAddr) : ClientState I L → Type 0 where
+  made : (old new : C) (settings : Settings) (given : L) (client : ClientState I L)
+      → m.connector.connects old address settings.timeout (Ok given) new → IsFresh m settings given client → OwesNothing m address client
+  called : (before client : ClientState I L) (asked : Asked) (answer : Answer)
+      → OwesNothing m address before → Called m.protocol m.heading m.link before asked answer client
+      → IsTrue (leaves_nothing asked answer client.held) → OwesNothing m address client
+  directed : (before client : ClientState I L) (slave turns : ℕ)
+      → OwesNothing m address before → client ≡ record before { slave = slave; turns = turns } → OwesNothing m address client
+  limited : (before client : ClientState I L) (timeout : Option Duration)
+      → OwesNothing m address before → Limited m.link before timeout client → OwesNothing m address client
+
+-- A client on whose link a call may be made: nothing is owed on it, and it is connected with these settings, of which the timeout is the
+-- link's.
+pub record IsReady {H I C L : Type 0} (m : Meaning H I C L) (address : SocketAddr) (settings : Settings) (client : ClientState I L) : Type 0 where
+  pub owes_nothing : OwesNothing m address client
+  pub connected : IsTrue client.is_connected
+  pub slave : client.slave ≡ settings.slave
+  pub turns : client.turns ≡ settings.turns
+  pub timed : (m.link.line client.link).timeout ≡ settings.timeout
+
+-- the same of the client that is kept, where there is one
+abbrev pub IsReadyIfSome : {H I C L : Type 0} → Meaning H I C L → SocketAddr → Settings → Option (ClientState I L) → Type 0
+IsReadyIfSome m address settings None = Unit {0}
+IsReadyIfSome m address settings (Some client) = IsReady m address settings client
