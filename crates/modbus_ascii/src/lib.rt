@@ -15,8 +15,6 @@ mod encoder;
 pub mod laws;
 mod limits;
 mod scan;
-#[cfg(test)]
-mod tests;
 
 pub use crate::buffer::AsciiBuffer;
 pub use crate::checksum::lrc;

@@ -12,8 +12,6 @@ mod frame;
 pub mod laws;
 mod line;
 mod link;
-#[cfg(test)]
-mod tests;
 
 pub use crate::bursts::{Bursts, MOST_READ};
 pub use crate::frame::{NOISE_ADDRESS, SHORTEST_FRAME, frame_in, message_in};

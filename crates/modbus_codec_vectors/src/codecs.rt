@@ -1,4 +1,5 @@
 //! Frames of a serial line and ADUs of Modbus TCP: their lengths, the search for them, the codecs of both ends, and the inbox of a server.
+//! Frames of the ASCII transmission mode: the codecs of both ends.
 
 use bytes::{Bytes, BytesMut};
 use modbus_frame::{EncodeError, RequestPdu, ResponsePdu, rtu, tcp};
@@ -62,6 +63,25 @@ fn rtu_client(alloc: Global, data: &[u8]) -> Result<Option<String>, AllocError> 
     let found = modbus_rtu::ClientCodec::new().decode(alloc, &mut buf);
     let left = buf.len();
     Ok(Some(format!(in alloc; "{found:?} left {left}")?))
+}
+
+/// What the codec of an end gives at the last of these characters.
+fn ascii_server(alloc: Global, data: &[u8]) -> Result<Option<String>, AllocError> {
+    let mut codec = modbus_ascii::ServerCodec::new();
+    let mut found = Ok(None);
+    for byte in data {
+        found = codec.feed(alloc, *byte);
+    }
+    shown(alloc, &found)
+}
+
+fn ascii_client(alloc: Global, data: &[u8]) -> Result<Option<String>, AllocError> {
+    let mut codec = modbus_ascii::ClientCodec::new();
+    let mut found = Ok(None);
+    for byte in data {
+        found = codec.feed(alloc, *byte);
+    }
+    shown(alloc, &found)
 }
 
 fn tcp_server(alloc: Global, data: &[u8]) -> Result<Option<String>, AllocError> {
@@ -166,17 +186,25 @@ fn encode(
         transaction_id,
         unit_id,
     };
-    if call == "rtu_client_encode" || call == "tcp_client_encode" {
+    if call.ends_with("client_encode") {
         let Ok(request) = decode_request(alloc, pdu) else {
             return Ok(None);
         };
         let pdu = RequestPdu(request);
-        let result = if call == "rtu_client_encode" {
-            let adu = rtu::RequestAdu { hdr: slave, pdu };
-            modbus_rtu::ClientCodec::new().encode(alloc, adu, &mut buf)
-        } else {
-            let adu = tcp::RequestAdu { hdr: header, pdu };
-            modbus_tcp::ClientCodec::new().encode(alloc, adu, &mut buf)
+        let result = match call {
+            "rtu_client_encode" => {
+                let adu = rtu::RequestAdu { hdr: slave, pdu };
+                modbus_rtu::ClientCodec::new().encode(alloc, adu, &mut buf)
+            }
+            "ascii_client_encode" => {
+                let adu = rtu::RequestAdu { hdr: slave, pdu };
+                modbus_ascii::ClientCodec::new().encode(alloc, adu, &mut buf)
+            }
+            "tcp_client_encode" => {
+                let adu = tcp::RequestAdu { hdr: header, pdu };
+                modbus_tcp::ClientCodec::new().encode(alloc, adu, &mut buf)
+            }
+            _ => return Ok(None),
         };
         return encoded(alloc, result, &buf);
     }
@@ -192,6 +220,10 @@ fn encode(
         "rtu_server_encode" => {
             let adu = rtu::ResponseAdu { hdr: slave, pdu };
             modbus_rtu::ServerCodec::new().encode(alloc, adu, &mut buf)
+        }
+        "ascii_server_encode" => {
+            let adu = rtu::ResponseAdu { hdr: slave, pdu };
+            modbus_ascii::ServerCodec::new().encode(alloc, adu, &mut buf)
         }
         "tcp_server_encode" => {
             let adu = tcp::ResponseAdu { hdr: header, pdu };
@@ -211,6 +243,8 @@ fn of_bytes(alloc: Global, call: &str, data: &[u8]) -> Result<Option<String>, Al
         "rtu_responses" => rtu_responses(alloc, data),
         "rtu_server" => rtu_server(alloc, data),
         "rtu_client" => rtu_client(alloc, data),
+        "ascii_server" => ascii_server(alloc, data),
+        "ascii_client" => ascii_client(alloc, data),
         "tcp_front" => shown(alloc, &front(data)),
         "tcp_adus" => tcp_adus(alloc, data),
         "tcp_server" => tcp_server(alloc, data),

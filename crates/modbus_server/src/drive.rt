@@ -16,6 +16,9 @@ use modbus_service::Answerer;
 use std::alloc::Global;
 
 /// How a server tells why there is no next reply.
+// A connection ends with it, so it is kept out of the steps that answer.
+#[cold]
+#[inline(never)]
 pub(crate) fn tell_next<I: Framing>(error: NextError<I::Fault>) -> ProcessError
     ensures told { result ≡ told_next I.told error }
     ensures own { IsToldWell I.told error }

@@ -1,12 +1,15 @@
 //! Servers over memory, with a service that answers every request with the same registers.
 
-use modbus_link::{Both, MemoryStop, Polled, PolledMemoryLink};
+use modbus_burst::BurstLink;
+use modbus_link::{Both, MemoryStop, Polled, PolledMemoryLink, TimedMemoryLink};
 use modbus_rtu::Inbox;
 use modbus_server::tcp::AduBuffer;
 use modbus_server::{
     Connection, ConnectionWorker, Forward, Framing, PolledProcess, ProcessError, rtu, rtu_over_tcp,
     tcp,
 };
+use modbus_service::OnlyUnit;
+use modbus_standard::StandardAnswers;
 use modbus_table::SameWords;
 use modbus_table::outside::{Outside, read_outside};
 use modbus_table::text::{hex, number};
@@ -38,9 +41,40 @@ fn served(
     let ended = match framing {
         "rtu" => rtu_over_tcp::process(alloc, &mut source, &mut sink, service, turns),
         "tcp" => tcp::process(alloc, &mut source, &mut sink, service, turns),
+        "ascii" => modbus_ascii::ascii::process(alloc, &mut source, &mut sink, service, turns),
         _ => return Ok(None),
     };
     told(alloc, &ended, sink.bytes(), source.given(), service)
+}
+
+/// Slave 1 on a line that it shares with others.
+fn served_among_others(
+    alloc: Global,
+    service: &mut SameWords,
+    turns: u64,
+    outside: Outside,
+) -> Result<Option<String>, AllocError> {
+    let mut silences = Vec::new(alloc);
+    for total in outside.pending.as_slice() {
+        silences.push(usize::try_from(*total).unwrap_or(usize::MAX))?;
+    }
+    let link = TimedMemoryLink::new(alloc, outside.into_link(), silences.as_slice())?;
+    let mut link = BurstLink::new(link);
+    let mut device = OnlyUnit {
+        unit: 1,
+        service: StandardAnswers {
+            service: Forward(&mut *service),
+        },
+    };
+    let ended = modbus_burst::process_link(alloc, &mut link, &mut device, turns);
+    let link = link.link().link();
+    told(
+        alloc,
+        &ended,
+        link.sink().bytes(),
+        link.source().given(),
+        service,
+    )
 }
 
 /// A source and a sink that are lent as one object, and a service that is lent.
@@ -178,7 +212,8 @@ fn worked<I: Framing>(
 }
 
 /// `serve`, `serve_lent`, `polled_serve`, `serve_until` or `work`; a framing; how many registers the service answers; how many reads may
-/// give bytes, or how often the signal is looked at before it is set; and the outside. `step`, with the steps in place of that number.
+/// give bytes, or how often the signal is looked at before it is set; and the outside. `step`, with the steps in place of that number. Of
+/// `serve burst` the words `p8` say behind how many bytes the line is silent.
 pub fn answer(alloc: Global, call: &str, words: &[&str]) -> Result<Option<String>, AllocError> {
     let [framing, count, turns, words @ ..] = words else {
         return Ok(None);
@@ -200,6 +235,9 @@ pub fn answer(alloc: Global, call: &str, words: &[&str]) -> Result<Option<String
     };
     let turns = u64::from(turns);
     match call {
+        "serve" if *framing == "burst" => {
+            served_among_others(alloc, &mut service, turns, outside)
+        }
         "serve" => served(alloc, framing, &mut service, turns, outside),
         "serve_lent" => served_by_lent(alloc, framing, &mut service, turns, outside),
         "polled_serve" => served_by_polls(alloc, framing, &mut service, turns, outside),

@@ -32,7 +32,9 @@ fn put_header(buf: &mut BytesMut, header: tcp::Header, pdu_len: usize)
     let [t0, t1] = header.transaction_id.to_be_bytes();
     let [p0, p1] = MODBUS.to_be_bytes();
     let [l0, l1] = ((pdu_len + UNIT_IDENTIFIER) as u16).to_be_bytes();
-    buf.extend_reserved(&[t0, t1, p0, p1, l0, l1, header.unit_id]);
+    let start = buf.len();
+    buf.advance_mut(HEADER);
+    buf.as_mut_slice()[start..].copy_from_slice(&[t0, t1, p0, p1, l0, l1, header.unit_id]);
 }
 
 /// Appends the ADU of a request: the header, with its transaction and its unit identifier, and the PDU (section 3.1).

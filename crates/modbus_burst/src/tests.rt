@@ -1,2 +1,0 @@
-//! What no clause says: bursts, in and out.
-mod served;
