@@ -1,5 +1,6 @@
 -- What the search finds in the bytes that a call read is what the call tells.
 use Rattle.std.proofs.Common.{◌≡◌, ◌≢◌, inl, inr, ℕ, List, [], ◌∷◌, length, Ok, Err, refl, sym, ap, ◌∙◌, subst, arith}
+use Rattle.modbus_link.specs.declared.outside.Cut.{Cut}
 use Rattle.modbus_link.specs.Outside.{outside, Input, Output, Rose, RisesTo}
 use Rattle.modbus_link.specs.Runs.{RisesTo-count}
 use Rattle.modbus_link.specs.Reads.{totals}
@@ -21,7 +22,7 @@ use Rattle.modbus_client.specs.Exactly.{IsAnswerTo, IsToldOf, IsOfWaiting, Tells
 abbrev pub IsOneWay : {H : Type 0} → Protocol H → Type 0
 IsOneWay {H} P = (asked : HeaderSeen) (bytes cuts : List ℕ) (found other : Found) → P.Finds asked bytes cuts found → P.Finds asked bytes cuts other → found ≡ other
 
-no_made : (made : List (ℕ × ℕ)) (fed : List ℕ) → fed ≡ [] → RisesTo 0 made (length fed) → made ≡ []
+no_made : (made : List Cut) (fed : List ℕ) → fed ≡ [] → RisesTo 0 made (length fed) → made ≡ []
 no_made [] fed none rises = refl
 no_made (cut ∷ made) fed none rises = absurd (omega (arith, RisesTo-count 0 (length fed) (cut ∷ made) rises, ap length none))
 

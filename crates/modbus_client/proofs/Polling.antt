@@ -2,7 +2,8 @@
 use Rattle.std.proofs.Common.{◌≡◌, ◌≢◌, inl, inr, ℕ, ◌+◌, ◌<◌, ◌≤◌, List, [], ◌∷◌, ◌++◌, length, Option, Some, None, Ok, Err, refl, sym, ap, ◌∙◌, subst, arith, append-nil, append_assoc, length-append}
 use Rattle.modbus_link.specs.declared.polled.Polled.{Polled}
 use Rattle.modbus_link.specs.declared.polled.Polled.TheVariants.{Ready, Pending}
-use Rattle.modbus_link.specs.Outside.{Outside, outside, Input, Output, Rose, cuts_from}
+use Rattle.modbus_link.specs.declared.outside.Cut.{Cut}
+use Rattle.modbus_link.specs.Outside.{cut_at, Outside, outside, Input, Output, Rose, cuts_from}
 use Rattle.modbus_link.specs.Passes.{Passes, Sends, passes_none, passes_out, passes_in, passes_both}
 use Rattle.modbus_link.specs.Reads.{totals, HaveRooms, Spends}
 use Rattle.modbus_link.specs.Runs.{RisesTo-both}
@@ -98,7 +99,7 @@ module _ {H : Type 0} (P : Protocol H) where
     unopened_wanting o = record { goes = tt; asks = tt; fits = tt; too_long = λ long. absurd (omega (arith, o.cause, long)); cause = o.cause }
 
   -- an answer of the bytes comes with the read of its turn, before which the search waited
-  module _ (asked : HeaderSeen) (bytes fed held : List ℕ) (earlier made : List (ℕ × ℕ)) (waits : P.Finds asked bytes (totals earlier) (waiting held)) (once : IsOneRead fed made) where
+  module _ (asked : HeaderSeen) (bytes fed held : List ℕ) (earlier made : List Cut) (waits : P.Finds asked bytes (totals earlier) (waiting held)) (once : IsOneRead fed made) where
     waited : length made ≡ 1 → WaitedBefore P asked (bytes ++ fed) (earlier ++ cuts_from (length bytes) made)
     waited one = elim once [
       | inl none ↦ absurd (omega (arith, one, ap length none.1))
@@ -108,12 +109,12 @@ module _ {H : Type 0} (P : Protocol H) where
         earlier = earlier;
         kept = held;
         joined = refl;
-        last = ap (λ m. earlier ++ cuts_from (length bytes) m) some.1 ∙ ap (λ n. earlier ++ (n, read_room) ∷ []) (sym (length-append bytes fed));
+        last = ap (λ m. earlier ++ cuts_from (length bytes) m) some.1 ∙ ap (λ n. earlier ++ cut_at n read_room ∷ []) (sym (length-append bytes fed));
         waits = waits;
       }
     ]
 
-  came_last : (asked : HeaderSeen) (answer : Answer) (bytes fed held : List ℕ) (earlier made : List (ℕ × ℕ)) → P.Finds asked bytes (totals earlier) (waiting held) → IsOneRead fed made → TurnSpends (Some answer) (length made)
+  came_last : (asked : HeaderSeen) (answer : Answer) (bytes fed held : List ℕ) (earlier made : List Cut) → P.Finds asked bytes (totals earlier) (waiting held) → IsOneRead fed made → TurnSpends (Some answer) (length made)
       → CameLast P asked (bytes ++ fed) (earlier ++ cuts_from (length bytes) made) answer
   came_last asked (Ok result) bytes fed held earlier made waits once spends = waited asked bytes fed held earlier made waits once spends.1
   came_last asked (Err (protocol fault)) bytes fed held earlier made waits once spends = waited asked bytes fed held earlier made waits once spends.1
@@ -126,11 +127,11 @@ module _ {H : Type 0} (P : Protocol H) where
   -- what a poll keeps from turn to turn, once the request is written
   pub record PollGoing (from to : Input) (sunk sinks : Output) (idle idle' : ℕ) (old call : CallState) : Type 0 where
     pub fed : List ℕ
-    pub made : List (ℕ × ℕ)
+    pub made : List Cut
     pub sent : List ℕ
     pub passes : Passes (outside from sunk) (outside to sinks) fed made sent
     pub same : IsSameCall old call
-    pub goes_on : (written bytes : List ℕ) (earlier : List (ℕ × ℕ)) → CallGoes P written bytes earlier old
+    pub goes_on : (written bytes : List ℕ) (earlier : List Cut) → CallGoes P written bytes earlier old
         → CallGoes P (written ++ sent) (bytes ++ fed) (earlier ++ cuts_from (length bytes) made) call
     pub written : call.unwritten ≡ []
     pub all : sent ≡ old.unwritten
@@ -148,7 +149,7 @@ module _ {H : Type 0} (P : Protocol H) where
     was_some : new.unwritten ≢ [] → old.unwritten ≢ []
     was_some some e = some (none_left sends.sent new.unwritten (sym sends.splits ∙ e))
 
-    flushed : (written bytes : List ℕ) (earlier : List (ℕ × ℕ)) → CallGoes P written bytes earlier old → CallGoes P (written ++ sends.sent) bytes earlier new
+    flushed : (written bytes : List ℕ) (earlier : List Cut) → CallGoes P written bytes earlier old → CallGoes P (written ++ sends.sent) bytes earlier new
     flushed written bytes earlier s = record {
       stands = record {
         wrote = ap (λ (s : CallState). s.request) keeps ∙ s.stands.wrote ∙ ap (λ w. written ++ w) sends.splits ∙ sym (append_assoc written sends.sent new.unwritten);
@@ -170,7 +171,7 @@ module _ {H : Type 0} (P : Protocol H) where
     wrote : Passes (outside a k) (outside b m) [] [] sends.sent
     wrote = passes_out (outside a k) (outside b m) sends.sent unread sends.sink sends.wrote
 
-    goes_flushed : (written bytes : List ℕ) (earlier : List (ℕ × ℕ)) → CallGoes P written bytes earlier old → CallGoes P (written ++ sends.sent) (bytes ++ []) (earlier ++ []) new
+    goes_flushed : (written bytes : List ℕ) (earlier : List Cut) → CallGoes P written bytes earlier old → CallGoes P (written ++ sends.sent) (bytes ++ []) (earlier ++ []) new
     goes_flushed written bytes earlier s = unread_on (λ x y. CallGoes P (written ++ sends.sent) x y new) bytes earlier (flushed written bytes earlier s)
 
     pub flushed_all : new.unwritten ≡ [] → PollGoing a b k m idle idle' old new
@@ -286,7 +287,7 @@ module _ {H : Type 0} (P : Protocol H) where
             (passes_both (outside a k) (outside b l) (outside c m) g.fed t.fed g.made t.made g.sent [] g.passes t.passes)
 
         -- of all that the call stood for before the turn
-        module _ (written bytes : List ℕ) (made : List (ℕ × ℕ)) (s : CallGoes P written bytes made old) where
+        module _ (written bytes : List ℕ) (made : List Cut) (s : CallGoes P written bytes made old) where
           turned : TurnsAs P written (bytes ++ t.fed) (totals (made ++ cuts_from (length bytes) t.made)) new answer
           turned = subst (λ cuts. TurnsAs P written (bytes ++ t.fed) cuts new answer) (sym (totals_both (length bytes) made t.made)) (t.stands written bytes (totals made) s.stands)
 
@@ -317,7 +318,7 @@ module _ {H : Type 0} (P : Protocol H) where
         goes_on = λ written bytes earlier start.
             let s : CallGoes P (written ++ g.sent) (bytes ++ g.fed) (earlier ++ cuts_from (length bytes) g.made) old = g.goes_on written bytes earlier start in
             let now : List ℕ = bytes ++ g.fed in
-            let made : List (ℕ × ℕ) = earlier ++ cuts_from (length bytes) g.made in
+            let made : List Cut = earlier ++ cuts_from (length bytes) g.made in
             let stands : CallStands P (written ++ g.sent) (now ++ t.fed) (totals (made ++ cuts_from (length now) t.made)) new = turned None t (written ++ g.sent) now made s in
             regroup (λ x y. CallGoes P (written ++ g.sent) x y new) bytes g.fed t.fed earlier g.made t.made record {
               stands = stands;
@@ -347,7 +348,7 @@ module _ {H : Type 0} (P : Protocol H) where
         goes_on = λ written bytes earlier start.
             let s : CallGoes P (written ++ g.sent) (bytes ++ g.fed) (earlier ++ cuts_from (length bytes) g.made) old = g.goes_on written bytes earlier start in
             let now : List ℕ = bytes ++ g.fed in
-            let made : List (ℕ × ℕ) = earlier ++ cuts_from (length bytes) g.made in
+            let made : List Cut = earlier ++ cuts_from (length bytes) g.made in
             let all : written ++ g.sent ≡ new.request = sym (t.same.request ∙ s.stands.wrote ∙ ap (λ w. (written ++ g.sent) ++ w) g.written ∙ append-nil (written ++ g.sent)) in
             regroup (λ x y. CallEnds P (written ++ g.sent) x y new answer) bytes g.fed t.fed earlier g.made t.made record {
               writes = whole_written new.request (written ++ g.sent) answer all late;
@@ -408,7 +409,7 @@ module _ {H : Type 0} (P : Protocol H) where
 
   -- the polls so far and a last one are one call
   module _ (a b : Input) (k m : Output) (idle idle' : ℕ) (old new : CallState) where
-    pub exchanged_polled : (answer : Answer) → CallPolled P (outside a k) (outside b m) idle idle' old new (Ready answer) → (header : H) (asked : Asked) (turns : ℕ) (written bytes : List ℕ) (made : List (ℕ × ℕ)) (first : Outside)
+    pub exchanged_polled : (answer : Answer) → CallPolled P (outside a k) (outside b m) idle idle' old new (Ready answer) → (header : H) (asked : Asked) (turns : ℕ) (written bytes : List ℕ) (made : List Cut) (first : Outside)
         → IsCallFor P header asked turns old → Fits (request_pdu asked) → CallGoes P written bytes made old → Passes first (outside a k) bytes made written
         → Exchanged P first (outside b m) header asked turns new.held answer
     exchanged_polled answer p header asked turns written bytes made first asks fits s passed =

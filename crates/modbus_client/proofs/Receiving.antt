@@ -1,5 +1,6 @@
 -- What one turn of waiting for a reply spends, reads and answers.
 use Rattle.std.proofs.Common.{inl, inr, ℕ, ◌+◌, ◌<◌, ◌≤◌, List, length, Some, Ok, Err, refl, ap, arith}
+use Rattle.modbus_link.specs.declared.outside.Cut.{Cut}
 use Rattle.modbus_link.specs.Outside.{Rose, cuts_from}
 use Rattle.modbus_link.specs.Reads.{HaveRooms, Spends}
 use Rattle.modbus_frame.specs.declared.fault.Error.TheVariants.{Protocol as protocol, Transport, NoMemory}
@@ -29,13 +30,13 @@ spends_by (Err (Transport transport.TurnLimit)) made count turns spends most les
 spends_by (Err (Transport _)) made count turns spends most less = omega arith
 spends_by (Err NoMemory) made count turns spends most less = omega arith
 
-pub once_most : (fed : List ℕ) (made : List (ℕ × ℕ)) → IsOneRead fed made → length made ≤ 1
+pub once_most : (fed : List ℕ) (made : List Cut) → IsOneRead fed made → length made ≤ 1
 once_most fed made once = elim once [
   | inl none ↦ omega (arith, ap length none.1)
   | inr one ↦ omega (arith, ap length one.1)
 ]
 
-pub once_rooms : (all fed : List ℕ) (made : List (ℕ × ℕ)) (total : ℕ) → IsOneRead fed made → HaveRooms HasRoom all total (cuts_from total made)
+pub once_rooms : (all fed : List ℕ) (made : List Cut) (total : ℕ) → IsOneRead fed made → HaveRooms HasRoom all total (cuts_from total made)
 once_rooms all fed made total once = elim once [
   | inl none ↦ rw none.1 tt
   | inr one ↦ rw one.1 (refl, tt)

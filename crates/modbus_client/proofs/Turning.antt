@@ -1,7 +1,8 @@
 -- One write, and one read whose bytes are fed.
 use Rattle.std.proofs.Common.{◌≡◌, inl, inr, ℕ, ◌<◌, ◌≤◌, List, [], ◌∷◌, ◌++◌, length, take, Option, Some, None, Result, Ok, Err, refl, sym, ap, ◌∙◌, subst, arith, append-nil, length-append, IsTrue}
 use Rattle.std.proofs.lemmas.List.{length-take-le}
-use Rattle.modbus_link.specs.Outside.{outside, Input, Output, Rose, Advances, ReadIsTold, bytes_read, cuts_made}
+use Rattle.modbus_link.specs.declared.outside.Cut.{Cut}
+use Rattle.modbus_link.specs.Outside.{cut_at, outside, Input, Output, Rose, Advances, ReadIsTold, bytes_read, cuts_made}
 use Rattle.modbus_link.specs.Runs.{one_cut-one, one_cut-none}
 use Rattle.modbus_link.specs.Passes.{Passes, passes_in, passes_none, rises_one}
 use Rattle.bytes.specs.Filled.{Filled}
@@ -161,9 +162,9 @@ module _ {H : Type 0} (P : Protocol H) (a b : Input) (k m : Output) (old new : C
   turned_some mid free count before after piece answer e fed same adv told is some within room =
       let long : length piece ≡ count = ap length is ∙ length-take-le count after within in
       let some' : 0 < length piece = omega arith in
-      let made : List (ℕ × ℕ) = (length piece, read_room) ∷ [] in
-      let cut : ℕ → List (ℕ × ℕ) = λ n. (n, read_room) ∷ [] in
-      let cut' : ℕ → List (ℕ × ℕ) = λ r. (count, r) ∷ [] in
+      let made : List Cut = cut_at (length piece) read_room ∷ [] in
+      let cut : ℕ → List Cut = λ n. cut_at n read_room ∷ [] in
+      let cut' : ℕ → List Cut = λ r. cut_at count r ∷ [] in
       let cuts_are : IsTrue a.told → cuts_made a b ≡ made = λ t. (told t).cuts ∙ one_cut-one count (length before) some ∙ ap cut' room ∙ ap cut (sym long) in
       record {
         fed = piece;

@@ -1,6 +1,7 @@
 -- What a call of a client does, whatever its protocol.
 use Rattle.std.specs.Prelude.{◌≡◌, ◌≢◌, ◌↔◌, ◌⊎◌, ℕ, ◌+◌, ◌<◌, false, List, [], ◌∷◌, ◌++◌, length, IsTrue, Option, Some, None, Result, Ok, Err, IfErr}
-use Rattle.modbus_link.specs.Outside.{Cut, Outside, outside, Rose, cuts_from}
+use Rattle.modbus_link.specs.declared.outside.Cut.{Cut}
+use Rattle.modbus_link.specs.Outside.{cut_at, Outside, outside, Rose, cuts_from}
 use Rattle.modbus_link.specs.Line.{LinkMeaning}
 use Rattle.modbus_link.specs.Passes.{Passes}
 use Rattle.modbus_link.specs.Reads.{totals, HaveRooms, Spending, all_turns, fewer_turns, some_turns, Spends}
@@ -75,7 +76,7 @@ pub record Sent {X : Type 0} {H : Type 0} (P : Protocol H) (from to : Outside) (
 
 -- one read with room for `read_room` bytes, or none
 abbrev pub IsOneRead : List ℕ → List Cut → Type 0
-IsOneRead fed made = ((fed ≡ []) × (made ≡ [])) ⊎ ((0 < length fed) × (made ≡ (length fed, read_room) ∷ []))
+IsOneRead fed made = ((fed ≡ []) × (made ≡ [])) ⊎ ((0 < length fed) × (made ≡ cut_at (length fed) read_room ∷ []))
 
 -- what a call is after a turn, by what it stood for
 abbrev pub TurnsAs : {H : Type 0} → Protocol H → List ℕ → List ℕ → List ℕ → CallState → Option Answer → Type 0
@@ -118,7 +119,7 @@ pub record WaitedBefore {H : Type 0} (P : Protocol H) (asked : HeaderSeen) (byte
   pub earlier : List Cut
   pub kept : List ℕ
   pub joined : bytes ≡ before ++ piece
-  pub last : made ≡ earlier ++ (length bytes, read_room) ∷ []
+  pub last : made ≡ earlier ++ cut_at (length bytes) read_room ∷ []
   pub waits : P.Finds asked before (totals earlier) (waiting kept)
 
 -- An answer of the bytes came with the last read: no read was made after the one that brought it.

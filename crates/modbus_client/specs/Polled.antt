@@ -2,7 +2,8 @@
 use Rattle.std.specs.Prelude.{◌≡◌, ◌≢◌, ◌⊎◌, ℕ, ◌<◌, ◌≤◌, List, [], ◌++◌, length, Bool, IsTrue, Option, Result, Ok, Err, IfOk, IfErr, OnOk}
 use Rattle.modbus_link.specs.declared.polled.Polled.{Polled}
 use Rattle.modbus_link.specs.declared.polled.Polled.TheVariants.{Ready, Pending}
-use Rattle.modbus_link.specs.Outside.{Cut, Outside, Rose, Advances, bytes_read, cuts_made, cuts_from, RisesTo}
+use Rattle.modbus_link.specs.declared.outside.Cut.{Cut}
+use Rattle.modbus_link.specs.Outside.{Outside, Rose, Advances, bytes_read, cuts_made, cuts_from, RisesTo}
 use Rattle.modbus_link.specs.Passes.{Passes}
 use Rattle.modbus_link.specs.Reads.{totals, HaveRooms, Spends}
 use Rattle.modbus_frame.specs.Meaning.{Asked, function_asked}

@@ -18,6 +18,7 @@ use Rattle.modbus_client.specs.Sends.{WritesRequest}
 use Rattle.modbus_gateway.specs.Answer.{LineAnswer, of_call, of_sending, outcome_of}
 use Rattle.modbus_gateway.specs.Forwards.{LineState, to_unit, AsksLine, Exchanges, forwards}
 use Rattle.modbus_gateway.specs.Records.{LineView, view_of, LineRecord, line_frame, AsksAs, IsUnconnected, IsIdle, ExchangesAs, IsRecord, AreJoined, written_in, read_in, cuts_in, RecordWrites, WritesFrame, Stays, Recorded, record_told, told_in, reply_to, record_reply, replies, RunInRecords, WantInRecord}
+use Rattle.modbus_link.specs.declared.outside.Cut.{Cut}
 use Rattle.modbus_link.specs.Outside.{outside}
 
 -- what a record of an exchange tells of it
@@ -32,7 +33,7 @@ pub record RecordOf (turns : ℕ) (start end : LineView) (header : Header) (requ
 
 module _ {L : Type 0} (M : LinkMeaning L) (old new : LineState L) (header : Header) (request : Asked) where
   -- a record over this line
-  abbrev row_with : LineAnswer → List ℕ → List ℕ → List (ℕ × ℕ) → LineRecord
+  abbrev row_with : LineAnswer → List ℕ → List ℕ → List Cut → LineRecord
   row_with answer sent fed made = record {
     header = header;
     request = request;
@@ -44,7 +45,7 @@ module _ {L : Type 0} (M : LinkMeaning L) (old new : LineState L) (header : Head
     after = view_of M new;
   }
 
-  made_of : (answer : LineAnswer) (sent fed : List ℕ) (made : List (ℕ × ℕ)) → ExchangesAs old.turns old.is_connected (row_with answer sent fed made)
+  made_of : (answer : LineAnswer) (sent fed : List ℕ) (made : List Cut) → ExchangesAs old.turns old.is_connected (row_with answer sent fed made)
       → RecordOf old.turns (view_of M old) (view_of M new) header request answer
   made_of answer sent fed made is = record {
     row = row_with answer sent fed made;

@@ -1,7 +1,8 @@
 -- The records of a gateway: what each request of the TCP side led to on the line, joined end to end.
 use Rattle.std.specs.Prelude.{◌≡◌, ◌≢◌, ◌↔◌, ℕ, Bool, true, false, List, [], ◌∷◌, ◌++◌, length, map, All, IsTrue, Option, Some, None, Err}
 use Rattle.std.specs.List.{flat_map}
-use Rattle.modbus_link.specs.Outside.{Cut, outside, Input, Output, cuts_from}
+use Rattle.modbus_link.specs.declared.outside.Cut.{Cut}
+use Rattle.modbus_link.specs.Outside.{outside, Input, Output, cuts_from}
 use Rattle.modbus_link.specs.Line.{LinkMeaning}
 use Rattle.modbus_link.specs.Passes.{Passes}
 use Rattle.modbus_frame.specs.Meaning.{Asked}

@@ -2,15 +2,16 @@
 use Rattle.std.proofs.Common.{Bool, true, ◌≡◌, ℕ, ◌+◌, ◌-◌, ◌<◌, ◌≤◌, List, [], ◌∷◌, ◌++◌, length, take, drop, sym, ◌∙◌, ap, arith, ◌↔◌}
 use Rattle.std.proofs.lemmas.Grind.{common_steps}
 use Rattle.std.proofs.lemmas.List.{length-drop, drop-drop}
-use Rattle.modbus_link.specs.Outside.{Input, Gives, bytes_read, cuts_made, one_cut}
+use Rattle.modbus_link.specs.declared.outside.Cut.{Cut}
+use Rattle.modbus_link.specs.Outside.{cut_at, Input, Gives, bytes_read, cuts_made, one_cut}
 use Rattle.modbus_link.specs.Runs.{Gives-once, bytes_read-once, cuts_made-once, one_cut-one}
 
 -- a source in memory that has given so many bytes
-abbrev pub input_at : List ℕ → List (ℕ × ℕ) → ℕ → ℕ → Bool → Input
+abbrev pub input_at : List ℕ → List Cut → ℕ → ℕ → Bool → Input
 input_at bytes cuts given faults sure = record { told = true; left = drop given bytes; given = given; cuts = cuts; faults = faults; sure = sure; names = [] }
 
-module _ (bytes : List ℕ) (cuts now : List (ℕ × ℕ)) (given end room faults : ℕ) (sure : Bool) (some : given < end) (within : end ≤ length bytes)
-    (made : now ≡ cuts ++ (end, room) ∷ []) where
+module _ (bytes : List ℕ) (cuts now : List Cut) (given end room faults : ℕ) (sure : Bool) (some : given < end) (within : end ≤ length bytes)
+    (made : now ≡ cuts ++ cut_at end room ∷ []) where
   count_some : 0 < end - given
   count_some = omega arith
 

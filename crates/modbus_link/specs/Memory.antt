@@ -1,6 +1,7 @@
 -- What the objects in memory keep, and what they mean as a source and a sink.
 use Rattle.std.specs.Prelude.{◌-◌, ◌^◌, ◌<◌, ◌≤◌, ◌+◌, ◌≡◌, ◌↔◌, ◌⊎◌, min, All, Contains, ℕ, true, List, [], length, drop, ◌==◌, if◌then◌else◌, Result, Ok, Err, IsErr, IfOk}
-use Rattle.modbus_link.specs.Outside.{Cut, Input, Output}
+use Rattle.modbus_link.specs.declared.outside.Cut.{Cut}
+use Rattle.modbus_link.specs.Outside.{Input, Output}
 
 -- a source in memory
 pub record SourceState : Type 0 where

@@ -1,9 +1,10 @@
 -- What a source and a sink mean, and what a call above them says of a whole run of reads and writes.
 use Rattle.std.specs.Prelude.{◌≡◌, ℕ, ◌+◌, ◌-◌, ◌^◌, ◌<◌, ◌≤◌, ◌↔◌, min, Bool, false, if◌then◌else◌, ◌==◌, List, [], ◌∷◌, ◌++◌, length, take, drop, map, IsTrue, Result, Ok, Err, IfOk}
+use Rattle.modbus_link.specs.declared.outside.Cut.{Cut}
 
--- a read that gave bytes: the total after it, and the length of its room
-abbrev pub Cut : Type 0
-Cut = ℕ × ℕ
+-- the cut at this total, of a read into a room of this length
+abbrev pub cut_at : ℕ → ℕ → Cut
+cut_at total room = record { total = total; room = room }
 
 -- What a source means. Where it is not told, the three fields on content say nothing.
 pub record Input : Type 0 where
@@ -54,16 +55,16 @@ bytes_read old new = take (new.given - old.given) old.left
 
 -- the cuts of the reads between two states: the total since the first state, and the room
 abbrev pub cuts_made : Input → Input → List Cut
-cuts_made old new = map (λ cut. (cut.0 - old.given, cut.1)) (drop (length old.cuts) new.cuts)
+cuts_made old new = map (λ cut. cut_at (cut.total - old.given) cut.room) (drop (length old.cuts) new.cuts)
 
 -- the same cuts, of a run that began so many bytes earlier
 abbrev pub cuts_from : ℕ → List Cut → List Cut
-cuts_from by cuts = map (λ cut. (by + cut.0, cut.1)) cuts
+cuts_from by cuts = map (λ cut. cut_at (by + cut.total) cut.room) cuts
 
 -- these cuts rise from one total to another
 abbrev pub RisesTo : ℕ → List Cut → ℕ → Type 0
 RisesTo start [] end = start ≡ end
-RisesTo start (cut ∷ cuts) end = (start < cut.0) × RisesTo cut.0 cuts end
+RisesTo start (cut ∷ cuts) end = (start < cut.total) × RisesTo cut.total cuts end
 
 -- what a told source does from one state to a later one: it gives a front of what was left, and only adds cuts
 pub record Gives (old new : Input) : Type 0 where
@@ -113,7 +114,7 @@ front_of (Err _) bytes = []
 
 -- the cut of one read of n bytes into a room of this length
 abbrev pub one_cut : ℕ → ℕ → List Cut
-one_cut n room = if n == 0 then [] else (n, room) ∷ []
+one_cut n room = if n == 0 then [] else cut_at n room ∷ []
 
 -- the same, none where the read failed
 abbrev pub cut_of : {E : Type 0} → Result ℕ E → ℕ → List Cut

@@ -2,7 +2,8 @@
 -- gives. Both are there for every source and sink; one that tells its bytes tells these.
 use Rattle.std.proofs.Common.{◌≡◌, ℕ, ◌<◌, List, [], ◌∷◌, ◌++◌, length, take, drop, refl, sym, ap, ◌∙◌, subst, arith, IsTrue, append_assoc, length-append}
 use Rattle.std.proofs.lemmas.List.{take-append-drop, drop_all}
-use Rattle.modbus_link.specs.Outside.{Cut, Input, Output, Outside, Advances, Extends, bytes_read, bytes_appended, cuts_made, cuts_from, RisesTo}
+use Rattle.modbus_link.specs.declared.outside.Cut.{Cut}
+use Rattle.modbus_link.specs.Outside.{cut_at, Input, Output, Outside, Advances, Extends, bytes_read, bytes_appended, cuts_made, cuts_from, RisesTo}
 use Rattle.modbus_link.specs.Runs.{Advances-same, Advances-both, Extends-same, Extends-both, bytes_read-none, cuts_made-none, read_more, cuts_more, appended_more, RisesTo-both}
 
 -- the bytes that were fed, the cuts and rooms of the reads that gave them, and the bytes that were sent
@@ -44,7 +45,7 @@ wrote_more a b c old now new piece n s more wrote e f =
 pub rises_none : (fed : List ℕ) (made : List Cut) → fed ≡ [] → made ≡ [] → RisesTo 0 made (length fed)
 rises_none fed made e f = rw (e, f) refl
 
-pub rises_one : (fed : List ℕ) (made : List Cut) (room : ℕ) → made ≡ (length fed, room) ∷ [] → 0 < length fed → RisesTo 0 made (length fed)
+pub rises_one : (fed : List ℕ) (made : List Cut) (room : ℕ) → made ≡ cut_at (length fed) room ∷ [] → 0 < length fed → RisesTo 0 made (length fed)
 rises_one fed made room e some = rw e (some, refl)
 
 -- nothing was read, and some was written

@@ -1,11 +1,12 @@
 -- What a server and a client say of the reads of a call: the totals after those that gave bytes, their rooms, and how many of the
 -- turns they spent.
 use Rattle.std.specs.Prelude.{◌≡◌, ◌↔◌, ◌⊎◌, ℕ, ◌<◌, ◌≤◌, List, [], ◌∷◌, length, map, take, IsTrue, Result, Ok, Err, IfOk}
-use Rattle.modbus_link.specs.Outside.{Cut, Input, Advances, bytes_read, cuts_made, cut_of}
+use Rattle.modbus_link.specs.declared.outside.Cut.{Cut}
+use Rattle.modbus_link.specs.Outside.{Input, Advances, bytes_read, cuts_made, cut_of}
 
 -- the totals after the reads, without their rooms
 abbrev pub totals : List Cut → List ℕ
-totals cuts = map (λ cut. cut.0) cuts
+totals cuts = map (λ cut. cut.total) cuts
 
 -- The totals after the reads that gave bytes. The first of these reads begins at the given total.
 abbrev pub last_cut : ℕ → List ℕ → ℕ
@@ -35,7 +36,7 @@ pub record AreCuts (bytes cuts : List ℕ) : Type 0 where
 -- Each of these reads, the first of them from a total, has a room that fits the bytes before it.
 abbrev pub HaveRooms : (List ℕ → ℕ → Type 0) → List ℕ → ℕ → List Cut → Type 0
 HaveRooms HasRoom bytes total [] = Unit {0}
-HaveRooms HasRoom bytes total (cut ∷ cuts) = HasRoom (take total bytes) cut.1 × HaveRooms HasRoom bytes cut.0 cuts
+HaveRooms HasRoom bytes total (cut ∷ cuts) = HasRoom (take total bytes) cut.room × HaveRooms HasRoom bytes cut.total cuts
 
 -- how many of the turns the reads that gave bytes spent
 pub data Spending : Type 0 where

@@ -2,25 +2,26 @@
 use Rattle.std.proofs.Common.{Ok, ◌≡◌, ℕ, ◌+◌, ◌-◌, ◌<◌, ◌≤◌, List, [], ◌∷◌, ◌++◌, length, take, drop, map, refl, sym, ◌∙◌, ap, append_assoc, add-zero, length-append, arith, IsTrue}
 use Rattle.std.proofs.lemmas.Grind.{common_steps}
 use Rattle.std.proofs.lemmas.List.{take-take, take_all, length-take, length-take-le, drop_at, take_at, map-append, append-nil, take-append-drop, drop-append-le}
-use Rattle.modbus_link.specs.Outside.{Cut, Input, Gives, Advances, Output, Extends, bytes_appended, bytes_read, cuts_made, cuts_from, RisesTo, ReadIsTold, one_cut}
+use Rattle.modbus_link.specs.declared.outside.Cut.{Cut}
+use Rattle.modbus_link.specs.Outside.{cut_at, Input, Gives, Advances, Output, Extends, bytes_appended, bytes_read, cuts_made, cuts_from, RisesTo, ReadIsTold, one_cut}
 
 pub RisesTo-append : (start middle end : ℕ) (xs ys : List Cut) → RisesTo start xs middle → RisesTo middle ys end → RisesTo start (xs ++ ys) end
 RisesTo-append start middle end [] ys p q = rw p q
-RisesTo-append start middle end (x ∷ xs) ys p q = (p.0, RisesTo-append x.0 middle end xs ys p.1 q)
+RisesTo-append start middle end (x ∷ xs) ys p q = (p.0, RisesTo-append x.total middle end xs ys p.1 q)
 
 pub RisesTo-shifted : (by start end : ℕ) (xs : List Cut) → RisesTo start xs end → RisesTo (by + start) (cuts_from by xs) (by + end)
 RisesTo-shifted by start end [] p = omega arith
-RisesTo-shifted by start end (x ∷ xs) p = (omega (arith, p.0), RisesTo-shifted by x.0 end xs p.1)
+RisesTo-shifted by start end (x ∷ xs) p = (omega (arith, p.0), RisesTo-shifted by x.total end xs p.1)
 
 -- cuts above a total, counted from an earlier one
 pub earlier : (from by middle start end : ℕ) (cuts : List Cut) → middle ≡ from + by
-    → RisesTo start (map (λ cut. (cut.0 - middle, cut.1)) cuts) end
-    → map (λ cut. (cut.0 - from, cut.1)) cuts ≡ cuts_from by (map (λ cut. (cut.0 - middle, cut.1)) cuts)
+    → RisesTo start (map (λ cut. cut_at (cut.total - middle) cut.room) cuts) end
+    → map (λ cut. cut_at (cut.total - from) cut.room) cuts ≡ cuts_from by (map (λ cut. cut_at (cut.total - middle) cut.room) cuts)
 earlier from by middle start end [] m p = refl
 earlier from by middle start end (cut ∷ cuts) m p =
-    let h : start < cut.0 - middle = p.0 in
-    let e : cut.0 - from ≡ by + (cut.0 - middle) = omega arith in
-    let rest = earlier from by middle (cut.0 - middle) end cuts m p.1 in
+    let h : start < cut.total - middle = p.0 in
+    let e : cut.total - from ≡ by + (cut.total - middle) = omega arith in
+    let rest = earlier from by middle (cut.total - middle) end cuts m p.1 in
     cc
 
 pub RisesTo-both : (cuts xs ys : List Cut) (n m total : ℕ) → cuts ≡ xs ++ cuts_from n ys → total ≡ n + m
@@ -61,10 +62,10 @@ module _ (a b c : Input) (first : Gives a b) (second : Gives b c) where
 
   pub cuts_made-both : cuts_made a c ≡ cuts_made a b ++ cuts_from (length (bytes_read a b)) (cuts_made b c)
   cuts_made-both =
-      let later : map (λ (cut : Cut). (cut.0 - a.given, cut.1)) (drop (length b.cuts) c.cuts) ≡ cuts_from (length (bytes_read a b)) (cuts_made b c) =
+      let later : map (λ (cut : Cut). cut_at (cut.total - a.given) cut.room) (drop (length b.cuts) c.cuts) ≡ cuts_from (length (bytes_read a b)) (cuts_made b c) =
       earlier a.given (length (bytes_read a b)) b.given 0 (length (bytes_read b c)) (drop (length b.cuts) c.cuts) first.given second.rising in
-      ap (map (λ (cut : Cut). (cut.0 - a.given, cut.1))) (added_both a.cuts b.cuts c.cuts first.cuts second.cuts)
-      ∙ map-append (λ (cut : Cut). (cut.0 - a.given, cut.1)) (drop (length a.cuts) b.cuts) (drop (length b.cuts) c.cuts)
+      ap (map (λ (cut : Cut). cut_at (cut.total - a.given) cut.room)) (added_both a.cuts b.cuts c.cuts first.cuts second.cuts)
+      ∙ map-append (λ (cut : Cut). cut_at (cut.total - a.given) cut.room) (drop (length a.cuts) b.cuts) (drop (length b.cuts) c.cuts)
       ∙ ap (λ cuts. cuts_made a b ++ cuts) later
 
   pub count-both : length (bytes_read a c) ≡ length (bytes_read a b) + length (bytes_read b c)
@@ -87,7 +88,7 @@ pub added_none : (xs ys : List Cut) → ys ≡ xs → drop (length xs) ys ≡ []
 added_none xs ys e = rw e (grind (arith, common_steps))
 
 pub cuts_made-none : (a b : Input) → b.cuts ≡ a.cuts → cuts_made a b ≡ []
-cuts_made-none a b e = ap (map (λ (cut : Cut). (cut.0 - a.given, cut.1))) (added_none a.cuts b.cuts e)
+cuts_made-none a b e = ap (map (λ (cut : Cut). cut_at (cut.total - a.given) cut.room)) (added_none a.cuts b.cuts e)
 
 pub RisesTo-none : (cuts : List Cut) (bytes : List ℕ) → cuts ≡ [] → bytes ≡ [] → RisesTo 0 cuts (length bytes)
 RisesTo-none cuts bytes e f = rw (e, f) refl
@@ -176,7 +177,7 @@ cuts_more a b c xs ys first second p q told =
 pub one_cut-none : (n room : ℕ) → n ≡ 0 → one_cut n room ≡ []
 one_cut-none n room e = rw e refl
 
-pub one_cut-one : (n room : ℕ) → (n ≡ 0 → ⊥) → one_cut n room ≡ (n, room) ∷ []
+pub one_cut-one : (n room : ℕ) → (n ≡ 0 → ⊥) → one_cut n room ≡ cut_at n room ∷ []
 one_cut-one n room some = grind (arith, common_steps)
 
 -- one read that gave nothing
@@ -190,24 +191,24 @@ cuts_made-ended {E} a b c before after n first second read none told =
 -- one read that gave bytes
 pub cuts_made-gave : {E : Type 0} (a b c : Input) (before after : List ℕ) (n : ℕ) → Advances a b → Advances b c
     → (IsTrue b.told → ReadIsTold {E = E} b c before after (Ok n)) → (n ≡ 0 → ⊥)
-    → IsTrue a.told → cuts_made a c ≡ cuts_made a b ++ (length (bytes_read a b) + n, length before) ∷ []
+    → IsTrue a.told → cuts_made a c ≡ cuts_made a b ++ cut_at (length (bytes_read a b) + n) (length before) ∷ []
 cuts_made-gave {E} a b c before after n first second read some told =
-    cuts_more a b c (cuts_made a b) ((n, length before) ∷ []) first second (λ told. refl) (λ told. (read told).cuts ∙ one_cut-one n (length before) some) told
+    cuts_more a b c (cuts_made a b) (cut_at n (length before) ∷ []) first second (λ told. refl) (λ told. (read told).cuts ∙ one_cut-one n (length before) some) told
 
-pub RisesTo-one : (cuts : List Cut) (total n room : ℕ) → cuts ≡ (n, room) ∷ [] → total ≡ n → 0 < n → RisesTo 0 cuts total
+pub RisesTo-one : (cuts : List Cut) (total n room : ℕ) → cuts ≡ cut_at n room ∷ [] → total ≡ n → 0 < n → RisesTo 0 cuts total
 RisesTo-one cuts total n room e f some = rw (e, f) (some, refl)
 
 -- a source that gives n of the bytes that were left, in one read
 module _ (old new : Input) (n room : ℕ) (some : 0 < n) (within : n ≤ length old.left) (left : new.left ≡ drop n old.left)
-    (given : new.given ≡ old.given + n) (cuts : new.cuts ≡ old.cuts ++ (new.given, room) ∷ []) where
+    (given : new.given ≡ old.given + n) (cuts : new.cuts ≡ old.cuts ++ cut_at new.given room ∷ []) where
   pub bytes_read-once : bytes_read old new ≡ take n old.left
   bytes_read-once = let e : new.given - old.given ≡ n = omega arith in rw e refl
 
-  pub cuts_made-once : cuts_made old new ≡ (n, room) ∷ []
+  pub cuts_made-once : cuts_made old new ≡ cut_at n room ∷ []
   cuts_made-once =
       let e : new.given - old.given ≡ n = omega arith in
-      let last : drop (length old.cuts) new.cuts ≡ (new.given, room) ∷ [] = rw cuts (drop_at old.cuts ((new.given, room) ∷ []) (length old.cuts) refl) in
-      ap (map (λ (cut : Cut). (cut.0 - old.given, cut.1))) last ∙ ap (λ (total : ℕ). (total, room) ∷ []) e
+      let last : drop (length old.cuts) new.cuts ≡ cut_at new.given room ∷ [] = rw cuts (drop_at old.cuts (cut_at new.given room ∷ []) (length old.cuts) refl) in
+      ap (map (λ (cut : Cut). cut_at (cut.total - old.given) cut.room)) last ∙ ap (λ (total : ℕ). cut_at total room ∷ []) e
 
   pub Gives-once : Gives old new
   Gives-once =
@@ -215,14 +216,14 @@ module _ (old new : Input) (n room : ℕ) (some : 0 < n) (within : n ≤ length 
       record {
         left = sym (take-append-drop n old.left) ∙ ap (λ rest. take n old.left ++ rest) (sym left) ∙ ap (λ front. front ++ new.left) (sym bytes_read-once);
         given = omega arith;
-        cuts = rw cuts (take_at old.cuts ((new.given, room) ∷ []) (length old.cuts) refl);
+        cuts = rw cuts (take_at old.cuts (cut_at new.given room ∷ []) (length old.cuts) refl);
         rising = RisesTo-one (cuts_made old new) (length (bytes_read old new)) n room cuts_made-once count some;
       }
 
 -- each cut is of a byte at least
 pub RisesTo-count : (start end : ℕ) (cuts : List Cut) → RisesTo start cuts end → start + length cuts ≤ end
 RisesTo-count start end [] p = omega arith
-RisesTo-count start end (cut ∷ cuts) p = omega (arith, p.0, RisesTo-count cut.0 end cuts p.1)
+RisesTo-count start end (cut ∷ cuts) p = omega (arith, p.0, RisesTo-count cut.total end cuts p.1)
 
 -- no more bytes were read than were left, and no more cuts made
 pub cuts_made-count : (a b : Input) → Gives a b → length (cuts_made a b) ≤ length a.left

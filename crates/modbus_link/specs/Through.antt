@@ -1,6 +1,7 @@
 -- What is said of an object that is reached through a reference is said of the object.
 use Rattle.std.proofs.Common.{◌≡◌, ℕ, List, [], ◌∷◌, ap, subst}
-use Rattle.modbus_link.specs.Outside.{Cut, Input, Output, Outside, outside, Advances, Extends, input_through, output_through}
+use Rattle.modbus_link.specs.declared.outside.Cut.{Cut}
+use Rattle.modbus_link.specs.Outside.{Input, Output, Outside, outside, Advances, Extends, input_through, output_through}
 use Rattle.modbus_link.specs.Passes.{Passes}
 
 abbrev pub tail_of : List ℕ → List ℕ

@@ -29,7 +29,7 @@ pub use connector::{Connector, MemoryConnector};
 pub use link::Link;
 pub use memory::{MemorySink, MemorySource};
 pub use memory_link::MemoryLink;
-pub use outside::{Ends, Failed, Sink, Source};
+pub use outside::{Cut, Ends, Failed, Sink, Source};
 pub use polled::{Polled, PolledLink, PolledMemoryLink};
 pub use real::{ReadSource, WriteSink};
 pub use silence::{TerminalLink, TimedLink, TimedMemoryLink, TimedTcpLink};

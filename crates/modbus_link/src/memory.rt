@@ -4,7 +4,7 @@ ghost use Rattle.std.specs.Io.{ReadsAtMost, WritesAtMost};
 ghost use Rattle.modbus_link.specs.Outside.{Advances, Extends, bytes_appended, ReadIsTold, front_of};
 ghost use Rattle.modbus_link.specs.Memory.{SourceState, SinkState, source_input, sink_output, source_at_start, sink_at_start, MemoryReads, MemoryWrites};
 
-use crate::outside::{Ends, Failed, Sink, Source};
+use crate::outside::{Cut, Ends, Failed, Sink, Source};
 use std::alloc::{AllocError, Global};
 use std::marker::Model;
 
@@ -35,7 +35,7 @@ pub struct MemorySource {
     stops: Vec<usize>,
     fails: Vec<u64>,
     // there is space for one cut a byte
-    cuts: Vec<(usize, usize)>,
+    cuts: Vec<Cut>,
     given: usize,
     calls: u64,
     faults: u64,
@@ -117,7 +117,10 @@ impl Source for MemorySource {
         let end = next_end(&self.stops, self.given, end);
         let count = end - self.given;
         room[..count].copy_from_slice(&self.input[self.given..end]);
-        self.cuts.push_reserved((end, size));
+        self.cuts.push_reserved(Cut {
+            total: end,
+            room: size,
+        });
         self.given = end;
         Ok(count)
     }

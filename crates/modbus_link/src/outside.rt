@@ -8,6 +8,13 @@ ghost use Rattle.modbus_link.specs.Outside.{Input, Output, Rose, Advances, Exten
 #[derive(Clone, Copy, PartialEq, Eq, Debug)]
 pub struct Failed;
 
+/// A read that gave bytes: the total after it, and the length of its room.
+#[derive(Clone, Copy)]
+pub struct Cut {
+    pub total: usize,
+    pub room: usize,
+}
+
 /// What the two ends of an object of the outside mean: the input that it gives, and the output that it takes; and what a link means beside
 /// them, its line.
 ///

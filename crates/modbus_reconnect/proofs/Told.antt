@@ -2,7 +2,8 @@
 use Rattle.std.proofs.Common.{◌≡◌, inl, inr, ℕ, ◌<◌, ◌≤◌, Bool, true, false, not, IsTrue, List, [], ◌∷◌, length, Result, Ok, Err, refl, sym, ap, subst, ◌∙◌, arith, length-append}
 use Rattle.std.proofs.lemmas.List.{length-map}
 use Rattle.std.specs.Prelude.{IfErr}
-use Rattle.modbus_link.specs.Outside.{outside, Input, Output, RisesTo}
+use Rattle.modbus_link.specs.declared.outside.Cut.{Cut}
+use Rattle.modbus_link.specs.Outside.{cut_at, outside, Input, Output, RisesTo}
 use Rattle.modbus_link.specs.Passes.{Passes}
 use Rattle.modbus_frame.specs.Meaning.{Asked}
 use Rattle.modbus_frame.specs.declared.code.ExceptionCode.{ExceptionCode}
@@ -26,16 +27,16 @@ use Rattle.modbus_reconnect.proofs.Settled.{leaves, leaves_doubt}
 use Rattle.modbus_reconnect.proofs.Cleared.{clear_owes, asked_stands, unsettled_stands}
 
 -- no read was made, so no byte was read
-none_made : (made : List (ℕ × ℕ)) (fed : List ℕ) → length made ≤ 0 → RisesTo 0 made (length fed) → (made ≡ []) × (fed ≡ [])
+none_made : (made : List Cut) (fed : List ℕ) → length made ≤ 0 → RisesTo 0 made (length fed) → (made ≡ []) × (fed ≡ [])
 none_made [] [] none rises = (refl, refl)
 none_made [] (byte ∷ bytes) none rises = absurd (omega (arith, rises))
 none_made (cut ∷ cuts) fed none rises = absurd (omega (arith, none))
 
 -- no answer of the bytes comes with no read
-none_came : {H : Type 0} (P : client.Protocol H) (asked : HeaderSeen) (fed : List ℕ) (made : List (ℕ × ℕ)) → WaitedBefore P asked fed made → length made ≤ 0 → ⊥
+none_came : {H : Type 0} (P : client.Protocol H) (asked : HeaderSeen) (fed : List ℕ) (made : List Cut) → WaitedBefore P asked fed made → length made ≤ 0 → ⊥
 none_came P asked fed made w none =
-    let n = length-append w.earlier ((length fed, read_room) ∷ []) in
-    let m = ap (λ (cuts : List (ℕ × ℕ)). length cuts) w.last in
+    let n = length-append w.earlier (cut_at (length fed) read_room ∷ []) in
+    let m = ap (λ (cuts : List Cut). length cuts) w.last in
     omega (arith, n, m, none)
 
 -- what is told is the error of the call, but for the end of its turns
@@ -119,7 +120,7 @@ module _ {H : Type 0} (P : client.Protocol H) (a b : Input) (k l : Output) (head
   passes_told : (answer : Answer) (e : Exchanged P (outside a k) (outside b l) header asked 0 held answer) → Passes (outside a k) (outside b l) [] [] e.sent
   passes_told answer e =
       let none = none_made e.made e.fed (no_reads answer e) e.passes.rises in
-      subst (λ (cuts : List (ℕ × ℕ)). Passes (outside a k) (outside b l) [] cuts e.sent) none.0 (subst (λ (bytes : List ℕ). Passes (outside a k) (outside b l) bytes e.made e.sent) none.1 e.passes)
+      subst (λ (cuts : List Cut). Passes (outside a k) (outside b l) [] cuts e.sent) none.0 (subst (λ (bytes : List ℕ). Passes (outside a k) (outside b l) bytes e.made e.sent) none.1 e.passes)
 
 -- a call that was answered
 tells_exchanged : {H I L : Type 0} (m : LineMeaning H I L) (silences : ℕ) (header : H) (asked : Asked) (before after : L) (held : List ℕ) (answer : Answer)
@@ -144,7 +145,7 @@ module _ {H I L : Type 0} (m : LineMeaning H I L) (silences : ℕ) (header : H) 
       let counted = g.goes.stands.counted in
       let within = g.goes.within in
       let limit = g.asks.limit in
-      let size = length-map g.made (λ (cut : ℕ × ℕ). cut.0) in
+      let size = length-map g.made (λ (cut : Cut). cut.total) in
       none_made g.made g.fed (omega (arith, counted, within, limit, size)) g.goes.rises
 
   -- one that was given up
@@ -154,7 +155,7 @@ module _ {H I L : Type 0} (m : LineMeaning H I L) (silences : ℕ) (header : H) 
       let long : max_pdu < length (request_pdu asked) → ⊥ = λ more. (let fits = g.fits in omega (arith, more, fits)) in
       record {
         sent = g.sent;
-        passes = subst (λ (cuts : List (ℕ × ℕ)). Passes (outside (m.link.input before) (m.link.output before)) (outside (m.link.input after) (m.link.output after)) [] cuts g.sent) none.0
+        passes = subst (λ (cuts : List Cut). Passes (outside (m.link.input before) (m.link.output before)) (outside (m.link.input after) (m.link.output after)) [] cuts g.sent) none.0
             (subst (λ (bytes : List ℕ). Passes (outside (m.link.input before) (m.link.output before)) (outside (m.link.input after) (m.link.output after)) bytes g.made g.sent) none.1 g.passes);
         only = tt;
         writes = (g.call.unwritten, sym g.asks.request ∙ g.goes.stands.wrote);

@@ -1,6 +1,7 @@
 -- A call that is polled at one silence after another.
 use Rattle.std.proofs.Common.{◌≡◌, ◌≢◌, inl, inr, ℕ, ◌+◌, ◌<◌, ◌≤◌, List, [], ◌∷◌, ◌++◌, length, Err, refl, ap, ◌∙◌, arith}
 use Rattle.modbus_link.specs.declared.polled.Polled.TheVariants.{Ready, Pending}
+use Rattle.modbus_link.specs.declared.outside.Cut.{Cut}
 use Rattle.modbus_link.specs.Outside.{Input, Output, outside, Rose, cuts_from}
 use Rattle.modbus_link.specs.Passes.{Passes, passes_none, passes_both}
 use Rattle.modbus_frame.specs.Meaning.{Asked}
@@ -41,7 +42,7 @@ for_same P header asked turns old new asks same = record {
 -- so many silences were told while a call was polled, and it waits
 pub record Going {H I L : Type 0} (m : LineMeaning H I L) (told : ℕ) (before now : L) (old call : CallState) : Type 0 where
   pub fed : List ℕ
-  pub made : List (ℕ × ℕ)
+  pub made : List Cut
   pub sent : List ℕ
   pub passes : Passes (outside (m.link.input before) (m.link.output before)) (outside (m.link.input now) (m.link.output now)) fed made sent
   pub same : IsSameCall old call

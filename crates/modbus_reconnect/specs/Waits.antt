@@ -1,6 +1,7 @@
 -- How a call ends on a line that tells silence: by an answer, or it is given up at a silence.
 use Rattle.std.specs.Prelude.{◌≡◌, ◌≢◌, ◌⊎◌, ℕ, List, [], Err}
-use Rattle.modbus_link.specs.Outside.{Cut, outside, Rose}
+use Rattle.modbus_link.specs.declared.outside.Cut.{Cut}
+use Rattle.modbus_link.specs.Outside.{outside, Rose}
 use Rattle.modbus_link.specs.Passes.{Passes}
 use Rattle.modbus_frame.specs.Meaning.{Asked}
 use Rattle.modbus_frame.specs.declared.fault.Error.TheVariants.{Transport}

@@ -2,7 +2,7 @@
 use Rattle.std.proofs.Common.{◌≡◌, ◌≢◌, ℕ, ◌<◌, List, [], ◌∷◌, ◌++◌, length, refl, sym, ap, ◌∙◌, subst, arith, IsTrue, Ok, Err, false, append-nil}
 use Rattle.std.proofs.lemmas.List.{nil_from_length}
 use Rattle.std.specs.Prelude.{Result}
-use Rattle.modbus_link.specs.Outside.{Input, Rose, Advances, one_cut}
+use Rattle.modbus_link.specs.Outside.{cut_at, Input, Rose, Advances, one_cut}
 use Rattle.modbus_link.specs.Runs.{Advances-same, bytes_read-none, cuts_made-none, one_cut-one}
 use Rattle.modbus_server.specs.declared.error.ProcessError.TheVariants.{ReadFault, BytesRemaining, NoMemory}
 use Rattle.modbus_server.specs.declared.error.Step.TheVariants.{MoreRead, Ended}
@@ -71,10 +71,10 @@ module _ (F : Framing) (a b : Input) (old mid new : State) (same : mid ≡ recor
       let room = F.room mid.held in
       record {
         fed = f.piece;
-        made = (length f.piece, room) ∷ [];
+        made = cut_at (length f.piece) room ∷ [];
         source = f.reads.source;
         read = f.reads.read;
-        cuts = λ t. f.reads.cuts t ∙ one_cut-one n room (λ none. omega (arith, none)) ∙ ap (λ (m : ℕ). (m, room) ∷ []) (sym long);
+        cuts = λ t. f.reads.cuts t ∙ one_cut-one n room (λ none. omega (arith, none)) ∙ ap (λ (m : ℕ). cut_at m room ∷ []) (sym long);
         gives = (
           room,
           refl,

@@ -2,6 +2,7 @@
 use Rattle.std.proofs.Common.{◌≡◌, ◌≢◌, inl, inr, ℕ, ◌+◌, ◌<◌, ◌≤◌, List, [], ◌∷◌, ◌++◌, length, refl, sym, ap, ◌∙◌, subst, arith, Result, Ok, Err, Bool, true, false, IsTrue, append-nil, append_assoc, length-append}
 use Rattle.modbus_link.specs.declared.polled.Polled.{Polled}
 use Rattle.modbus_link.specs.declared.polled.Polled.TheVariants.{Ready, Pending}
+use Rattle.modbus_link.specs.declared.outside.Cut.{Cut}
 use Rattle.modbus_link.specs.Outside.{Outside, outside, Input, Output, Rose, IsFront, cuts_from}
 use Rattle.modbus_link.specs.Passes.{Passes, Sends, passes_out, passes_in, passes_both}
 use Rattle.modbus_link.specs.Reads.{HaveRooms, totals, Spends}
@@ -27,7 +28,7 @@ use Rattle.modbus_server.proofs.Stepping.{fails_end, stepped_sent, stepped_read}
 use Rattle.modbus_server.specs.Moment.{Moment, moment}
 
 -- two runs after what came before are one, with what was written in them
-regrouped : (P : List ℕ → List (ℕ × ℕ) → List ℕ → Type 0) (bytes fed fed' : List ℕ) (earlier made made' : List (ℕ × ℕ)) (written sent sent' : List ℕ)
+regrouped : (P : List ℕ → List Cut → List ℕ → Type 0) (bytes fed fed' : List ℕ) (earlier made made' : List Cut) (written sent sent' : List ℕ)
     → P ((bytes ++ fed) ++ fed') ((earlier ++ cuts_from (length bytes) made) ++ cuts_from (length (bytes ++ fed)) made') ((written ++ sent) ++ sent')
     → P (bytes ++ (fed ++ fed')) (earlier ++ cuts_from (length bytes) (made ++ cuts_from (length fed) made')) (written ++ (sent ++ sent'))
 regrouped P bytes fed fed' earlier made made' written sent sent' p =
@@ -104,7 +105,7 @@ module _ (F : Framing) {S : Type 0} (A : Answering S) where
   -- what a poll keeps from step to step, once nothing waits
   pub record PollGoing (old state : State) (left left' : ℕ) (before after : S) (a b : Input) (k m : Output) (idle idle' : ℕ) : Type 0 where
     pub fed : List ℕ
-    pub made : List (ℕ × ℕ)
+    pub made : List Cut
     pub sent : List ℕ
     pub passes : Passes (outside a k) (outside b m) fed made sent
     pub goes_on : (behind : PolledPast S) → PollStands F A behind before (polled old left)

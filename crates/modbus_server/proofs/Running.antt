@@ -1,6 +1,7 @@
 -- One step after others is one run of steps, with a look at a signal before each.
 use Rattle.std.proofs.Common.{◌≡◌, ℕ, ◌+◌, ◌<◌, ◌≤◌, List, [], ◌∷◌, ◌++◌, length, refl, sym, ap, ◌∙◌, subst, arith, add-one, Result, Ok, Err, Bool, true, false, length-append, IsTrue, inr}
 use Rattle.modbus_frame.specs.declared.server.Terminated.TheVariants.{Finished, Aborted}
+use Rattle.modbus_link.specs.declared.outside.Cut.{Cut}
 use Rattle.modbus_link.specs.Outside.{outside, Input, Output, Rose, cuts_from}
 use Rattle.modbus_link.specs.Passes.{Passes, passes_both, passes_none}
 use Rattle.modbus_link.specs.Reads.{HaveRooms, totals, Spends}
@@ -25,7 +26,7 @@ module _ (F : Framing) {S X : Type 0} (A : Answering S) (stops : X → ℕ) (loo
   -- what a loop of steps keeps
   pub record Going (start now : S) (from to : Input) (sunk sinks : Output) (turns left : ℕ) (state : State) (first last : X) : Type 0 where
     pub fed : List ℕ
-    pub made : List (ℕ × ℕ)
+    pub made : List Cut
     pub sent : List ℕ
     pub exchanges : List (Exchange F)
     pub passes : Passes (outside from sunk) (outside to sinks) fed made sent

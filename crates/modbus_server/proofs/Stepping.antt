@@ -1,6 +1,7 @@
 -- One step is what the connection takes, and what is moved between it and the outside.
 use Rattle.std.proofs.Common.{◌≡◌, ◌≢◌, ◌⊎◌, ℕ, ◌<◌, List, [], ◌∷◌, ◌++◌, length, refl, sym, ap, ◌∙◌, subst, Ok, Err, Result, Bool, true, false, append-nil, length-append, inl, inr}
 use Rattle.std.proofs.lemmas.List.{take_at}
+use Rattle.modbus_link.specs.declared.outside.Cut.{Cut}
 use Rattle.modbus_link.specs.Outside.{outside, Input, Output, Rose, cuts_from, RisesTo}
 use Rattle.modbus_link.specs.Passes.{Passes, Sends, rises_none, rises_one, passes_out, passes_in, passes_none}
 use Rattle.modbus_link.specs.Reads.{HaveRooms, totals}
@@ -167,13 +168,13 @@ module _ (F : Framing) {S : Type 0} (A : Answering S) where
         (refl, took.keeps.0, took.keeps.1, took.goes_on, may, took.keeps.2) (λ e. cc) tt (λ e. cc) (λ e. cc)
 
     -- where nothing was fed
-    unfed : (P : List ℕ → List ℕ → List ℕ → Type 0) (bytes cuts written fed : List ℕ) (made : List (ℕ × ℕ)) → fed ≡ [] → made ≡ [] → P bytes cuts written
+    unfed : (P : List ℕ → List ℕ → List ℕ → Type 0) (bytes cuts written fed : List ℕ) (made : List Cut) → fed ≡ [] → made ≡ [] → P bytes cuts written
         → P (bytes ++ fed) (cuts ++ totals (cuts_from (length bytes) made)) (written ++ [])
     unfed P bytes cuts written fed made e f p =
         along P (bytes ++ fed) bytes (cuts ++ totals (cuts_from (length bytes) made)) cuts (written ++ []) written
-        (ap (λ x. bytes ++ x) e ∙ append-nil bytes) (ap (λ (m : List (ℕ × ℕ)). cuts ++ totals (cuts_from (length bytes) m)) f ∙ append-nil cuts) (append-nil written) p
+        (ap (λ x. bytes ++ x) e ∙ append-nil bytes) (ap (λ (m : List Cut). cuts ++ totals (cuts_from (length bytes) m)) f ∙ append-nil cuts) (append-nil written) p
 
-    no_rooms : (bytes fed : List ℕ) (made : List (ℕ × ℕ)) → made ≡ [] → HaveRooms F.HasRoom (bytes ++ fed) (length bytes) (cuts_from (length bytes) made)
+    no_rooms : (bytes fed : List ℕ) (made : List Cut) → made ≡ [] → HaveRooms F.HasRoom (bytes ++ fed) (length bytes) (cuts_from (length bytes) made)
     no_rooms bytes fed made e = subst (λ m. HaveRooms F.HasRoom (bytes ++ fed) (length bytes) (cuts_from (length bytes) m)) (sym e) tt
 
     module _ {E : Type 0} (told : E → ProcessError) (mid : State) (b : Input) (m : Output) where
@@ -287,14 +288,14 @@ module _ (F : Framing) {S : Type 0} (A : Answering S) where
                   let g = gives.6 behind.bytes behind.cuts h.0.taken h.0.stands in
                   along (λ x y z. StepsAs F A (past x y behind.opening z behind.exchanges) new.held after new.waiting (Ok MoreRead)) (behind.bytes ++ fed) (behind.bytes ++ fed)
                   (behind.cuts ++ totals (cuts_from (length behind.bytes) reads.made)) (behind.cuts ++ length (behind.bytes ++ fed) ∷ []) (behind.written ++ []) behind.written refl
-                  (ap (λ (m : List (ℕ × ℕ)). behind.cuts ++ totals (cuts_from (length behind.bytes) m)) gives.1 ∙ ap (λ n. behind.cuts ++ n ∷ []) (sym (length-append behind.bytes fed))) (append-nil behind.written)
+                  (ap (λ (m : List Cut). behind.cuts ++ totals (cuts_from (length behind.bytes) m)) gives.1 ∙ ap (λ n. behind.cuts ++ n ∷ []) (sym (length-append behind.bytes fed))) (append-nil behind.written)
                   (subst (λ w. Stands F A (past (behind.bytes ++ fed) (behind.cuts ++ length (behind.bytes ++ fed) ∷ []) behind.opening behind.written behind.exchanges) new.held after w) (sym none)
                   (fed_on F A behind mid.held new.held fed after [] h.0 g.1));
               last = all_answered;
               rooms = λ behind s.
                   let h = took.stands behind s in
                   let g = gives.6 behind.bytes behind.cuts h.0.taken h.0.stands in
-                  subst (λ (m : List (ℕ × ℕ)). HaveRooms F.HasRoom (behind.bytes ++ fed) (length behind.bytes) (cuts_from (length behind.bytes) m)) (sym gives.1)
+                  subst (λ (m : List Cut). HaveRooms F.HasRoom (behind.bytes ++ fed) (length behind.bytes) (cuts_from (length behind.bytes) m)) (sym gives.1)
                   (subst (λ x. F.HasRoom x gives.0) (sym (take_at behind.bytes fed (length behind.bytes) refl)) g.0, tt);
               leaves = (ap length gives.1, gives.5, none, gives.4 ∙ took.goes_on, may, took.keeps.2);
               memory = λ e. absurd cc;

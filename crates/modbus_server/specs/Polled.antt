@@ -2,7 +2,8 @@
 use Rattle.std.specs.Prelude.{◌≡◌, ◌≢◌, ◌⊎◌, ℕ, ◌+◌, ◌≤◌, List, [], ◌++◌, length, Bool, true, IsTrue, Result, Ok, Err}
 use Rattle.modbus_link.specs.declared.polled.Polled.{Polled}
 use Rattle.modbus_link.specs.declared.polled.Polled.TheVariants.{Ready, Pending}
-use Rattle.modbus_link.specs.Outside.{Cut, Input, Outside, Rose, Advances, IsFront, bytes_read, cuts_made, cuts_from, RisesTo}
+use Rattle.modbus_link.specs.declared.outside.Cut.{Cut}
+use Rattle.modbus_link.specs.Outside.{Input, Outside, Rose, Advances, IsFront, bytes_read, cuts_made, cuts_from, RisesTo}
 use Rattle.modbus_link.specs.Passes.{Passes}
 use Rattle.modbus_link.specs.Polled.{is_pending}
 use Rattle.modbus_link.specs.Reads.{totals, HaveRooms, Spends}

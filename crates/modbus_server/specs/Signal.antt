@@ -2,7 +2,8 @@
 use Rattle.std.specs.Prelude.{◌≡◌, ℕ, zero, suc, ◌+◌, ◌<◌, ◌≤◌, List, [], length, Bool, true, false, Result, Ok, Err}
 use Rattle.modbus_frame.specs.declared.server.Terminated.{Terminated}
 use Rattle.modbus_frame.specs.declared.server.Terminated.TheVariants.{Finished, Aborted}
-use Rattle.modbus_link.specs.Outside.{Cut, Rose}
+use Rattle.modbus_link.specs.declared.outside.Cut.{Cut}
+use Rattle.modbus_link.specs.Outside.{Rose}
 use Rattle.modbus_link.specs.Passes.{Passes}
 use Rattle.modbus_link.specs.Reads.{totals, HaveRooms, some_turns, Spends}
 use Rattle.modbus_service.specs.Answering.{Answering}

@@ -1,6 +1,7 @@
 -- What a driver moves between a connection and the outside.
 use Rattle.std.specs.Prelude.{◌≡◌, ◌≢◌, ℕ, ◌<◌, ◌≤◌, List, [], ◌∷◌, ◌++◌, length, IsTrue, false, Result, Ok, Err}
-use Rattle.modbus_link.specs.Outside.{Cut, Input, Rose, Advances, bytes_read, cuts_made}
+use Rattle.modbus_link.specs.declared.outside.Cut.{Cut}
+use Rattle.modbus_link.specs.Outside.{cut_at, Input, Rose, Advances, bytes_read, cuts_made}
 use Rattle.modbus_link.specs.Reads.{ReadsPiece}
 use Rattle.modbus_server.specs.declared.error.ProcessError.{ProcessError}
 use Rattle.modbus_server.specs.declared.error.ProcessError.TheVariants.{ReadFault, WriteFault, BytesRemaining, NoMemory}
@@ -19,7 +20,7 @@ WritesOnce old new (Err _) = ⊥
 -- of the bytes that were fed, the reads that gave bytes, and the answer
 abbrev pub GivesAs : Framing → State → State → List ℕ → List Cut → Result Step ProcessError → Type 0
 GivesAs F old new fed made (Ok MoreRead) =
-    (room : ℕ) × (made ≡ (length fed, room) ∷ []) × (0 < length fed) × (new.waiting ≡ old.waiting) × (new.is_open ≡ old.is_open) × (length new.held ≤ F.most)
+    (room : ℕ) × (made ≡ cut_at (length fed) room ∷ []) × (0 < length fed) × (new.waiting ≡ old.waiting) × (new.is_open ≡ old.is_open) × (length new.held ≤ F.most)
     × ((bytes cuts : List ℕ) (taken : List (Message F)) → F.StandsFor bytes cuts old.held taken → F.HasRoom bytes room × F.StandsFor (bytes ++ fed) (cuts ++ length (bytes ++ fed) ∷ []) new.held taken)
 GivesAs F old new fed made (Ok Ended) = (fed ≡ []) × (made ≡ []) × (old.held ≡ []) × (new.held ≡ old.held) × (new.waiting ≡ old.waiting) × (new.is_open ≡ false)
 GivesAs F old new fed made (Ok _) = ⊥

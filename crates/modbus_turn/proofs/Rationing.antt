@@ -2,7 +2,8 @@
 use Rattle.std.proofs.Common.{◌≡◌, ℕ, ◌+◌, ◌-◌, ◌<◌, List, [], ◌∷◌, Bool, true, false, length, refl, sym, ap, subst, arith, IsTrue, ne_eqb}
 use Rattle.std.specs.Prelude.{if◌then◌else◌}
 use Rattle.std.proofs.lemmas.List.{length-take, length-drop, length-map}
-use Rattle.modbus_link.specs.Outside.{outside, Input, Output, Advances, Gives, cuts_made, one_cut, input_through, output_through}
+use Rattle.modbus_link.specs.declared.outside.Cut.{Cut}
+use Rattle.modbus_link.specs.Outside.{cut_at, outside, Input, Output, Advances, Gives, cuts_made, one_cut, input_through, output_through}
 use Rattle.modbus_link.specs.Passes.{Passes}
 use Rattle.modbus_link.specs.Through.{tail_of}
 use Rattle.modbus_turn.specs.Rationed.{reads_in_all, left_behind, rationed_input}
@@ -37,13 +38,13 @@ rationed a b k left left' refused name none s count e =
     }
 
 pub one_counted : (n room : ℕ) → 0 < n → length (one_cut n room) ≡ 1
-one_counted n room some = ap (λ (b : Bool). length {A = ℕ × ℕ} (if b then [] else (n, room) ∷ [])) (ne_eqb n 0 (λ e. omega (arith, e, some)))
+one_counted n room some = ap (λ (b : Bool). length {A = Cut} (if b then [] else cut_at n room ∷ [])) (ne_eqb n 0 (λ e. omega (arith, e, some)))
 
 pub none_counted : (n room : ℕ) → n ≡ 0 → length (one_cut n room) ≡ 0
 none_counted n room e = rw e refl
 
 -- what a turn is given stands for what is behind it
-pub through : (n m p n' m' p' : ℕ) (a b : Input) (k l : Output) (q q' : ℕ) (fed : List ℕ) (made : List (ℕ × ℕ)) (sent : List ℕ)
+pub through : (n m p n' m' p' : ℕ) (a b : Input) (k l : Output) (q q' : ℕ) (fed : List ℕ) (made : List Cut) (sent : List ℕ)
     → Passes (outside (input_through n (input_through m (input_through p a))) (output_through q k)) (outside (input_through n' (input_through m' (input_through p' b))) (output_through q' l)) fed made sent
     → Passes (outside a k) (outside b l) fed made sent
 through n m p n' m' p' a b k l q q' fed made sent s = record {
@@ -63,7 +64,7 @@ through n m p n' m' p' a b k l q q' fed made sent s = record {
 }
 
 -- and what is behind it, for it
-pub lifted : (n m p q : ℕ) (a b : Input) (k l : Output) (fed : List ℕ) (made : List (ℕ × ℕ)) (sent : List ℕ) → Passes (outside a k) (outside b l) fed made sent
+pub lifted : (n m p q : ℕ) (a b : Input) (k l : Output) (fed : List ℕ) (made : List Cut) (sent : List ℕ) → Passes (outside a k) (outside b l) fed made sent
     → Passes (outside (input_through n (input_through m (input_through p a))) (output_through q k)) (outside (input_through n (input_through m (input_through p b))) (output_through q l)) fed made sent
 lifted n m p q a b k l fed made sent s = record {
   source = record {

@@ -1,6 +1,7 @@
 -- One turn, by what a poll promises of a service in turn.
 use Rattle.std.proofs.Common.{◌≡◌, inl, inr, ℕ, List, [], ◌∷◌, ◌++◌, refl, sym, ap, ◌∙◌, subst, length, append-nil, Result, Ok, Err, arith}
 use Rattle.std.proofs.lemmas.List.{map-append}
+use Rattle.modbus_link.specs.declared.outside.Cut.{Cut}
 use Rattle.modbus_link.specs.Reads.{totals}
 use Rattle.modbus_service.specs.Answering.{Answering}
 use Rattle.modbus_frame.specs.Meaning.{Asked}
@@ -199,10 +200,10 @@ module _ (F : Framing) {S : Type 0} (A : Answering S) where
     by_result (Err fault) v = by_halt (broken fault) v
 
   -- what a connection stands for after a poll, and how it stands again with another state of the service
-  abbrev PollsOn : ℕ → List ℕ → List (ℕ × ℕ) → List ℕ → List Said → State → ℕ → Type 0
+  abbrev PollsOn : ℕ → List ℕ → List Cut → List ℕ → List Said → State → ℕ → Type 0
   PollsOn turns bytes made written own state left = (service : S) → PollStands F T (polled_past turns bytes made (at own service) written) (at [] service) (polled state left)
 
-  pub standing : (turns : ℕ) (bytes : List ℕ) (made : List (ℕ × ℕ)) (written : List ℕ) (own : List Said) (s end : S) (state : State) (left : ℕ)
+  pub standing : (turns : ℕ) (bytes : List ℕ) (made : List Cut) (written : List ℕ) (own : List Said) (s end : S) (state : State) (left : ℕ)
       → PollStands F T (polled_past turns bytes made (at own s) written) (at [] end) (polled state left)
       → (fresh : List Said) × RunOver A s fresh end × PollsOn turns bytes made written (own ++ fresh) state left
   standing turns bytes made written own s end state left p =

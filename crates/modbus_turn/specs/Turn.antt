@@ -10,7 +10,8 @@ use Rattle.modbus_service.specs.Answering.{Answering}
 use Rattle.modbus_turn.specs.declared.turn.Turn.{Turn}
 use Rattle.modbus_turn.specs.declared.turn.Turn.TheVariants.{Waiting, Spent, Over}
 use Rattle.modbus_turn.specs.InTurn.{Said, RunOver, in_turn, saying_again}
-use Rattle.modbus_link.specs.Outside.{Cut, outside}
+use Rattle.modbus_link.specs.declared.outside.Cut.{Cut}
+use Rattle.modbus_link.specs.Outside.{outside}
 use Rattle.modbus_server.specs.Moment.{moment}
 
 -- a connection: its link, and what its server keeps
