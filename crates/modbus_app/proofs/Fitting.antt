@@ -4,9 +4,10 @@ use Rattle.std.specs.Prelude.{All}
 use Rattle.std.proofs.lemmas.List.Elements.{All-cons, All-nil}
 use Rattle.modbus_frame.specs.Meaning.{Asked}
 use Rattle.modbus_pdu.specs.declared.limits.TheConstants.{MAX_PDU}
+use Rattle.modbus_pdu.specs.Message.{Message}
 use Rattle.modbus_service.specs.Outcome.{Outcome, reply_pdu, code_of}
 use Rattle.modbus_server.specs.Exchanges.{Exchange, GivesOutcome, Run, ReplyFits}
-use Rattle.modbus_server.specs.Framing.{Framing, Message}
+use Rattle.modbus_server.specs.Framing.{Framing}
 use Rattle.modbus_server.specs.Complete.{RepliesFit}
 use Rattle.modbus_server.specs.Served.{EndsAs, Served, Halts, too_long}
 use Rattle.modbus_server.specs.declared.error.ProcessError.{ProcessError}
@@ -24,7 +25,7 @@ module _ (answers_fit : (code : ℕ) (tables : Tables) (slave : ℕ) (request : 
   all_fit F start (x ∷ xs) end (next, step, rest) = All-cons (ReplyFits F) x xs (each_fits F start next x step) (all_fit F next xs end rest)
 
   -- so the replies to any input fit
-  pub replies_fit : (F : Framing) (start : Tables) (messages : List (Message F)) → RepliesFit F device start messages
+  pub replies_fit : (F : Framing) (start : Tables) (messages : List (Message F.Header)) → RepliesFit F device start messages
   replies_fit F start messages = λ xs end front rest run parts asked. all_fit F start xs end run
 
   -- and none is ever too long
@@ -32,7 +33,7 @@ module _ (answers_fit : (code : ℕ) (tables : Tables) (slave : ℕ) (request : 
       → EndsAs F device bytes cuts opening now written result → result ≡ Err (ResponseTooLong size) → ⊥
   never_long F bytes cuts opening now written result size ends e = served (subst (λ r. EndsAs F device bytes cuts opening now written r) e ends)
     where
-      halted : (before : List (Message F)) (middle : Tables) → Halts F device bytes cuts before middle now (too_long size) → ⊥
+      halted : (before : List (Message F.Header)) (middle : Tables) → Halts F device bytes cuts before middle now (too_long size) → ⊥
       halted before middle (message, next, x, asked, step, told, long) = omega (arith, told, long, each_fits F middle now x step)
 
       served : Served F device bytes cuts opening now written (too_long size) → ⊥

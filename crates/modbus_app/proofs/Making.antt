@@ -17,6 +17,8 @@ use Rattle.modbus_pdu.specs.declared.limits.TheConstants.{MAX_PDU}
 use Rattle.modbus_pdu.specs.Laws.{IsInRange, IsReadable, ReadsBack, request_size}
 use Rattle.modbus_pdu.specs.RequestOf.{request_of}
 use Rattle.modbus_pdu.specs.RequestPdu.{request_pdu}
+use Rattle.modbus_pdu.specs.SlavePdu.{SlavePdu}
+use Rattle.modbus_pdu.specs.Message.{message}
 use Rattle.modbus_rtu.specs.Checksum.{crc}
 use Rattle.modbus_rtu.specs.Frame.{frame}
 use Rattle.modbus_rtu.specs.WholeReading.{IsModelledAsk, IsFramedAsk, message_of, stream_of}
@@ -41,8 +43,8 @@ use Rattle.modbus_server.specs.Moment.{moment}
 abbrev for_slave : Asked → ℕ × Asked
 for_slave request = (made_slave, request)
 
-abbrev message_for : Asked → ℕ × List ℕ
-message_for request = (made_slave, request_pdu request)
+abbrev message_for : Asked → SlavePdu
+message_for request = message made_slave (request_pdu request)
 
 abbrev question_for : Asked → ℕ × Result Asked Reason
 question_for request = (made_slave, Ok request)
@@ -141,8 +143,8 @@ all_back : (requests : List Asked) → AllByRecursion IsPlain requests → map (
 all_back [] all = refl
 all_back (request ∷ requests) all = let one = all.0.back in let rest = all_back requests all.1 in cc
 
-abbrev pub IsAsked : ℕ × List ℕ → Type 0
-IsAsked message = (request : Asked) × (request_of message.1 ≡ Ok request)
+abbrev pub IsAsked : SlavePdu → Type 0
+IsAsked message = (request : Asked) × (request_of message.pdu ≡ Ok request)
 
 all_asked_for : (requests : List Asked) → AllByRecursion IsPlain requests → AllByRecursion IsAsked (map message_for requests)
 all_asked_for [] all = tt
@@ -202,7 +204,7 @@ output_short (x ∷ xs) fit =
 same_length : {A B C : Type 0} (f : A → C) (g : B → C) (xs : List A) (ys : List B) → map f xs ≡ map g ys → length xs ≡ length ys
 same_length f g xs ys e = sym (length-map xs f) ∙ ap length e ∙ length-map ys g
 
-in_middle : (P : ℕ × List ℕ → Type 0) (before : List (ℕ × List ℕ)) (message : ℕ × List ℕ) (later : List (ℕ × List ℕ)) → AllByRecursion P ((before ++ message ∷ []) ++ later) → P message
+in_middle : (P : SlavePdu → Type 0) (before : List SlavePdu) (message : SlavePdu) (later : List SlavePdu) → AllByRecursion P ((before ++ message ∷ []) ++ later) → P message
 in_middle P [] message later all = all.0
 in_middle P (first ∷ before) message later all = in_middle P before message later all.1
 
@@ -211,14 +213,14 @@ not_risen old new same none rose = omega (arith, rose, same, none)
 
 -- the laws of the crates below
 abbrev pub NoCrowds : Type 0
-NoCrowds = (read rest cuts : List ℕ) (messages : List (ℕ × List ℕ)) (k : ℕ) → IsQuietLine (read ++ rest) messages → HasCrowd read cuts k → ⊥
+NoCrowds = (read rest cuts : List ℕ) (messages : List SlavePdu) (k : ℕ) → IsQuietLine (read ++ rest) messages → HasCrowd read cuts k → ⊥
 
 abbrev pub NextIsOfLine : Type 0
-NextIsOfLine = (read rest cuts : List ℕ) (messages before : List (ℕ × List ℕ)) (message : ℕ × List ℕ) → IsQuietLine (read ++ rest) messages → IsTakenNext read cuts before message
-    → (later : List (ℕ × List ℕ)) × (messages ≡ (before ++ message ∷ []) ++ later)
+NextIsOfLine = (read rest cuts : List ℕ) (messages before : List SlavePdu) (message : SlavePdu) → IsQuietLine (read ++ rest) messages → IsTakenNext read cuts before message
+    → (later : List SlavePdu) × (messages ≡ (before ++ message ∷ []) ++ later)
 
 abbrev pub NothingIsLeft : Type 0
-NothingIsLeft = (read cuts left : List ℕ) (messages before : List (ℕ × List ℕ)) → IsQuietLine read messages → IsUsedUp read cuts left before → left ≡ []
+NothingIsLeft = (read cuts left : List ℕ) (messages before : List SlavePdu) → IsQuietLine read messages → IsUsedUp read cuts left before → left ≡ []
 
 abbrev pub OneReading : Type 0
 OneReading = (bytes frames others : List ℕ) (stop last : ℕ) → IsLeftmost bytes frames stop → IsLeftmost bytes others last → (frames ≡ others) × (stop ≡ last)
@@ -283,7 +285,7 @@ module _ (laws : Laws) (count : ℕ) (most : count ≤ 1000000) (opening now : T
   room : 256 * length requests < sunk.sure_below
   room = omega (arith, count_made count, ap (λ (s : SinkState). (sink_output s).sure_below) made_room)
 
-  abbrev messages : List (ℕ × List ℕ)
+  abbrev messages : List SlavePdu
   messages = map message_for requests
 
   quiet : IsQuietLine from.left messages
@@ -316,7 +318,7 @@ module _ (laws : Laws) (count : ℕ) (most : count ≤ 1000000) (opening now : T
     few_turns : length ran.made ≡ 2 ^ 64 - 1 → ⊥
     few_turns all = omega (arith, all, RisesTo-count 0 (length ran.fed) ran.made ran.passes.rises, ap length joined, length-append ran.fed to.left, long, few)
 
-    few_taken : (place : ℕ) (taken : List (ℕ × List ℕ)) → ((frames : List ℕ) (stop : ℕ) → IsLeftmost ran.fed frames stop → taken ≡ map (frame_at ran.fed) (frames_below place frames)) → length taken ≤ length requests
+    few_taken : (place : ℕ) (taken : List SlavePdu) → ((frames : List ℕ) (stop : ℕ) → IsLeftmost ran.fed frames stop → taken ≡ map (frame_at ran.fed) (frames_below place frames)) → length taken ≤ length requests
     few_taken place taken took =
         let (frames, stop, l) = laws.some ran.fed in
         let (later, front, above) = laws.stay ran.fed to.left frames line.frames stop (length (ran.fed ++ to.left)) l line.reading in
@@ -333,7 +335,7 @@ module _ (laws : Laws) (count : ℕ) (most : count ≤ 1000000) (opening now : T
           length-map requests message_for,
         )
 
-    refused : (before : List (ℕ × List ℕ)) (message : ℕ × List ℕ) (cuts : List ℕ) (reason : Reason) → IsTakenNext ran.fed cuts before message → request_of message.1 ≡ Err reason → ⊥
+    refused : (before : List SlavePdu) (message : SlavePdu) (cuts : List ℕ) (reason : Reason) → IsTakenNext ran.fed cuts before message → request_of message.pdu ≡ Err reason → ⊥
     refused before message cuts reason taken e =
         let (later, are) = laws.next ran.fed to.left cuts messages before message line taken in
         let all : AllByRecursion IsAsked ((before ++ message ∷ []) ++ later) = subst (AllByRecursion IsAsked) are (all_asked_for requests plain) in

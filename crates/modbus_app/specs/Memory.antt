@@ -14,4 +14,4 @@ WritesOne _ = ⊥
 
 -- a frame whose PDU, where it is a request, writes one entry
 abbrev pub IsSingleWrite : SlavePdu → Type 0
-IsSingleWrite message = (request : Asked) → request_of message.1 ≡ Ok request → WritesOne request
+IsSingleWrite message = (request : Asked) → request_of message.pdu ≡ Ok request → WritesOne request

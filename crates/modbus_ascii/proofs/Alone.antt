@@ -5,6 +5,8 @@ use Rattle.std.specs.List.{AllByRecursion, list_all, fold}
 use Rattle.std.proofs.lemmas.Bool.{and_parts}
 use Rattle.std.proofs.lemmas.List.{take_at}
 use Rattle.modbus_pdu.specs.Laws.{IsByte}
+use Rattle.modbus_pdu.specs.SlavePdu.{SlavePdu}
+use Rattle.modbus_pdu.specs.Message.{message}
 use Rattle.modbus_ascii.specs.Limits.{colon, carriage_return, line_feed, shortest_body}
 use Rattle.modbus_ascii.specs.Checksum.{lrc}
 use Rattle.modbus_ascii.specs.Text.{begins_end, from_end, is_open, open_end}
@@ -83,7 +85,7 @@ adds-up slave pdu =
 abbrev reading_of : List ℕ → Reading
 reading_of bytes = record { phase = Digits; bytes = bytes; half = None }
 
-text-of-frame : (slave : ℕ) (pdu : List ℕ) → IsFramed (slave, pdu) → frame_of (text_of (body slave pdu)) ≡ (slave, pdu) ∷ []
+text-of-frame : (slave : ℕ) (pdu : List ℕ) → IsFramed (message slave pdu) → frame_of (text_of (body slave pdu)) ≡ message slave pdu ∷ []
 text-of-frame slave pdu f =
     let bytes = body slave pdu in
     let all = body-bytes slave pdu f.slave f.bytes in
@@ -94,9 +96,9 @@ text-of-frame slave pdu f =
     let zero_ : (sum bytes % 256 == 0) ≡ true = rw (adds-up slave pdu) refl in
     let yes' : made_frame (reading_of bytes) ≡ true = rw (enough, zero_) refl in
     let inner : take (length bytes - 2) (drop 1 bytes) ≡ pdu = take_at pdu (lrc (slave ∷ pdu) ∷ []) (length bytes - 2) (omega (arith, size)) in
-    made ∙ ap (λ m. ended m (reading_of bytes)) yes' ∙ ap (λ p. (slave, p) ∷ []) inner
+    made ∙ ap (λ m. ended m (reading_of bytes)) yes' ∙ ap (λ p. message slave p ∷ []) inner
 
-alone : (slave : ℕ) (pdu : List ℕ) → IsFramed (slave, pdu) → (frames (frame slave pdu) ≡ (slave, pdu) ∷ []) × (open_end (frame slave pdu) ≡ [])
+alone : (slave : ℕ) (pdu : List ℕ) → IsFramed (message slave pdu) → (frames (frame slave pdu) ≡ message slave pdu ∷ []) × (open_end (frame slave pdu) ≡ [])
 unfolding frame
 alone slave pdu f =
     let text = text_of (body slave pdu) in
@@ -112,7 +114,7 @@ alone slave pdu f =
     frames-more begun carriage_return ∙ ap (λ g. frames begun ++ g) (given-quiet (open_end begun) carriage_return (no-feed (open_end begun) carriage_return same))
     ∙ append-nil (frames begun) ∙ quiet in
     let whole : begun ++ carriage_return ∷ line_feed ∷ [] ≡ returned ++ line_feed ∷ [] = sym (append_assoc begun (carriage_return ∷ []) (line_feed ∷ [])) in
-    let delivers : frames (returned ++ line_feed ∷ []) ≡ (slave, pdu) ∷ [] =
+    let delivers : frames (returned ++ line_feed ∷ []) ≡ message slave pdu ∷ [] =
     frames-more returned line_feed ∙ ap (λ f. f ++ given (open_end returned) line_feed) nothing ∙ ap (λ p. given p line_feed) after ∙ given-ended text
     ∙ text-of-frame slave pdu f in
     let closes : open_end (returned ++ line_feed ∷ []) ≡ [] = open_end-more returned line_feed ∙ ap (λ p. opened p line_feed) after ∙ opened-ended text in
@@ -123,13 +125,13 @@ none-held [] e = refl
 none-held (x ∷ now) e = absurd (omega (arith, ap length e, length-kept (x ∷ now)))
 
 -- frames one after another deliver exactly these, with no `:` open at their end
-pub stream-delivers : (messages : List (ℕ × List ℕ)) → AllByRecursion IsFramed messages → (frames (stream_of messages) ≡ messages) × (open_end (stream_of messages) ≡ [])
+pub stream-delivers : (messages : List SlavePdu) → AllByRecursion IsFramed messages → (frames (stream_of messages) ≡ messages) × (open_end (stream_of messages) ≡ [])
 unfolding frames open_end
 stream-delivers [] all = (refl, refl)
 stream-delivers (m ∷ messages) all =
-    let one = alone m.0 m.1 all.0 in
+    let one = alone m.header m.pdu all.0 in
     let rest = stream-delivers messages all.1 in
-    let both = frames-closed (frame m.0 m.1) (stream_of messages) one.1 in (
+    let both = frames-closed (frame m.header m.pdu) (stream_of messages) one.1 in (
       both.0 ∙ ap (λ f. f ++ frames (stream_of messages)) one.0 ∙ ap (λ l. m ∷ l) rest.0,
-      none-held (open_end (frame m.0 m.1 ++ stream_of messages)) (both.1 ∙ ap kept_of rest.1),
+      none-held (open_end (frame m.header m.pdu ++ stream_of messages)) (both.1 ∙ ap kept_of rest.1),
     )

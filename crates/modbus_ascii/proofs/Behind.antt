@@ -1,5 +1,6 @@
 -- What follows bytes delivers what it delivers behind the `:` that is open at their end, or alone where that is too long.
 use Rattle.std.proofs.Common.{◌≡◌, ℕ, ◌<◌, ◌≤◌, ◌==◌, Bool, true, false, ◌&&◌, if◌then◌else◌, ◌⊎◌, inl, inr, List, [], ◌∷◌, ◌++◌, length, drop, refl, sym, ap, ◌∙◌, subst, arith, length-append, append-nil, append_assoc}
+use Rattle.modbus_pdu.specs.SlavePdu.{SlavePdu}
 use Rattle.modbus_ascii.specs.Limits.{colon, carriage_return, line_feed, max_frame, most_open}
 use Rattle.modbus_ascii.specs.Text.{open_end, last}
 use Rattle.modbus_ascii.specs.Frames.{frame_of, frames}
@@ -53,7 +54,7 @@ opens-as now byte long = by_marks (byte == colon) (length now == 0) (last now ==
 
 -- what follows delivers the same behind both
 abbrev Alike : List ℕ → List ℕ → List ℕ → Type 0
-Alike a b more = (g : List (ℕ × List ℕ)) × (frames (a ++ more) ≡ frames a ++ g) × (frames (b ++ more) ≡ frames b ++ g)
+Alike a b more = (g : List SlavePdu) × (frames (a ++ more) ≡ frames a ++ g) × (frames (b ++ more) ≡ frames b ++ g)
 
 by-a-byte : (a b more : List ℕ) (x : ℕ) → given (open_end a) x ≡ [] → given (open_end b) x ≡ [] → Alike (a ++ x ∷ []) (b ++ x ∷ []) more → Alike a b (x ∷ more)
 by-a-byte a b more x ga gb (g, e, f) =

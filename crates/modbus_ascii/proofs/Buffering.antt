@@ -2,6 +2,8 @@
 use Rattle.std.proofs.Common.{◌≡◌, ℕ, zero, suc, ◌-◌, ◌<◌, ◌≤◌, ◌==◌, nat_lt, Bool, true, false, not, ◌&&◌, if◌then◌else◌, inl, inr, List, [], ◌∷◌, ◌++◌, length, take, drop, slice_index, refl, sym, ap, ◌∙◌, subst, arith, length-append, length-drop, append-nil, append_assoc}
 use Rattle.std.proofs.lemmas.List.{take-append-le}
 use Rattle.std.proofs.Math.Seq.{take-length}
+use Rattle.modbus_pdu.specs.SlavePdu.{SlavePdu}
+use Rattle.modbus_pdu.specs.Message.{message}
 use Rattle.modbus_ascii.specs.declared.scan.Scan.{Scan}
 use Rattle.modbus_ascii.specs.Limits.{colon, max_frame, most_open, most_held}
 use Rattle.modbus_ascii.specs.Text.{open_end}
@@ -36,13 +38,13 @@ found-frame seen scan s is = s.found ∙ ap (λ f. ended f scan.decoder) is
 found-none : (seen : List ℕ) (scan : Scan) → HasSeen seen scan → scan.found ≡ false → frames seen ≡ []
 found-none seen scan s is = s.found ∙ ap (λ f. ended f scan.decoder) is
 
-pub front-frame : (bytes cuts held : List ℕ) (taken : List (ℕ × List ℕ)) (scan : Scan) (slave : ℕ) (pdu : List ℕ) → Scans held scan → scan.found ≡ true
-    → slave ≡ (slave_and_pdu scan.decoder.bytes).0 → pdu ≡ (slave_and_pdu scan.decoder.bytes).1 → StandsFor bytes cuts held taken
-    → StandsFor bytes cuts (drop scan.fed held) (taken ++ (slave, pdu) ∷ []) × IsNextFrame bytes cuts taken (slave, pdu)
+pub front-frame : (bytes cuts held : List ℕ) (taken : List SlavePdu) (scan : Scan) (slave : ℕ) (pdu : List ℕ) → Scans held scan → scan.found ≡ true
+    → slave ≡ (slave_and_pdu scan.decoder.bytes).header → pdu ≡ (slave_and_pdu scan.decoder.bytes).pdu → StandsFor bytes cuts held taken
+    → StandsFor bytes cuts (drop scan.fed held) (taken ++ message slave pdu ∷ []) × IsNextFrame bytes cuts taken (message slave pdu)
 front-frame bytes cuts held taken scan slave pdu s is a b stood =
     let seen = after_last_end held ++ take scan.fed held in
-    let P : ℕ → Type 0 = λ n. StandsFor bytes cuts (drop scan.fed held) (taken ++ (n, pdu) ∷ []) × IsNextFrame bytes cuts taken (n, pdu) in
-    let Q : List ℕ → Type 0 = λ l. StandsFor bytes cuts (drop scan.fed held) (taken ++ ((slave_and_pdu scan.decoder.bytes).0, l) ∷ []) × IsNextFrame bytes cuts taken ((slave_and_pdu scan.decoder.bytes).0, l) in
+    let P : ℕ → Type 0 = λ n. StandsFor bytes cuts (drop scan.fed held) (taken ++ message n pdu ∷ []) × IsNextFrame bytes cuts taken (message n pdu) in
+    let Q : List ℕ → Type 0 = λ l. StandsFor bytes cuts (drop scan.fed held) (taken ++ message (slave_and_pdu scan.decoder.bytes).header l ∷ []) × IsNextFrame bytes cuts taken (message (slave_and_pdu scan.decoder.bytes).header l) in
     subst P (sym a) (subst Q (sym b) (stands-frame bytes cuts held taken scan.fed (slave_and_pdu scan.decoder.bytes) stood s.0 (found-frame seen scan s.1 is) (s.1.closed is)))
 
 pub front-some : (held : List ℕ) (scan : Scan) → Scans held scan → scan.found ≡ true → 0 < scan.fed
@@ -59,7 +61,7 @@ left-of : (held : List ℕ) (scan : Scan) → HasSeen (whole held) scan → (dro
     → drop dropped held ≡ drop (length held - length (held_open (whole held))) held
 left-of held scan s dropped is = ap (λ n. drop n held) (is ∙ ap (λ n. length held - n) s.«open»)
 
-pub front-waiting : (bytes cuts held : List ℕ) (taken : List (ℕ × List ℕ)) (scan : Scan) (dropped : ℕ) → Scans held scan → scan.found ≡ false → scan.fed ≡ length held
+pub front-waiting : (bytes cuts held : List ℕ) (taken : List SlavePdu) (scan : Scan) (dropped : ℕ) → Scans held scan → scan.found ≡ false → scan.fed ≡ length held
     → dropped ≡ length held - scan.«open» → StandsFor bytes cuts held taken
     → StandsFor bytes cuts (drop dropped held) taken × AreAllFrames bytes cuts (drop dropped held) taken
 front-waiting bytes cuts held taken scan dropped s none all is stood =
@@ -153,8 +155,8 @@ scan-read held piece scan s still few =
 -- ---- the bytes of a clean line
 
 -- what bytes deliver goes on as they do
-pub next-frame : (read rest cuts : List ℕ) (messages before : List (ℕ × List ℕ)) (message : ℕ × List ℕ) → AreOnlyFrames (read ++ rest) messages → IsNextFrame read cuts before message
-    → (later : List (ℕ × List ℕ)) × (messages ≡ (before ++ message ∷ []) ++ later)
+pub next-frame : (read rest cuts : List ℕ) (messages before : List SlavePdu) (message : SlavePdu) → AreOnlyFrames (read ++ rest) messages → IsNextFrame read cuts before message
+    → (later : List SlavePdu) × (messages ≡ (before ++ message ∷ []) ++ later)
 next-frame read rest cuts messages before message clean (others, is) =
     let more = frames-front read rest in
     (others ++ more.0, clean.0 ∙ more.1 ∙ ap (λ f. f ++ more.0) is ∙ append_assoc (before ++ message ∷ []) others more.0)

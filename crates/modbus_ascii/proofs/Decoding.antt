@@ -5,6 +5,7 @@ use Rattle.std.proofs.lemmas.Bool.{and_parts}
 use Rattle.std.proofs.lemmas.List.{map-append}
 use Rattle.std.proofs.lemmas.List.Folds.{list_all-append}
 use Rattle.std.proofs.lemmas.Grind.{flat_map-append}
+use Rattle.modbus_pdu.specs.SlavePdu.{SlavePdu}
 use Rattle.modbus_ascii.specs.declared.decoder.Phase.{Phase}
 use Rattle.modbus_ascii.specs.declared.decoder.Phase.TheVariants.{Closed, Digits, Returned, Skipped, SkippedReturn}
 use Rattle.modbus_ascii.specs.Limits.{colon, carriage_return, line_feed, max_body, longest_text}
@@ -138,7 +139,7 @@ keeps-feed Skipped bytes half now (text, is, u, not) =
 keeps-feed SkippedReturn bytes half now (text, is, u) = rw is (opened-ended text)
 
 -- the frame that a LF ends
-abbrev pub fed_frame : Phase → Reading → List (ℕ × List ℕ)
+abbrev pub fed_frame : Phase → Reading → List SlavePdu
 fed_frame Returned reading = ended (made_frame reading) reading
 fed_frame _ reading = []
 

@@ -1,6 +1,7 @@
 -- How a byte more changes what is open and what was delivered.
 use Rattle.std.proofs.Common.{◌≡◌, ℕ, suc, ◌==◌, Bool, true, false, ◌&&◌, ◌||◌, if◌then◌else◌, ◌⊎◌, inl, inr, List, [], ◌∷◌, ◌++◌, length, drop, slice_index, refl, sym, ap, ◌∙◌, arith, append-nil, append_assoc}
 use Rattle.std.proofs.lemmas.Bool.{eqb-true}
+use Rattle.modbus_pdu.specs.SlavePdu.{SlavePdu}
 use Rattle.modbus_ascii.specs.Limits.{colon, carriage_return, line_feed}
 use Rattle.modbus_ascii.specs.Text.{begins_end, text, from_end, is_open, open_end, last}
 use Rattle.modbus_ascii.specs.Frames.{frame_of, frames_delivered, frames}
@@ -72,7 +73,7 @@ open-text (x ∷ xs) e = step (begins_end (x ∷ xs)) (open-text xs) e
     step false ih e = ap (λ t. x ∷ t) (ih e)
 
 -- a text that ends at CR and LF is delivered, and one that ends at a `:` is not
-abbrev now_delivered : List ℕ → ℕ → List (ℕ × List ℕ)
+abbrev now_delivered : List ℕ → ℕ → List SlavePdu
 now_delivered xs b = if last xs == carriage_return && b == line_feed then frame_of (but_last xs) else []
 
 ends-delivered : (xs : List ℕ) (b : ℕ) → is_open xs ≡ true → (slice_index (from_end (xs ++ b ∷ [])) 0 == carriage_return) ≡ (last xs == carriage_return && b == line_feed)
@@ -136,7 +137,7 @@ abbrev pub opened : List ℕ → ℕ → List ℕ
 opened now b = if b == colon then colon ∷ [] else if length now == 0 then [] else if last now == carriage_return && b == line_feed then [] else now ++ b ∷ []
 
 -- the frame that a byte delivers, where this was open: that of the text between the `:` and the CR
-abbrev pub given : List ℕ → ℕ → List (ℕ × List ℕ)
+abbrev pub given : List ℕ → ℕ → List SlavePdu
 given now b = if last now == carriage_return && b == line_feed then frame_of (drop 1 (but_last now)) else []
 
 truth : (c : Bool) → (c ≡ true) ⊎ (c ≡ false)

@@ -2,6 +2,7 @@
 use Rattle.std.proofs.Common.{◌≡◌, ℕ, zero, suc, ◌+◌, ◌-◌, ◌<◌, ◌≤◌, ◌==◌, Bool, true, false, ◌&&◌, if◌then◌else◌, ◌⊎◌, inl, inr, List, [], ◌∷◌, ◌++◌, length, drop, refl, sym, ap, ◌∙◌, arith, length-append, length-drop, append-nil, append_assoc}
 use Rattle.std.proofs.lemmas.Bool.{cases_lt}
 use Rattle.std.proofs.lemmas.List.{drop-drop}
+use Rattle.modbus_pdu.specs.SlavePdu.{SlavePdu}
 use Rattle.modbus_ascii.specs.Limits.{colon, carriage_return, line_feed, longest_text, most_open}
 use Rattle.modbus_ascii.specs.Text.{open_end, last}
 use Rattle.modbus_ascii.specs.Frames.{frame_of, frames}
@@ -109,7 +110,7 @@ like-given a b x e = by_cases (like-cases a b e)
 
 -- bytes of which the same is held open go on alike: each byte more delivers the same frames, and the same is held open then
 pub going : (more a b : List ℕ) → Like (open_end a) (open_end b)
-    → (g : List (ℕ × List ℕ)) × (frames (a ++ more) ≡ frames a ++ g) × (frames (b ++ more) ≡ frames b ++ g) × Like (open_end (a ++ more)) (open_end (b ++ more))
+    → (g : List SlavePdu) × (frames (a ++ more) ≡ frames a ++ g) × (frames (b ++ more) ≡ frames b ++ g) × Like (open_end (a ++ more)) (open_end (b ++ more))
 going [] a b e = ([], ap frames (append-nil a) ∙ sym (append-nil (frames a)), ap frames (append-nil b) ∙ sym (append-nil (frames b)), rw (append-nil a, append-nil b) e)
 going (x ∷ more) a b e =
     let stepped : Like (open_end (a ++ x ∷ [])) (open_end (b ++ x ∷ [])) = rw (open_end-more a x, open_end-more b x) (like-opened (open_end a) (open_end b) x e) in
@@ -124,7 +125,7 @@ going (x ∷ more) a b e =
     (given (open_end a) x ++ rest.0, first, second, rw (← left, ← right) rest.3)
 
 -- what bytes deliver stays, whatever follows
-pub frames-front : (a more : List ℕ) → (later : List (ℕ × List ℕ)) × (frames (a ++ more) ≡ frames a ++ later)
+pub frames-front : (a more : List ℕ) → (later : List SlavePdu) × (frames (a ++ more) ≡ frames a ++ later)
 frames-front a more = let g = going more a a refl in (g.0, g.1)
 
 -- bytes with no `:` open have no part in what follows

@@ -3,6 +3,7 @@ use Rattle.std.proofs.Common.{◌≡◌, ℕ, zero, suc, ◌+◌, ◌-◌, ◌<�
 use Rattle.std.proofs.lemmas.Bool.{cases_lt, eqb-true}
 use Rattle.std.proofs.lemmas.List.{take-append-drop, take-append-le}
 use Rattle.std.proofs.Math.Seq.{drop-append-add, take-add}
+use Rattle.modbus_pdu.specs.SlavePdu.{SlavePdu}
 use Rattle.modbus_ascii.specs.Limits.{colon, max_frame, most_open}
 use Rattle.modbus_ascii.specs.Text.{is_open, open_end}
 use Rattle.modbus_ascii.specs.Frames.{frames_delivered, frames}
@@ -62,7 +63,7 @@ all-open-quiet bytes e = by_kind (open_end-kind bytes)
 pub front-quiet : (front more : List ℕ) → frames (front ++ more) ≡ [] → frames front ≡ []
 front-quiet front more e = by_parts (frames front) (frames-front front more)
   where
-    by_parts : (f : List (ℕ × List ℕ)) → ((later : List (ℕ × List ℕ)) × (frames (front ++ more) ≡ f ++ later)) → f ≡ []
+    by_parts : (f : List SlavePdu) → ((later : List SlavePdu) × (frames (front ++ more) ≡ f ++ later)) → f ≡ []
     by_parts [] l = refl
     by_parts (x ∷ f) (later, is) = cc
 
@@ -203,7 +204,7 @@ unfolding frames open_end
 stands-opening = record { next = refl; now = refl; late = refl }
 
 -- where nothing is delivered, the bytes of no use are dropped
-pub stands-waiting : (bytes cuts held : List ℕ) (taken : List (ℕ × List ℕ)) → StandsFor bytes cuts held taken → frames (whole held) ≡ []
+pub stands-waiting : (bytes cuts held : List ℕ) (taken : List SlavePdu) → StandsFor bytes cuts held taken → frames (whole held) ≡ []
     → (left : List ℕ) → left ≡ drop (length held - length (held_open (whole held))) held
     → StandsFor bytes cuts left taken × AreAllFrames bytes cuts left taken
 stands-waiting bytes cuts held taken s quiet left is =
@@ -218,11 +219,11 @@ stands-waiting bytes cuts held taken s quiet left is =
     } in
     (stood, (sym all, is ∙ held-last held ∙ sym s.now))
 
-some-frame : (x : ℕ × List ℕ) (l : List (ℕ × List ℕ)) → x ∷ l ≡ [] → ⊥
+some-frame : (x : SlavePdu) (l : List SlavePdu) → x ∷ l ≡ [] → ⊥
 some-frame x l e = cc
 
 -- a frame that ends late enough leaves no more than a read gives
-pub late-frame : (held : List ℕ) (k : ℕ) (frame : ℕ × List ℕ) → frames (after_last_end held ++ take (length held - max_frame) held) ≡ []
+pub late-frame : (held : List ℕ) (k : ℕ) (frame : SlavePdu) → frames (after_last_end held ++ take (length held - max_frame) held) ≡ []
     → frames (after_last_end held ++ take k held) ≡ frame ∷ [] → k ≤ length held → length (drop k held) ≤ max_frame
 late-frame held k frame late one within =
     elim (cases_lt k (length held - max_frame)) [
@@ -245,7 +246,7 @@ opening-short held short = by_kind (opening-kind held)
     by_kind (inr (one, long, first)) = absurd (omega (arith, long, short))
 
 -- a frame is taken off with all bytes before it
-pub stands-frame : (bytes cuts held : List ℕ) (taken : List (ℕ × List ℕ)) (k : ℕ) (frame : ℕ × List ℕ) → StandsFor bytes cuts held taken → k ≤ length held
+pub stands-frame : (bytes cuts held : List ℕ) (taken : List SlavePdu) (k : ℕ) (frame : SlavePdu) → StandsFor bytes cuts held taken → k ≤ length held
     → frames (after_last_end held ++ take k held) ≡ frame ∷ [] → open_end (after_last_end held ++ take k held) ≡ []
     → StandsFor bytes cuts (drop k held) (taken ++ frame ∷ []) × IsNextFrame bytes cuts taken frame
 unfolding frames
@@ -286,7 +287,7 @@ opening-more (x ∷ held) piece still few = by_kind (opening-kind (x ∷ held)) 
         absurd (clash x other first)
 
 -- a read appends
-pub stands-read : (bytes cuts cuts' held piece : List ℕ) (taken : List (ℕ × List ℕ)) → StandsFor bytes cuts held taken → IsStillOpen held → length piece ≤ max_frame
+pub stands-read : (bytes cuts cuts' held piece : List ℕ) (taken : List SlavePdu) → StandsFor bytes cuts held taken → IsStillOpen held → length piece ≤ max_frame
     → StandsFor (bytes ++ piece) cuts' (held ++ piece) taken
 stands-read bytes cuts cuts' held piece taken s still few =
     let same = opening-more held piece still few in

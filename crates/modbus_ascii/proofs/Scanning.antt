@@ -4,6 +4,7 @@ use Rattle.std.specs.Option.{option_to_list}
 use Rattle.std.proofs.lemmas.Bool.{cases_lt}
 use Rattle.std.proofs.lemmas.List.{take_more}
 use Rattle.std.proofs.lemmas.Option.{get_or_from_slice_get, slice_get-get_or, slice_get_past}
+use Rattle.modbus_pdu.specs.SlavePdu.{SlavePdu}
 use Rattle.modbus_ascii.specs.declared.decoder.Phase.{Phase}
 use Rattle.modbus_ascii.specs.declared.decoder.Phase.TheVariants.{Closed, Digits, Returned, Skipped, SkippedReturn}
 use Rattle.modbus_ascii.specs.Limits.{colon, carriage_return, line_feed, max_body, most_open, longest_text}
@@ -97,7 +98,7 @@ pub open-none : (seen : List ℕ) → open_end seen ≡ [] → length (held_open
 open-none seen none = ap (λ n. length (kept_of n)) none
 
 -- a byte that ends a frame closes the `:`
-pub frame-closes : (seen : List ℕ) (b : ℕ) (frame : ℕ × List ℕ) → frames (seen ++ b ∷ []) ≡ frames seen ++ frame ∷ [] → open_end (seen ++ b ∷ []) ≡ []
+pub frame-closes : (seen : List ℕ) (b : ℕ) (frame : SlavePdu) → frames (seen ++ b ∷ []) ≡ frames seen ++ frame ∷ [] → open_end (seen ++ b ∷ []) ≡ []
 frame-closes seen b frame e =
     let size : length (given (open_end seen) b) ≡ 1 = omega (arith, ap length (sym (frames-more seen b) ∙ e), length-append (frames seen) (given (open_end seen) b), length-append (frames seen) (frame ∷ [])) in
     open_end-more seen b ∙ by_marks (last (open_end seen) == carriage_return) (b == line_feed) (b == colon) (length (open_end seen) == 0) apart size

@@ -1,6 +1,7 @@
 -- What a codec answers to a byte.
 use Rattle.std.specs.Prelude.{◌≡◌, ℕ, List, [], ◌∷◌, Option, Some, None, Result, Ok, Err}
 use Rattle.modbus_pdu.specs.SlavePdu.{SlavePdu}
+use Rattle.modbus_pdu.specs.Message.{message}
 use Rattle.modbus_frame.specs.declared.fault.Reason.{Reason}
 use Rattle.modbus_frame.specs.declared.fault.PduError.{PduError}
 use Rattle.modbus_frame.specs.declared.fault.PduError.TheVariants as pdu_errors
@@ -17,8 +18,8 @@ error_of pdu_errors.NoMemory = errors.NoMemory
 abbrev pub AnswersBy : {A M : Type 0} → (List ℕ → Result M Reason) → (List ℕ → Type 0) → (A → ℕ) → (A → M) → List SlavePdu → Result (Option A) AsciiError → Type 0
 AnswersBy read wants slave meaning delivered (Ok None) = delivered ≡ []
 AnswersBy read wants slave meaning delivered (Ok (Some adu)) =
-    (pdu : List ℕ) × (delivered ≡ (slave adu, pdu) ∷ []) × (read pdu ≡ Ok (meaning adu))
+    (pdu : List ℕ) × (delivered ≡ message (slave adu) pdu ∷ []) × (read pdu ≡ Ok (meaning adu))
 AnswersBy read wants slave meaning delivered (Err (errors.Invalid reason)) =
-    (frame : SlavePdu) × (delivered ≡ frame ∷ []) × (read frame.1 ≡ Err reason)
+    (frame : SlavePdu) × (delivered ≡ frame ∷ []) × (read frame.pdu ≡ Err reason)
 AnswersBy read wants slave meaning delivered (Err errors.NoMemory) =
-    (frame : SlavePdu) × (delivered ≡ frame ∷ []) × wants frame.1
+    (frame : SlavePdu) × (delivered ≡ frame ∷ []) × wants frame.pdu

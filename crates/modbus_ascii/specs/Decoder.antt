@@ -3,6 +3,7 @@ use Rattle.std.specs.Prelude.{◌≡◌, ◌≢◌, ℕ, ◌+◌, ◌/◌, ◌%�
 use Rattle.std.specs.List.{list_all, flat_map}
 use Rattle.std.specs.Option.{option_to_list}
 use Rattle.modbus_pdu.specs.SlavePdu.{SlavePdu}
+use Rattle.modbus_pdu.specs.Message.{message}
 use Rattle.modbus_ascii.specs.declared.decoder.Phase.{Phase}
 use Rattle.modbus_ascii.specs.declared.decoder.Phase.TheVariants.{Closed, Digits, Returned, Skipped, SkippedReturn}
 use Rattle.modbus_ascii.specs.declared.decoder.AsciiFrame.{AsciiFrame}
@@ -59,4 +60,4 @@ ended false reading = []
 
 abbrev pub given_frames : Option AsciiFrame → List SlavePdu
 given_frames None = []
-given_frames (Some frame) = (frame.slave, frame.pdu.items) ∷ []
+given_frames (Some frame) = message frame.slave frame.pdu.items ∷ []

@@ -2,6 +2,7 @@
 use Rattle.std.specs.Prelude.{ℕ, ◌+◌, ◌*◌, ◌-◌, ◌%◌, nat_le, sum, Bool, ◌==◌, ◌&&◌, ◌||◌, if◌then◌else◌, List, [], ◌∷◌, ◌++◌, length, take, drop, slice_index}
 use Rattle.std.specs.List.{list_all}
 use Rattle.modbus_pdu.specs.SlavePdu.{SlavePdu}
+use Rattle.modbus_pdu.specs.Message.{message}
 use Rattle.modbus_ascii.specs.Limits.{colon, carriage_return, shortest_text, longest_text, overhead}
 use Rattle.modbus_ascii.specs.Text.{text, from_end}
 
@@ -26,7 +27,7 @@ is_frame digits =
 
 -- the slave address and the PDU of the bytes of a frame: the first byte, and those between the first and the last
 abbrev pub slave_and_pdu : List ℕ → SlavePdu
-slave_and_pdu bytes = (slice_index bytes 0, take (length bytes - overhead) (drop 1 bytes))
+slave_and_pdu bytes = message (slice_index bytes 0) (take (length bytes - overhead) (drop 1 bytes))
 
 -- the frame of a text that ends at CR and LF, or none
 unfoldable pub frame_of : List ℕ → List SlavePdu

@@ -225,14 +225,14 @@ impl AsciiDecoder {
 
     /// The slave address of the frame that the last byte ended.
     pub(crate) fn slave(&self) -> SlaveId
-        ensures { result ≡ (slave_and_pdu self.now.bytes).0 }
+        ensures { result ≡ (slave_and_pdu self.now.bytes).header }
     {
         self.bytes.first().copied().unwrap_or(0)
     }
 
     /// The PDU of the frame that the last byte ended.
     pub(crate) fn pdu(&self) -> &[u8]
-        ensures exact { result.now ≡ (slave_and_pdu self.now.bytes).1 }
+        ensures exact { result.now ≡ (slave_and_pdu self.now.bytes).pdu }
         ensures most { length result.now ≤ max_pdu }
     {
         match self.bytes.as_slice() {

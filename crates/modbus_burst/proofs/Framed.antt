@@ -1,10 +1,12 @@
 -- Which bursts are frames, and which message each burst is.
 use Rattle.std.proofs.Common.{◌≡◌, ◌↔◌, ℕ, ◌+◌, ◌-◌, ◌*◌, ◌/◌, ◌%◌, ◌<◌, ◌≤◌, Bool, true, false, List, [], ◌∷◌, ◌++◌, length, take, drop, slice_index, refl, sym, ap, ◌∙◌, subst, arith, length-append, length-take, length-drop, map}
-use Rattle.std.specs.Prelude.{if◌then◌else◌}
+use Rattle.std.specs.Prelude.{if◌then◌else◌, ◌==◌}
 use Rattle.std.specs.List.{AllByRecursion, flat_map}
 use Rattle.std.proofs.lemmas.Grind.{common_steps}
 use Rattle.std.proofs.lemmas.List.{take_at, get_or_at}
 use Rattle.modbus_pdu.specs.Laws.{IsByte}
+use Rattle.modbus_pdu.specs.SlavePdu.{SlavePdu}
+use Rattle.modbus_pdu.specs.Message.{message}
 use Rattle.modbus_rtu.specs.Checksum.{crc}
 use Rattle.modbus_rtu.specs.Frame.{frame}
 use Rattle.modbus_burst.specs.Bursts.{bursts_from, is_frame, slave_and_pdu, frame_of, noise, message_of, messages, frames, frames_in_message, IsFramed}
@@ -48,10 +50,10 @@ module _ (slave : ℕ) (pdu : List ℕ) (low high : ℕ) where
       let n : length (slave ∷ pdu ++ low ∷ []) ≡ length (shape slave pdu low high) - 1 = omega (arith, size, length-append pdu (low ∷ [])) in
       ap (λ xs. slice_index xs (length (shape slave pdu low high) - 1)) join ∙ get_or_at (slave ∷ pdu ++ low ∷ []) high [] 0 (length (shape slave pdu low high) - 1) n
 
-  parts_of : slave_and_pdu (shape slave pdu low high) ≡ (slave, pdu)
+  parts_of : slave_and_pdu (shape slave pdu low high) ≡ message slave pdu
   parts_of =
       let n : length (shape slave pdu low high) - 3 ≡ length pdu = omega (arith, size) in
-      ap (λ (p : List ℕ). (slave, p)) (ap (λ k. take k (pdu ++ low ∷ high ∷ [])) n ∙ take_at pdu (low ∷ high ∷ []) (length pdu) refl)
+      ap (λ (p : List ℕ). message slave p) (ap (λ k. take k (pdu ++ low ∷ high ∷ [])) n ∙ take_at pdu (low ∷ high ∷ []) (length pdu) refl)
 
   is_shape : is_frame (shape slave pdu low high) ≡ true → (0 < length pdu) × (length pdu ≤ 253) × (crc (slave ∷ pdu) ≡ low + 256 * high)
   is_shape is = (grind (arith, size), grind (arith, size), grind (arith, size, body_of, low_of, high_of))
@@ -67,24 +69,24 @@ module _ (slave : ℕ) (pdu : List ℕ) (low high : ℕ) where
       ap (λ x. shape slave pdu x high) l ∙ ap (λ y. shape slave pdu (crc (slave ∷ pdu) % 256) y) h
 
   -- a shape that is a frame is that of its parts
-  shape_framed : (message : ℕ × List ℕ) → AllByRecursion IsByte (shape slave pdu low high) → is_frame (shape slave pdu low high) ≡ true
-      → slave_and_pdu (shape slave pdu low high) ≡ message → (shape slave pdu low high ≡ frame message.0 message.1) × IsFramed message
+  shape_framed : (message : SlavePdu) → AllByRecursion IsByte (shape slave pdu low high) → is_frame (shape slave pdu low high) ≡ true
+      → slave_and_pdu (shape slave pdu low high) ≡ message → (shape slave pdu low high ≡ frame message.header message.pdu) × IsFramed message
   shape_framed message bytes is same =
       let known = is_shape is in
       let less : low < 256 = (back-bytes pdu (low ∷ high ∷ []) bytes.1).0 in
-      subst (λ (m : ℕ × List ℕ). (shape slave pdu low high ≡ frame m.0 m.1) × IsFramed m) (sym parts_of ∙ same)
+      subst (λ (m : SlavePdu). (shape slave pdu low high ≡ frame m.header m.pdu) × IsFramed m) (sym parts_of ∙ same)
       (shape_frame known.2 less, record { slave = bytes.0; bytes = front-bytes pdu (low ∷ high ∷ []) bytes.1; some = known.0; fits = known.1 })
 
-found_frame : (b : Bool) (p m : ℕ × List ℕ) → (if b then p ∷ [] else []) ≡ m ∷ [] → (b ≡ true) × (p ≡ m)
+found_frame : (b : Bool) (p m : SlavePdu) → (if b then p ∷ [] else []) ≡ m ∷ [] → (b ≡ true) × (p ≡ m)
 found_frame true p m e = (refl, cc)
 found_frame false p m e = cc
 
-given_frame : (b : Bool) (p m : ℕ × List ℕ) → b ≡ true → p ≡ m → (if b then p ∷ [] else []) ≡ m ∷ []
-given_frame true p m e same = ap (λ (x : ℕ × List ℕ). x ∷ []) same
+given_frame : (b : Bool) (p m : SlavePdu) → b ≡ true → p ≡ m → (if b then p ∷ [] else []) ≡ m ∷ []
+given_frame true p m e same = ap (λ (x : SlavePdu). x ∷ []) same
 given_frame false p m e same = cc
 
-is_of : (burst : List ℕ) (message : ℕ × List ℕ) → AllByRecursion IsByte burst → is_frame burst ≡ true → slave_and_pdu burst ≡ message
-    → (burst ≡ frame message.0 message.1) × IsFramed message
+is_of : (burst : List ℕ) (message : SlavePdu) → AllByRecursion IsByte burst → is_frame burst ≡ true → slave_and_pdu burst ≡ message
+    → (burst ≡ frame message.header message.pdu) × IsFramed message
 is_of [] message bytes is same = cc
 is_of (slave ∷ rest) message bytes is same =
     let long : 2 ≤ length rest = grind arith in
@@ -93,58 +95,60 @@ is_of (slave ∷ rest) message bytes is same =
     let known = shape_framed slave a.0 a.1 a.2 message (subst (AllByRecursion IsByte) shaped bytes) (subst (λ b. is_frame b ≡ true) shaped is) (ap slave_and_pdu (sym shaped) ∙ same) in
     (shaped ∙ known.0, known.1)
 
-is_framed : (slave : ℕ) (pdu : List ℕ) → 0 < length pdu → length pdu ≤ 253 → frame_of (frame slave pdu) ≡ (slave, pdu) ∷ []
+is_framed : (slave : ℕ) (pdu : List ℕ) → 0 < length pdu → length pdu ≤ 253 → frame_of (frame slave pdu) ≡ message slave pdu ∷ []
 unfolding frame_of frame
 is_framed slave pdu some fits =
     let sum : ℕ = crc (slave ∷ pdu) in
     let same : sum ≡ sum % 256 + 256 * (sum / 256) = omega arith in
-    given_frame (is_frame (shape slave pdu (sum % 256) (sum / 256))) (slave_and_pdu (shape slave pdu (sum % 256) (sum / 256))) (slave, pdu)
+    given_frame (is_frame (shape slave pdu (sum % 256) (sum / 256))) (slave_and_pdu (shape slave pdu (sum % 256) (sum / 256))) (message slave pdu)
     (shape_is slave pdu (sum % 256) (sum / 256) some fits same) (parts_of slave pdu (sum % 256) (sum / 256))
 
-pub frames_are : (burst : List ℕ) (message : ℕ × List ℕ) → AllByRecursion IsByte burst
-    → (frame_of burst ≡ message ∷ []) ↔ ((burst ≡ frame message.0 message.1) × IsFramed message)
+pub frames_are : (burst : List ℕ) (message : SlavePdu) → AllByRecursion IsByte burst
+    → (frame_of burst ≡ message ∷ []) ↔ ((burst ≡ frame message.header message.pdu) × IsFramed message)
 unfolding frame_of
-frames_are burst (slave, pdu) bytes = (forth, back)
+frames_are burst message bytes = (forth, back)
   where
-    forth : frame_of burst ≡ (slave, pdu) ∷ [] → (burst ≡ frame slave pdu) × IsFramed (slave, pdu)
+    forth : frame_of burst ≡ message ∷ [] → (burst ≡ frame message.header message.pdu) × IsFramed message
     forth e =
-        let known = found_frame (is_frame burst) (slave_and_pdu burst) (slave, pdu) e in
-        is_of burst (slave, pdu) bytes known.0 known.1
+        let known = found_frame (is_frame burst) (slave_and_pdu burst) message e in
+        is_of burst message bytes known.0 known.1
 
-    back : (burst ≡ frame slave pdu) × IsFramed (slave, pdu) → frame_of burst ≡ (slave, pdu) ∷ []
-    back (e, is) = ap frame_of e ∙ is_framed slave pdu is.some is.fits
+    back : (burst ≡ frame message.header message.pdu) × IsFramed message → frame_of burst ≡ message ∷ []
+    back (e, is) = ap frame_of e ∙ is_framed message.header message.pdu is.some is.fits
 
 -- the message of a burst, by its frame
 pub heard_none : (burst : List ℕ) → [] ≡ frame_of burst → noise ≡ message_of burst
 unfolding frame_of message_of
 heard_none burst e = by_frame (is_frame burst) (slave_and_pdu burst) e
   where
-    by_frame : (b : Bool) (p : ℕ × List ℕ) → [] ≡ (if b then p ∷ [] else []) → noise ≡ (if b then p else noise)
+    by_frame : (b : Bool) (p : SlavePdu) → [] ≡ (if b then p ∷ [] else []) → noise ≡ (if b then p else noise)
     by_frame true p e = cc
     by_frame false p e = refl
 
-pub heard_one : (burst : List ℕ) (message : ℕ × List ℕ) → message ∷ [] ≡ frame_of burst → message ≡ message_of burst
+pub heard_one : (burst : List ℕ) (message : SlavePdu) → message ∷ [] ≡ frame_of burst → message ≡ message_of burst
 unfolding frame_of message_of
 heard_one burst message e = by_frame (is_frame burst) (slave_and_pdu burst) e
   where
-    by_frame : (b : Bool) (p : ℕ × List ℕ) → message ∷ [] ≡ (if b then p ∷ [] else []) → message ≡ (if b then p else noise)
+    by_frame : (b : Bool) (p : SlavePdu) → message ∷ [] ≡ (if b then p ∷ [] else []) → message ≡ (if b then p else noise)
     by_frame true p e = cc
     by_frame false p e = cc
 
 -- the PDU of a frame has a byte
-parts_some : (burst : List ℕ) → is_frame burst ≡ true → 0 < length (slave_and_pdu burst).1
+parts_some : (burst : List ℕ) → is_frame burst ≡ true → 0 < length (slave_and_pdu burst).pdu
 parts_some burst is =
     let long : 4 ≤ length burst = grind arith in
     omega (arith, long, length-take (length burst - 3) (drop 1 burst), length-drop 1 burst)
+
+not_empty : (xs : List ℕ) → 0 < length xs → (length xs == 0) ≡ false
+not_empty xs some = grind (arith, some)
 
 -- a message is that of a frame, or noise
 pub framed_is : (burst : List ℕ) → frames_in_message (message_of burst) ≡ frame_of burst
 unfolding frame_of message_of
 framed_is burst = by_frame (is_frame burst) (slave_and_pdu burst) (λ is. parts_some burst is)
   where
-    by_frame : (b : Bool) (p : ℕ × List ℕ) → (b ≡ true → 0 < length p.1) → frames_in_message (if b then p else noise) ≡ (if b then p ∷ [] else [])
-    by_frame true (slave, []) some = absurd (omega (arith, some refl))
-    by_frame true (slave, code ∷ rest) some = refl
+    by_frame : (b : Bool) (p : SlavePdu) → (b ≡ true → 0 < length p.pdu) → frames_in_message (if b then p else noise) ≡ (if b then p ∷ [] else [])
+    by_frame true p some = rw (not_empty p.pdu (some refl)) refl
     by_frame false p some = refl
 
 pub noise_is : (burst : List ℕ) → (message_of burst ≡ noise) ↔ (frame_of burst ≡ [])

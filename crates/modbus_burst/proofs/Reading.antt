@@ -3,6 +3,7 @@ use Rattle.std.proofs.Common.{◌≡◌, ℕ, ◌<◌, ◌≤◌, List, [], ◌�
 use Rattle.std.specs.List.{flat_map}
 use Rattle.std.proofs.lemmas.List.{take-append-le, take_all, drop_at, drop_all, length-drop, map-append}
 use Rattle.std.proofs.lemmas.Grind.{flat_map-append}
+use Rattle.modbus_pdu.specs.SlavePdu.{SlavePdu}
 use Rattle.modbus_link.specs.Reads.{Rise, last_cut, AreCuts}
 use Rattle.modbus_burst.specs.Bursts.{bursts_from, frame_of, frames, message_of, messages}
 use Rattle.modbus_burst.specs.Framing.{waiting_of, StandsFor, IsNextBurst, IsOneReading}
@@ -62,7 +63,7 @@ unfolding messages bursts_from
 opened = record { are_cuts = record { rise = tt; all = refl }; next = refl }
 
 -- one more burst is held, where none was
-pub grown : (bytes cuts piece : List ℕ) (taken : List (ℕ × List ℕ)) → StandsFor bytes cuts [] taken → 0 < length piece
+pub grown : (bytes cuts piece : List ℕ) (taken : List SlavePdu) → StandsFor bytes cuts [] taken → 0 < length piece
     → StandsFor (bytes ++ piece) (cuts ++ length (bytes ++ piece) ∷ []) piece taken
 grown bytes cuts piece taken s some = record {
   are_cuts = cuts-more bytes piece cuts s.are_cuts some;
@@ -72,8 +73,8 @@ grown bytes cuts piece taken s some = record {
 }
 
 -- where the messages are a front of some whatever the cuts, the next is the next of these
-pub goes_on : (read rest cuts : List ℕ) (heard before : List (ℕ × List ℕ)) (message : ℕ × List ℕ) → IsOneReading (read ++ rest) heard → IsNextBurst read cuts before message
-    → (later : List (ℕ × List ℕ)) × (heard ≡ (before ++ message ∷ []) ++ later)
+pub goes_on : (read rest cuts : List ℕ) (heard before : List SlavePdu) (message : SlavePdu) → IsOneReading (read ++ rest) heard → IsNextBurst read cuts before message
+    → (later : List SlavePdu) × (heard ≡ (before ++ message ∷ []) ++ later)
 goes_on read rest cuts heard before message one is =
     let front = one read rest cuts refl is.are_cuts in
     (is.later ++ front.0, front.1 ∙ ap (λ some. some ++ front.0) is.next ∙ append_assoc (before ++ message ∷ []) is.later front.0)

@@ -31,7 +31,7 @@ module _ {S : Type 0} (A : Answering S) where
       where
         by_halts : Halts bursts A bytes cuts s.before s.ends now (refused reason) → ⊥
         by_halts (message, t, bad, same) =
-            let no : Ok (any_request_of message.1) ≡ Err reason = bad in
+            let no : Ok (any_request_of message.pdu) ≡ Err reason = bad in
             cc
 
     none_too_long : RepliesFit bursts A opening (messages bytes cuts) → (size : ℕ) → Served bursts A bytes cuts opening now written (too_long size) → ⊥

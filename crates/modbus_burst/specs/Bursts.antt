@@ -4,6 +4,7 @@ use Rattle.std.specs.List.{flat_map, AllByRecursion}
 use Rattle.modbus_pdu.specs.SlavePdu.{SlavePdu}
 use Rattle.modbus_pdu.specs.Laws.{IsByte}
 use Rattle.modbus_pdu.specs.Limits.{max_pdu}
+use Rattle.modbus_pdu.specs.Message.{message}
 use Rattle.modbus_rtu.specs.Checksum.{crc}
 use Rattle.modbus_rtu.specs.Limits.{overhead, checksum, max_frame}
 use Rattle.modbus_burst.specs.Limits.{shortest_frame, noise_address}
@@ -21,7 +22,7 @@ is_frame burst =
 
 -- the slave address and the PDU of a frame
 abbrev pub slave_and_pdu : List ℕ → SlavePdu
-slave_and_pdu burst = (slice_index burst 0, take (length burst - overhead) (drop 1 burst))
+slave_and_pdu burst = message (slice_index burst 0) (take (length burst - overhead) (drop 1 burst))
 
 -- the frame that a burst is, or none
 unfoldable pub frame_of : List ℕ → List SlavePdu
@@ -29,7 +30,7 @@ frame_of burst = if is_frame burst then slave_and_pdu burst ∷ [] else []
 
 -- the message of a burst that is no frame: its PDU has no byte, which that of a frame always has
 abbrev pub noise : SlavePdu
-noise = (noise_address, [])
+noise = message noise_address []
 
 -- The message that a burst is: the slave address and the PDU of its frame, or noise.
 unfoldable pub message_of : List ℕ → SlavePdu
@@ -45,8 +46,7 @@ frames bytes cuts = flat_map frame_of (bursts_from 0 bytes cuts)
 
 -- a message that is a frame's, or none where it is noise
 abbrev pub frames_in_message : SlavePdu → List SlavePdu
-frames_in_message (slave, []) = []
-frames_in_message (slave, code ∷ rest) = (slave, code ∷ rest) ∷ []
+frames_in_message heard = if length heard.pdu == 0 then [] else heard ∷ []
 
 -- the slave address and the PDU that were found, as a list
 abbrev pub found : {P : Type 0} → (P → SlavePdu) → Option P → List SlavePdu
@@ -55,7 +55,7 @@ found parts_of (Some p) = parts_of p ∷ []
 
 -- a slave address and a PDU that a frame has, all of bytes
 pub record IsFramed (message : SlavePdu) : Type 0 where
-  pub slave : IsByte message.0
-  pub bytes : AllByRecursion IsByte message.1
-  pub some : 0 < length message.1
-  pub fits : length message.1 ≤ max_pdu
+  pub slave : IsByte message.header
+  pub bytes : AllByRecursion IsByte message.pdu
+  pub some : 0 < length message.pdu
+  pub fits : length message.pdu ≤ max_pdu

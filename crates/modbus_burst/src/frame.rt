@@ -1,5 +1,6 @@
 //! The frame that a burst is, and its message (MODBUS over Serial Line V1.02, section 2.5.1).
 ghost use Rattle.std.specs.Prelude.{◌≡◌};
+ghost use Rattle.modbus_pdu.specs.Message.{message};
 ghost use Rattle.modbus_burst.specs.Bursts.{frame_of, found, message_of};
 
 use modbus_frame::SlaveId;
@@ -18,7 +19,7 @@ pub const NOISE_ADDRESS: SlaveId = 255;
 /// `SHORTEST_FRAME` or more than `MAX_FRAME`, or does not end with the checksum of the others.
 #[tactic(auto, unfolding(crate::specs::Bursts::frame_of))]
 pub fn frame_in(burst: &[u8]) -> Option<(SlaveId, &[u8])>
-    ensures { found (λ frame. (frame.0, frame.1.now)) result ≡ frame_of burst.now }
+    ensures { found (λ frame. message frame.0 frame.1.now) result ≡ frame_of burst.now }
 {
     if burst.len() < SHORTEST_FRAME || burst.len() > MAX_FRAME {
         return None;
@@ -32,7 +33,7 @@ pub fn frame_in(burst: &[u8]) -> Option<(SlaveId, &[u8])>
 
 /// The slave address and the PDU of the message that a burst is: those of its frame, or `NOISE_ADDRESS` and no byte where it is none.
 pub fn message_in(burst: &[u8]) -> (SlaveId, &[u8])
-    ensures { (result.0, result.1.now) ≡ message_of burst.now }
+    ensures { message result.0 result.1.now ≡ message_of burst.now }
 {
     match frame_in(burst) {
         Some(frame) => frame,

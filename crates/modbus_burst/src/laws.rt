@@ -11,7 +11,8 @@ ghost use Rattle.modbus_burst.specs.Bursts.{frame_of, message_of, noise, message
 /// noise exactly where it is no frame.
 pub fn bursts_that_are_frames()
     ensures frames { (burst : List ℕ) (message : SlavePdu) → AllByRecursion IsByte burst
-        → (frame_of burst ≡ message ∷ []) ↔ ((burst ≡ frame message.0 message.1) × IsFramed message) }
+        → (frame_of burst ≡ message ∷ [])
+        ↔ ((burst ≡ frame message.header message.pdu) × IsFramed message) }
     ensures messages { (burst : List ℕ) (message : SlavePdu)
         → frame_of burst ≡ message ∷ [] → message_of burst ≡ message }
     ensures noise { (burst : List ℕ) → (message_of burst ≡ noise) ↔ (frame_of burst ≡ []) }

@@ -7,12 +7,13 @@ use Rattle.modbus_frame.specs.declared.fault.HeaderSeen.{HeaderSeen}
 use Rattle.modbus_frame.specs.declared.tcp.Header.{Header}
 use Rattle.modbus_tcp.specs.Adu.{adu_of, IsAdu, stream_of}
 use Rattle.modbus_frame.specs.declared.fault.TransportError.TheVariants.{InvalidProtocol}
+use Rattle.modbus_pdu.specs.Message.{Message, message}
 use Rattle.modbus_tcp.specs.Stream.{BeginsWith, foreign, IsRest}
 use Rattle.modbus_client.specs.Protocol.{reply, broken}
 use Rattle.modbus_client.specs.Tcp.{header_seen, IsOfAnother, DropsAdus, EndsOfAnother, FindsOwnAdu}
 
 abbrev Adus : Type 0
-Adus = List (Header × List ℕ)
+Adus = List (Message Header)
 
 -- a slice from a place on
 pub rest_of : (bytes : List ℕ) (start : ℕ) → take (length bytes - start) (drop start bytes) ≡ drop start bytes
@@ -26,16 +27,16 @@ module _ (asked : HeaderSeen) where
   pub drops_none : (bytes : List ℕ) → DropsAdus asked bytes [] bytes
   drops_none bytes = record { joined = refl; whole = All-nil IsAdu; others = All-nil (IsOfAnother asked) }
 
-  drops_one : (bytes left : List ℕ) (message : Header × List ℕ) → BeginsWith bytes message left → IsOfAnother asked message → DropsAdus asked bytes (message ∷ []) left
+  drops_one : (bytes left : List ℕ) (message : Message Header) → BeginsWith bytes message left → IsOfAnother asked message → DropsAdus asked bytes (message ∷ []) left
   drops_one bytes left message begins other = record {
-    joined = begins.joined ∙ ap (λ adu. adu ++ left) (sym (append-nil (adu_of message.0 message.1)));
+    joined = begins.joined ∙ ap (λ adu. adu ++ left) (sym (append-nil (adu_of message.header message.pdu)));
     whole = All-cons IsAdu message [] begins.whole (All-nil IsAdu);
     others = All-cons (IsOfAnother asked) message [] other (All-nil (IsOfAnother asked));
   }
 
   drops_both : (bytes held left : List ℕ) (adus more : Adus) → DropsAdus asked bytes adus held → DropsAdus asked held more left → DropsAdus asked bytes (adus ++ more) left
   drops_both bytes held left adus more a b =
-      let bytes_of : Header × List ℕ → List ℕ = λ m. adu_of m.0 m.1 in record {
+      let bytes_of : Message Header → List ℕ = λ m. adu_of m.header m.pdu in record {
         joined = a.joined ∙ ap (λ rest. stream_of adus ++ rest) b.joined ∙ sym (append_assoc (stream_of adus) (stream_of more) left)
             ∙ ap (λ adus. adus ++ left) (sym (flat_map-append bytes_of adus more));
         whole = All-append IsAdu adus more a.whole b.whole;
@@ -52,16 +53,16 @@ module _ (asked : HeaderSeen) where
 
   -- the ADU behind them is the reply
   pub own_adu : (bytes held pdu : List ℕ) (start end used : ℕ) (header : Header) (seen : HeaderSeen) (adus : Adus) → held ≡ drop start bytes
-      → DropsAdus asked bytes adus (drop start bytes) → EndsOfAnother asked (drop start bytes) None → BeginsWith held (header, pdu) (drop end held) → used ≡ start + end
+      → DropsAdus asked bytes adus (drop start bytes) → EndsOfAnother asked (drop start bytes) None → BeginsWith held (message header pdu) (drop end held) → used ≡ start + end
       → seen ≡ header_seen header → FindsOwnAdu asked bytes [] (reply (drop used bytes) seen pdu)
   own_adu bytes held pdu start end used header seen adus same d all begins sum is =
-      let here : BeginsWith (drop start bytes) (header, pdu) (drop used bytes) =
-      subst (λ left. BeginsWith (drop start bytes) (header, pdu) left) (further bytes held start end used same sum) (subst (λ b. BeginsWith b (header, pdu) (drop end held)) same begins) in record {
+      let here : BeginsWith (drop start bytes) (message header pdu) (drop used bytes) =
+      subst (λ left. BeginsWith (drop start bytes) (message header pdu) left) (further bytes held start end used same sum) (subst (λ b. BeginsWith b (message header pdu) (drop end held)) same begins) in record {
         dropped = adus;
         left = drop start bytes;
         drops = d;
         finds = (header, here, is);
-        own = is ∙ all (header, pdu) (drop used bytes) here;
+        own = is ∙ all (message header pdu) (drop used bytes) here;
       }
 
   -- a header behind them is of another protocol

@@ -3,6 +3,7 @@
 use Rattle.std.proofs.Common.{◌≡◌, ◌≢◌, ℕ, ◌+◌, ◌-◌, ◌≤◌, ◌<◌, List, [], ◌∷◌, ◌++◌, length, take, drop, refl, sym, ap, ◌∙◌, arith, append_assoc, length-drop}
 use Rattle.std.proofs.Math.Seq.{drop-append_seam, drop-length}
 use Rattle.std.proofs.lemmas.List.{drop-append-le, take-append-drop}
+use Rattle.modbus_pdu.specs.SlavePdu.{SlavePdu}
 use Rattle.modbus_ascii.specs.Limits.{colon, max_frame}
 use Rattle.modbus_ascii.specs.Text.{open_end}
 use Rattle.modbus_ascii.specs.Frames.{frames}
@@ -16,7 +17,7 @@ abbrev pub Joins : Type 0
 Joins = (bytes : List ℕ) (byte : ℕ) → byte ≢ colon → open_end (bytes ++ byte ∷ []) ≢ [] → open_end (bytes ++ byte ∷ []) ≡ open_end bytes ++ byte ∷ []
 
 abbrev pub Closes : Type 0
-Closes = (bytes : List ℕ) (byte : ℕ) (frame : ℕ × List ℕ) → frames (bytes ++ byte ∷ []) ≡ frames bytes ++ frame ∷ [] → open_end (bytes ++ byte ∷ []) ≡ []
+Closes = (bytes : List ℕ) (byte : ℕ) (frame : SlavePdu) → frames (bytes ++ byte ∷ []) ≡ frames bytes ++ frame ∷ [] → open_end (bytes ++ byte ∷ []) ≡ []
 
 abbrev pub Closed : Type 0
 Closed = (bytes more : List ℕ) → open_end bytes ≡ [] → frames (bytes ++ more) ≡ frames bytes ++ frames more
@@ -51,7 +52,7 @@ nothing_quiet = refl
 
 -- ---- what the search finds
 
-pub delivers_first : Closes → Closed → (bytes taken : List ℕ) (byte used : ℕ) (message : ℕ × List ℕ) → frames taken ≡ [] → frames (taken ++ byte ∷ []) ≡ frames taken ++ message ∷ []
+pub delivers_first : Closes → Closed → (bytes taken : List ℕ) (byte used : ℕ) (message : SlavePdu) → frames taken ≡ [] → frames (taken ++ byte ∷ []) ≡ frames taken ++ message ∷ []
     → take used bytes ≡ taken ++ byte ∷ [] → used ≤ length bytes → DeliversFirst bytes message used
 delivers_first closes alone bytes taken byte used message quiet found is within =
     let ends : frames (take used bytes) ≡ message ∷ [] = ap frames is ∙ found ∙ ap (λ f. f ++ message ∷ []) quiet in

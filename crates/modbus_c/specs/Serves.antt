@@ -8,6 +8,7 @@ use Rattle.modbus_frame.specs.declared.response.ExceptionResponse.{ExceptionResp
 use Rattle.modbus_frame.specs.declared.tcp.Header.{Header}
 use Rattle.modbus_pdu.specs.RequestOf.{request_of}
 use Rattle.modbus_pdu.specs.ResponsePdu.{response_result_pdu}
+use Rattle.modbus_pdu.specs.Message.{message}
 use Rattle.modbus_rtu.specs.declared.front.Crowd.{Crowd}
 use Rattle.modbus_rtu.specs.declared.search.Next.TheVariants as next
 use Rattle.modbus_rtu.specs.Frame.{frame}
@@ -47,11 +48,11 @@ WritesReply reply old written new = (new ≡ laid reply old) × (written ≡ len
 -- written, and where there is no request no table changes.
 abbrev pub ServesAdu : Tables → List ℕ → List ℕ → Result Served HeaderFault → List ℕ → Tables → Type 0
 ServesAdu old input room (Ok (served.Answered used written)) output new = (header : Header) × (pdu made : List ℕ)
-    × BeginsWith input (header, pdu) (drop used input) × (used ≤ length input) × Replies old header.unit_id pdu made new × WritesReply (adu_of header made) room written output
+    × BeginsWith input (message header pdu) (drop used input) × (used ≤ length input) × Replies old header.unit_id pdu made new × WritesReply (adu_of header made) room written output
 ServesAdu old input room (Ok (served.Silent used)) output new = (header : Header) × (pdu : List ℕ)
-    × BeginsWith input (header, pdu) (drop used input) × (used ≤ length input) × Replies old header.unit_id pdu [] new × (output ≡ room)
+    × BeginsWith input (message header pdu) (drop used input) × (used ≤ length input) × Replies old header.unit_id pdu [] new × (output ≡ room)
 ServesAdu old input room (Ok (served.Refused used reason)) output new = (header : Header) × (pdu : List ℕ)
-    × BeginsWith input (header, pdu) (drop used input) × (used ≤ length input) × (request_of pdu ≡ Err reason) × (new ≡ old) × (output ≡ room)
+    × BeginsWith input (message header pdu) (drop used input) × (used ≤ length input) × (request_of pdu ≡ Err reason) × (new ≡ old) × (output ≡ room)
 ServesAdu old input room (Ok (served.Waiting dropped)) output new = (dropped ≡ 0) × (IsRest input empty ⊎ IsRest input unfinished) × (new ≡ old) × (output ≡ room)
 ServesAdu old input room (Ok served.NoMemory) output new = (new ≡ old) × (output ≡ room)
 ServesAdu old input room (Err fault) output new = FindsAdu input (Err fault) × (new ≡ old) × (output ≡ room)

@@ -2,6 +2,7 @@
 use Rattle.std.specs.Prelude.{◌≡◌, ℕ, ◌+◌, ◌≤◌, List, [], ◌∷◌, ◌++◌, length, take, drop, Err}
 use Rattle.modbus_pdu.specs.SlavePdu.{SlavePdu}
 use Rattle.modbus_pdu.specs.RequestOf.{request_of}
+use Rattle.modbus_pdu.specs.Message.{message}
 use Rattle.modbus_ascii.specs.Encoder.{frame}
 use Rattle.modbus_ascii.specs.Frames.{frames}
 use Rattle.modbus_ascii.specs.Limits.{max_frame}
@@ -27,16 +28,16 @@ pub record DeliversNone (bytes : List ℕ) (dropped : ℕ) : Type 0 where
   pub short : length bytes ≤ dropped + max_frame
 
 abbrev pub IsNextText : List ℕ → NextText → Type 0
-IsNextText bytes (next.Frame frame used) = DeliversFirst bytes (frame.slave, frame.pdu.items) used
+IsNextText bytes (next.Frame frame used) = DeliversFirst bytes (message frame.slave frame.pdu.items) used
 IsNextText bytes (next.Waiting dropped) = DeliversNone bytes dropped
 
 -- What is done with the next text of an input that delivers a frame, as `ServesFrame` tells it of an RTU frame.
 abbrev pub ServesText : Tables → List ℕ → List ℕ → Served → List ℕ → Tables → Type 0
 ServesText old input room (served.Answered used written) output new = (slave : ℕ) × (pdu made : List ℕ)
-    × DeliversFirst input (slave, pdu) used × Replies old slave pdu made new × WritesReply (frame slave made) room written output
+    × DeliversFirst input (message slave pdu) used × Replies old slave pdu made new × WritesReply (frame slave made) room written output
 ServesText old input room (served.Silent used) output new = (slave : ℕ) × (pdu : List ℕ)
-    × DeliversFirst input (slave, pdu) used × Replies old slave pdu [] new × (output ≡ room)
+    × DeliversFirst input (message slave pdu) used × Replies old slave pdu [] new × (output ≡ room)
 ServesText old input room (served.Refused used reason) output new = (slave : ℕ) × (pdu : List ℕ)
-    × DeliversFirst input (slave, pdu) used × (request_of pdu ≡ Err reason) × (new ≡ old) × (output ≡ room)
+    × DeliversFirst input (message slave pdu) used × (request_of pdu ≡ Err reason) × (new ≡ old) × (output ≡ room)
 ServesText old input room (served.Waiting dropped) output new = DeliversNone input dropped × (new ≡ old) × (output ≡ room)
 ServesText old input room served.NoMemory output new = (new ≡ old) × (output ≡ room)

@@ -6,6 +6,8 @@ use Rattle.modbus_frame.specs.Meaning.{Asked}
 use Rattle.modbus_frame.specs.declared.fault.Reason.{Reason}
 use Rattle.modbus_pdu.specs.Limits.{max_pdu}
 use Rattle.modbus_pdu.specs.RequestOf.{request_of}
+use Rattle.modbus_pdu.specs.SlavePdu.{SlavePdu}
+use Rattle.modbus_pdu.specs.Message.{message}
 use Rattle.modbus_rtu.specs.Leftmost.{IsLeftmost}
 use Rattle.modbus_rtu.specs.Stands.{HasCrowd, IsTakenNext, IsUsedUp, frame_at}
 use Rattle.modbus_rtu.specs.Quiet.{IsQuietLine}
@@ -20,14 +22,14 @@ use Rattle.modbus_server.specs.Served.{Served, Halts, remaining, broken, refused
 use Rattle.modbus_client.specs.Exchange.{IsWantOfMemory}
 
 abbrev pub LinesAreCalm : Type 0
-LinesAreCalm = (read rest cuts : List ℕ) (messages : List (ℕ × List ℕ)) (k : ℕ) → IsQuietLine (read ++ rest) messages → HasCrowd read cuts k → ⊥
+LinesAreCalm = (read rest cuts : List ℕ) (messages : List SlavePdu) (k : ℕ) → IsQuietLine (read ++ rest) messages → HasCrowd read cuts k → ⊥
 
 abbrev pub NextsAreOfLines : Type 0
-NextsAreOfLines = (read rest cuts : List ℕ) (messages before : List (ℕ × List ℕ)) (message : ℕ × List ℕ) → IsQuietLine (read ++ rest) messages → IsTakenNext read cuts before message
-    → (later : List (ℕ × List ℕ)) × (messages ≡ (before ++ message ∷ []) ++ later)
+NextsAreOfLines = (read rest cuts : List ℕ) (messages before : List SlavePdu) (message : SlavePdu) → IsQuietLine (read ++ rest) messages → IsTakenNext read cuts before message
+    → (later : List SlavePdu) × (messages ≡ (before ++ message ∷ []) ++ later)
 
 abbrev pub LinesAreUsed : Type 0
-LinesAreUsed = (read cuts left : List ℕ) (messages before : List (ℕ × List ℕ)) → IsQuietLine read messages → IsUsedUp read cuts left before → left ≡ []
+LinesAreUsed = (read cuts left : List ℕ) (messages before : List SlavePdu) → IsQuietLine read messages → IsUsedUp read cuts left before → left ≡ []
 
 abbrev pub ReadingsAreOne : Type 0
 ReadingsAreOne = (bytes frames others : List ℕ) (stop last : ℕ) → IsLeftmost bytes frames stop → IsLeftmost bytes others last → (frames ≡ others) × (stop ≡ last)
@@ -44,35 +46,35 @@ pub record AskedOnce {S : Type 0} (A : Answering S) (before after : S) (slave : 
   pub wrote : IsSent slave asked outcome sent
 
 -- the first message of one alone
-first_of_one : (before later : List (ℕ × List ℕ)) (m message : ℕ × List ℕ) → m ∷ [] ≡ (before ++ message ∷ []) ++ later → (before ≡ []) × (message ≡ m)
+first_of_one : (before later : List SlavePdu) (m message : SlavePdu) → m ∷ [] ≡ (before ++ message ∷ []) ++ later → (before ≡ []) × (message ≡ m)
 first_of_one [] later m message e = (refl, cc)
 first_of_one (b ∷ before) later m message e = absurd (omega (arith, ap length e, length-append ((b ∷ before) ++ message ∷ []) later, length-append (b ∷ before) (message ∷ [])))
 
 module _ (calm : LinesAreCalm) (next : NextsAreOfLines) (used : LinesAreUsed) (one : ReadingsAreOne) (slave : ℕ) (pdu : List ℕ) (asked : Asked) (means : request_of pdu ≡ Ok asked) (bytes cuts : List ℕ)
-    (quiet : IsQuietLine bytes ((slave, pdu) ∷ [])) where
-  again : IsQuietLine (bytes ++ []) ((slave, pdu) ∷ [])
-  again = subst (λ b. IsQuietLine b ((slave, pdu) ∷ [])) (sym (append-nil bytes)) quiet
+    (quiet : IsQuietLine bytes (message slave pdu ∷ [])) where
+  again : IsQuietLine (bytes ++ []) (message slave pdu ∷ [])
+  again = subst (λ b. IsQuietLine b (message slave pdu ∷ [])) (sym (append-nil bytes)) quiet
 
-  next_is : (before : List (ℕ × List ℕ)) (message : ℕ × List ℕ) → IsTakenNext bytes cuts before message → (before ≡ []) × (message ≡ (slave, pdu))
-  next_is before message t = let later = next bytes [] cuts ((slave, pdu) ∷ []) before message again t in first_of_one before later.0 (slave, pdu) message later.1
+  next_is : (before : List SlavePdu) (m : SlavePdu) → IsTakenNext bytes cuts before m → (before ≡ []) × (m ≡ message slave pdu)
+  next_is before m t = let later = next bytes [] cuts (message slave pdu ∷ []) before m again t in first_of_one before later.0 (message slave pdu) m later.1
 
-  all_is : (held : List ℕ) (taken : List (ℕ × List ℕ)) → IsUsedUp bytes cuts held taken → taken ≡ (slave, pdu) ∷ []
+  all_is : (held : List ℕ) (taken : List SlavePdu) → IsUsedUp bytes cuts held taken → taken ≡ message slave pdu ∷ []
   all_is held taken u = u.took ∙ ap (map (frame_at bytes)) (one bytes u.frames quiet.frames u.stop (length bytes) u.reading quiet.reading).0 ∙ sym quiet.are
 
   abbrev exchange_of : Outcome → Exchange rtu
   exchange_of outcome = record { header = slave; request = asked; outcome = outcome }
 
-  is_exchange : (x : Exchange rtu) → asked_of rtu (slave, pdu) ≡ asks rtu x → x ≡ exchange_of x.outcome
+  is_exchange : (x : Exchange rtu) → asked_of rtu (message slave pdu) ≡ asks rtu x → x ≡ exchange_of x.outcome
   is_exchange x e =
       let header : x.header ≡ slave = sym (ap (λ (q : Question rtu). q.0) e) in
       let read : Ok x.request ≡ Ok asked = sym (ap (λ (q : Question rtu). q.1) e) ∙ means in
       let request : x.request ≡ asked = cc in
       ap (λ (h : ℕ). record { header = h; request = x.request; outcome = x.outcome }) header ∙ ap (λ (r : Asked). record { header = slave; request = r; outcome = x.outcome }) request
 
-  one_exchange : (xs : List (Exchange rtu)) → map (asked_of rtu) ((slave, pdu) ∷ []) ≡ map (asks rtu) xs → (outcome : Outcome) × (xs ≡ exchange_of outcome ∷ [])
+  one_exchange : (xs : List (Exchange rtu)) → map (asked_of rtu) (message slave pdu ∷ []) ≡ map (asks rtu) xs → (outcome : Outcome) × (xs ≡ exchange_of outcome ∷ [])
   one_exchange [] e = cc
   one_exchange (x ∷ []) e =
-      let first : asked_of rtu (slave, pdu) ≡ asks rtu x = cc in
+      let first : asked_of rtu (message slave pdu) ≡ asks rtu x = cc in
       (x.outcome, ap (λ y. y ∷ []) (is_exchange x first))
   one_exchange (x ∷ y ∷ xs) e = cc
 
@@ -84,7 +86,7 @@ module _ (calm : LinesAreCalm) (next : NextsAreOfLines) (used : LinesAreUsed) (o
     -- it stops after all messages
     answered : (left : List ℕ) → Served rtu A bytes cuts opening now sent (remaining left) → AskedOnce A opening now slave asked sent
     answered left s =
-        let whole : map (asked_of rtu) ((slave, pdu) ∷ []) ≡ map (asks rtu) s.exchanges = ap (map (asked_of rtu)) (sym (all_is left s.before s.halts.0)) ∙ s.asked in
+        let whole : map (asked_of rtu) (message slave pdu ∷ []) ≡ map (asks rtu) s.exchanges = ap (map (asked_of rtu)) (sym (all_is left s.before s.halts.0)) ∙ s.asked in
         let (outcome, is) = one_exchange s.exchanges whole in
         let (mid, step, stays) = subst (λ xs. Run rtu A opening xs s.ends) is s.run in
         let fit : All (ReplyFits rtu) (exchange_of outcome ∷ []) = subst (λ xs. All (ReplyFits rtu) xs) is s.fit in
@@ -121,18 +123,18 @@ module _ (calm : LinesAreCalm) (next : NextsAreOfLines) (used : LinesAreUsed) (o
         by_halts : Halts rtu A bytes cuts s.before s.ends now (refused reason) → ⊥
         by_halts (message, t, bad, same) =
             let is = next_is s.before message t in
-            let clash : Ok asked ≡ Err reason = sym means ∙ sym (ap (λ (m : ℕ × List ℕ). request_of m.1) is.1) ∙ bad in
+            let clash : Ok asked ≡ Err reason = sym means ∙ sym (ap (λ (m : SlavePdu). request_of m.pdu) is.1) ∙ bad in
             cc
 
     never_broken : (fault : ProcessError) → Served rtu A bytes cuts opening now sent (broken fault) → ⊥
     never_broken fault s = by_halts fault s.before s.halts.0
       where
-        by_halts : (fault : ProcessError) (before : List (ℕ × List ℕ)) → IsCrowdedAfter bytes cuts before fault → ⊥
-        by_halts TooManyRetries before (k, first) = calm bytes [] cuts ((slave, pdu) ∷ []) k again first.crowd
+        by_halts : (fault : ProcessError) (before : List SlavePdu) → IsCrowdedAfter bytes cuts before fault → ⊥
+        by_halts TooManyRetries before (k, first) = calm bytes [] cuts (message slave pdu ∷ []) k again first.crowd
         by_halts _ before b = absurd b
 
     never_left : (left : List ℕ) → (left ≡ [] → ⊥) → Served rtu A bytes cuts opening now sent (remaining left) → ⊥
-    never_left left some s = some (used bytes cuts left ((slave, pdu) ∷ []) s.before quiet s.halts.0)
+    never_left left some s = some (used bytes cuts left (message slave pdu ∷ []) s.before quiet s.halts.0)
 
     pub asked_once : (result : Result (Unit {0}) ProcessError) → IsOfNoRead result → (IsWantOfMemory result → ⊥) → EndsAs rtu A bytes cuts opening now sent result → AskedOnce A opening now slave asked sent
     asked_once (Ok done) only unwanted ends = answered [] ends

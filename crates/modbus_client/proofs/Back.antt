@@ -18,6 +18,7 @@ use Rattle.modbus_pdu.specs.RequestOf.{IsModelled}
 use Rattle.modbus_pdu.specs.ResponseOf.{response_result_of}
 use Rattle.modbus_pdu.specs.ResponseLaws.{IsResponse, with_filled_coils, ResultReadsBack, ExceptionReadsBack}
 use Rattle.modbus_pdu.specs.ResponsePdu.{response_pdu}
+use Rattle.modbus_pdu.specs.Message.{message}
 use Rattle.modbus_rtu.specs.Frame.{frame}
 use Rattle.modbus_rtu.specs.ResponseHead.{response_verdict, HasResponseHead}
 use Rattle.modbus_rtu.specs.declared.verdict.Verdict.TheVariants.{Open}
@@ -97,8 +98,8 @@ the_first (inl a) none = a
 the_first (inr b) none = absurd (none b)
 
 module _ (nothing_open : response_verdict [] ≡ Open) (good : FramesAreGood) (front : FrontsAreOpen) (result_again : (r : Response) → ResultReadsBack r) (exception_again : (e : ExceptionResponse) → ExceptionReadsBack e)
-    (response_head : (slave : ℕ) (given : Response) → IsResponse given → IsModelled (function_number (function_answered given)) → Fits (response_pdu given) → HasResponseHead (slave, response_pdu given))
-    (exception_head : (slave : ℕ) (asked : Asked) (code : ExceptionCode) → IsModelledAsk asked → HasResponseHead (slave, reply_pdu (code_of asked) (exception code)))
+    (response_head : (slave : ℕ) (given : Response) → IsResponse given → IsModelled (function_number (function_answered given)) → Fits (response_pdu given) → HasResponseHead (message slave (response_pdu given)))
+    (exception_head : (slave : ℕ) (asked : Asked) (code : ExceptionCode) → IsModelledAsk asked → HasResponseHead (message slave (reply_pdu (code_of asked) (exception code))))
     (slave : ℕ) (asked : Asked) (of : IsModelledAsk asked) (held : List ℕ) (answer : Answer) (some : answer ≢ Err NoMemory) where
   abbrev Reads : List ℕ → Type 0
   Reads sent = ReadsAll rtu_protocol (slave_seen slave) (function_asked asked) sent held answer
@@ -106,7 +107,7 @@ module _ (nothing_open : response_verdict [] ≡ Open) (good : FramesAreGood) (f
   nothing : (sent : List ℕ) → Reads sent → sent ≡ [] → answer ≡ Err (Transport BrokenPipe)
   nothing sent r none = the_first (nothing_back nothing_open (slave_seen slave) (function_asked asked) held answer (subst Reads none r)) some
 
-  judged : (sent pdu : List ℕ) (result : Result Response ExceptionResponse) → Reads sent → sent ≡ frame slave pdu → HasResponseHead (slave, pdu) → response_result_of pdu ≡ Ok result
+  judged : (sent pdu : List ℕ) (result : Result Response ExceptionResponse) → Reads sent → sent ≡ frame slave pdu → HasResponseHead (message slave pdu) → response_result_of pdu ≡ Ok result
       → Judges (slave_seen slave) (function_asked asked) (slave_seen slave) result answer
   judged sent pdu result r is has means = the_first (frame_back good front slave (function_asked asked) pdu result has means held answer (subst Reads is r)) some
 

@@ -6,6 +6,7 @@ use Rattle.std.proofs.lemmas.List.{take_all, take_at, take-append-le, take-take,
 use Rattle.modbus_link.specs.Reads.{AreCuts, last_cut}
 use Rattle.modbus_frame.specs.declared.fault.HeaderSeen.{HeaderSeen}
 use Rattle.modbus_frame.specs.declared.rtu.Header.{Header}
+use Rattle.modbus_pdu.specs.Message.{message}
 use Rattle.modbus_rtu.specs.declared.verdict.Verdict.{Verdict}
 use Rattle.modbus_rtu.specs.declared.verdict.Verdict.TheVariants.{Open, Bad, Good}
 use Rattle.modbus_rtu.specs.Checksum.{crc}
@@ -17,10 +18,10 @@ use Rattle.modbus_client.specs.Protocol.{Found, IsOfMessage}
 use Rattle.modbus_client.specs.Rtu.{slave_seen, FindsReplyFrame, FoundFrame}
 
 abbrev pub FramesAreGood : Type 0
-FramesAreGood = (slave : ℕ) (pdu more : List ℕ) → HasResponseHead (slave, pdu) → response_verdict (frame slave pdu ++ more) ≡ Good (length pdu)
+FramesAreGood = (slave : ℕ) (pdu more : List ℕ) → HasResponseHead (message slave pdu) → response_verdict (frame slave pdu ++ more) ≡ Good (length pdu)
 
 abbrev pub FrontsAreOpen : Type 0
-FrontsAreOpen = (slave : ℕ) (pdu : List ℕ) (k : ℕ) → HasResponseHead (slave, pdu) → k < length pdu + 3 → response_verdict (take k (frame slave pdu)) ≡ Open
+FrontsAreOpen = (slave : ℕ) (pdu : List ℕ) (k : ℕ) → HasResponseHead (message slave pdu) → k < length pdu + 3 → response_verdict (take k (frame slave pdu)) ≡ Open
 
 pub length-frame : (slave : ℕ) (pdu : List ℕ) → length (frame slave pdu) ≡ length pdu + 3
 unfolding frame
@@ -31,7 +32,7 @@ unfolding frame
 frame_parts slave pdu = (refl, take_at pdu (crc (slave ∷ pdu) % 256 ∷ crc (slave ∷ pdu) / 256 ∷ []) (length pdu) refl)
 
 -- these bytes begin the frame of a response whose first bytes tell its length
-module _ (frame_good : FramesAreGood) (front_open : FrontsAreOpen) (slave : ℕ) (pdu bytes rest cuts : List ℕ) (has : HasResponseHead (slave, pdu)) (joined : frame slave pdu ≡ bytes ++ rest) where
+module _ (frame_good : FramesAreGood) (front_open : FrontsAreOpen) (slave : ℕ) (pdu bytes rest cuts : List ℕ) (has : HasResponseHead (message slave pdu)) (joined : frame slave pdu ≡ bytes ++ rest) where
   front : (cut : ℕ) → take cut bytes ≡ take (length (take cut bytes)) (frame slave pdu)
   front cut =
       let k = length (take cut bytes) in
@@ -135,7 +136,7 @@ module _ (frame_good : FramesAreGood) (front_open : FrontsAreOpen) (slave : ℕ)
       no_length (x ∷ xs) e = absurd (omega (arith, e))
 
 -- how the search stands in a front of it
-pub frame_alone : FramesAreGood → FrontsAreOpen → (header : Header) (pdu bytes rest cuts : List ℕ) (found : Found) → HasResponseHead (header.slave_id, pdu) → frame header.slave_id pdu ≡ bytes ++ rest
+pub frame_alone : FramesAreGood → FrontsAreOpen → (header : Header) (pdu bytes rest cuts : List ℕ) (found : Found) → HasResponseHead (message header.slave_id pdu) → frame header.slave_id pdu ≡ bytes ++ rest
     → FindsReplyFrame bytes cuts found → IsOfMessage (slave_seen header.slave_id) pdu rest found
 frame_alone good open' header pdu bytes rest cuts (found.waiting held) has joined finds =
     λ none. not_whole good open' header.slave_id pdu bytes rest cuts has joined finds.are_cuts finds.place finds.finds (sym (joined ∙ ap (λ r. bytes ++ r) none ∙ append-nil bytes))

@@ -3,6 +3,7 @@ use Rattle.std.proofs.Common.{◌≡◌, ◌⊎◌, inl, inr, ℕ, List, [], ◌
 use Rattle.modbus_frame.specs.declared.tcp.Header.{Header}
 use Rattle.modbus_frame.specs.declared.fault.TransportError.{TransportError}
 use Rattle.modbus_frame.specs.declared.fault.TransportError.TheVariants.{InvalidLength, InvalidProtocol}
+use Rattle.modbus_pdu.specs.Message.{Message, message}
 use Rattle.modbus_tcp.specs.Adu.{adu_of, IsAdu}
 use Rattle.modbus_tcp.specs.Stream.{Rest, empty, unfinished, no_length, foreign, IsRest, BeginsWith}
 use Rattle.modbus_client.specs.Protocol.{Found, waiting, reply, broken, IsOfMessage}
@@ -11,13 +12,13 @@ use Rattle.modbus_client.proofs.OneFrame.{same_reply, same_broken}
 
 -- one front of bytes: an ADU and the others, or a rest of one kind
 abbrev pub OneBegins : Type 0
-OneBegins = (bytes others left : List ℕ) (message other : Header × List ℕ) → BeginsWith bytes message others → BeginsWith bytes other left → (message ≡ other) × (others ≡ left)
+OneBegins = (bytes others left : List ℕ) (message other : Message Header) → BeginsWith bytes message others → BeginsWith bytes other left → (message ≡ other) × (others ≡ left)
 
 abbrev pub OneRest : Type 0
 OneRest = (bytes : List ℕ) (kind other : Rest) → IsRest bytes kind → IsRest bytes other → kind ≡ other
 
 abbrev pub AreApart : Type 0
-AreApart = (bytes others : List ℕ) (message : Header × List ℕ) (kind : Rest) → BeginsWith bytes message others → IsRest bytes kind → ⊥
+AreApart = (bytes others : List ℕ) (message : Message Header) (kind : Rest) → BeginsWith bytes message others → IsRest bytes kind → ⊥
 
 module _ (one_begins : OneBegins) (one_rest : OneRest) (apart : AreApart) where
   module _ (bytes cuts : List ℕ) where
@@ -32,13 +33,13 @@ module _ (one_begins : OneBegins) (one_rest : OneRest) (apart : AreApart) where
     ]
     not_both held _ rest b = absurd b
 
-    pub not_waiting : {P : Type 0} (held : List ℕ) (message : Header × List ℕ) → IsRest bytes empty ⊎ IsRest bytes unfinished → BeginsWith bytes message held → P
+    pub not_waiting : {P : Type 0} (held : List ℕ) (message : Message Header) → IsRest bytes empty ⊎ IsRest bytes unfinished → BeginsWith bytes message held → P
     not_waiting held message rest b = elim rest [
       | inl none ↦ absurd (apart bytes held message empty b none)
       | inr some ↦ absurd (apart bytes held message unfinished b some)
     ]
 
-    pub not_broken : {P : Type 0} (held held' : List ℕ) (message : Header × List ℕ) (fault : TransportError) → BeginsWith bytes message held → IsBrokenAt bytes held' fault → P
+    pub not_broken : {P : Type 0} (held held' : List ℕ) (message : Message Header) (fault : TransportError) → BeginsWith bytes message held → IsBrokenAt bytes held' fault → P
     not_broken held held' message InvalidLength b r = absurd (apart bytes held message no_length b r.0)
     not_broken held held' message (InvalidProtocol protocol) b r = absurd (apart bytes held message (foreign protocol) b r.0)
     not_broken held held' message _ b r = absurd r
@@ -57,25 +58,25 @@ module _ (one_begins : OneBegins) (one_rest : OneRest) (apart : AreApart) where
 
     pub one_adu : (found other : Found) → FindsReplyAdu bytes cuts found → FindsReplyAdu bytes cuts other → found ≡ other
     one_adu (waiting held) (waiting held') a b = ap waiting (a.1 ∙ sym b.1)
-    one_adu (waiting held) (reply held' seen pdu) a (header, begins, is) = not_waiting held' (header, pdu) a.0 begins
+    one_adu (waiting held) (reply held' seen pdu) a (header, begins, is) = not_waiting held' (message header pdu) a.0 begins
     one_adu (waiting held) (broken held' fault) a b = not_both held' fault a.0 b
-    one_adu (reply held seen pdu) (waiting held') (header, begins, is) b = not_waiting held (header, pdu) b.0 begins
+    one_adu (reply held seen pdu) (waiting held') (header, begins, is) b = not_waiting held (message header pdu) b.0 begins
     one_adu (reply held seen pdu) (reply held' seen' pdu') (header, begins, is) (header', begins', is') =
-        let same = one_begins bytes held held' (header, pdu) (header', pdu') begins begins' in
-        let first : header ≡ header' = ap (λ (m : Header × List ℕ). m.0) same.0 in
-        let second : pdu ≡ pdu' = ap (λ (m : Header × List ℕ). m.1) same.0 in
+        let same = one_begins bytes held held' (message header pdu) (message header' pdu') begins begins' in
+        let first : header ≡ header' = ap (λ (m : Message Header). m.header) same.0 in
+        let second : pdu ≡ pdu' = ap (λ (m : Message Header). m.pdu) same.0 in
         same_reply held held' seen seen' pdu pdu' same.1 (is ∙ ap header_seen first ∙ sym is') second
-    one_adu (reply held seen pdu) (broken held' fault) (header, begins, is) b = not_broken held held' (header, pdu) fault begins b
+    one_adu (reply held seen pdu) (broken held' fault) (header, begins, is) b = not_broken held held' (message header pdu) fault begins b
     one_adu (broken held fault) (waiting held') a b = not_both held fault b.0 a
-    one_adu (broken held fault) (reply held' seen pdu) a (header, begins, is) = not_broken held' held (header, pdu) fault begins a
+    one_adu (broken held fault) (reply held' seen pdu) a (header, begins, is) = not_broken held' held (message header pdu) fault begins a
     one_adu (broken held fault) (broken held' fault') a b = one_broken held held' fault fault' a b
 
   -- what stands at the front stays when bytes follow
-  module _ (begins_on : (bytes more others : List ℕ) (message : Header × List ℕ) → BeginsWith bytes message others → BeginsWith (bytes ++ more) message (others ++ more))
+  module _ (begins_on : (bytes more others : List ℕ) (message : Message Header) → BeginsWith bytes message others → BeginsWith (bytes ++ more) message (others ++ more))
       (no_length_on : (bytes more : List ℕ) → IsRest bytes no_length → IsRest (bytes ++ more) no_length)
       (foreign_on : (bytes more : List ℕ) (protocol : ℕ) → IsRest bytes (foreign protocol) → IsRest (bytes ++ more) (foreign protocol))
-      (header : Header) (pdu bytes rest cuts : List ℕ) (whole : IsAdu (header, pdu)) (joined : adu_of header pdu ≡ bytes ++ rest) where
-    begins : BeginsWith (bytes ++ rest) (header, pdu) []
+      (header : Header) (pdu bytes rest cuts : List ℕ) (whole : IsAdu (message header pdu)) (joined : adu_of header pdu ≡ bytes ++ rest) where
+    begins : BeginsWith (bytes ++ rest) (message header pdu) []
     begins = record { joined = sym joined ∙ sym (append-nil (adu_of header pdu)); whole = whole }
 
     both_none : (xs ys : List ℕ) → xs ++ ys ≡ [] → (xs ≡ []) × (ys ≡ [])
@@ -83,16 +84,16 @@ module _ (one_begins : OneBegins) (one_rest : OneRest) (apart : AreApart) where
     both_none (x ∷ xs) ys e = cc
 
     no_fault : (held : List ℕ) (fault : TransportError) → IsBrokenAt bytes held fault → ⊥
-    no_fault held InvalidLength b = apart (bytes ++ rest) [] (header, pdu) no_length begins (no_length_on bytes rest b.0)
-    no_fault held (InvalidProtocol protocol) b = apart (bytes ++ rest) [] (header, pdu) (foreign protocol) begins (foreign_on bytes rest protocol b.0)
+    no_fault held InvalidLength b = apart (bytes ++ rest) [] (message header pdu) no_length begins (no_length_on bytes rest b.0)
+    no_fault held (InvalidProtocol protocol) b = apart (bytes ++ rest) [] (message header pdu) (foreign protocol) begins (foreign_on bytes rest protocol b.0)
     no_fault held _ b = b
 
     pub adu_alone : (found : Found) → FindsReplyAdu bytes cuts found → IsOfMessage (header_seen header) pdu rest found
     adu_alone (waiting held) a = λ none.
-        let alone : BeginsWith bytes (header, pdu) [] = record { joined = sym (joined ∙ ap (λ r. bytes ++ r) none ∙ append-nil bytes) ∙ sym (append-nil (adu_of header pdu)); whole = whole } in
-        not_waiting bytes cuts [] (header, pdu) a.0 alone
+        let alone : BeginsWith bytes (message header pdu) [] = record { joined = sym (joined ∙ ap (λ r. bytes ++ r) none ∙ append-nil bytes) ∙ sym (append-nil (adu_of header pdu)); whole = whole } in
+        not_waiting bytes cuts [] (message header pdu) a.0 alone
     adu_alone (reply held seen found) (other, here, is) =
-        let same = one_begins (bytes ++ rest) (held ++ rest) [] (other, found) (header, pdu) (begins_on bytes rest held (other, found) here) begins in
+        let same = one_begins (bytes ++ rest) (held ++ rest) [] (message other found) (message header pdu) (begins_on bytes rest held (message other found) here) begins in
         let none = both_none held rest same.1 in
-        (none.1, none.0, is ∙ ap (λ (m : Header × List ℕ). header_seen m.0) same.0, ap (λ (m : Header × List ℕ). m.1) same.0)
+        (none.1, none.0, is ∙ ap (λ (m : Message Header). header_seen m.header) same.0, ap (λ (m : Message Header). m.pdu) same.0)
     adu_alone (broken held fault) a = no_fault held fault a

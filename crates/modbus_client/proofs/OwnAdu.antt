@@ -11,6 +11,7 @@ use Rattle.modbus_frame.specs.declared.fault.Error.TheVariants.{Protocol}
 use Rattle.modbus_frame.specs.declared.fault.ProtocolError.TheVariants.{HeaderMismatch}
 use Rattle.modbus_frame.specs.declared.tcp.Header.{Header}
 use Rattle.modbus_frame.specs.declared.fault.HeaderSeen.{HeaderSeen}
+use Rattle.modbus_pdu.specs.Message.{Message, message}
 use Rattle.modbus_tcp.specs.Adu.{adu_of, IsAdu, stream_of}
 use Rattle.modbus_tcp.specs.Stream.{no_length, foreign, IsRest, BeginsWith}
 use Rattle.modbus_client.specs.declared.protocol.Reply.{Reply}
@@ -24,7 +25,7 @@ use Rattle.modbus_client.specs.Tcp.{header_seen, FindsReplyAdu, tcp_protocol, Is
 use Rattle.modbus_client.proofs.OneAdu.{OneBegins, OneRest, AreApart, not_waiting, not_broken, one_adu, adu_alone}
 
 abbrev Adus : Type 0
-Adus = List (Header × List ℕ)
+Adus = List (Message Header)
 
 module _ (asked : HeaderSeen) where
   -- nothing is dropped
@@ -36,16 +37,16 @@ module _ (asked : HeaderSeen) where
   opening = record { dropped = []; left = []; drops = drops_none []; finds = (inl refl, refl); own = tt }
 
   -- one ADU of another is dropped
-  drops_one : (bytes left : List ℕ) (message : Header × List ℕ) → BeginsWith bytes message left → IsOfAnother asked message → DropsAdus asked bytes (message ∷ []) left
+  drops_one : (bytes left : List ℕ) (message : Message Header) → BeginsWith bytes message left → IsOfAnother asked message → DropsAdus asked bytes (message ∷ []) left
   drops_one bytes left message begins other = record {
-    joined = begins.joined ∙ ap (λ adu. adu ++ left) (sym (append-nil (adu_of message.0 message.1)));
+    joined = begins.joined ∙ ap (λ adu. adu ++ left) (sym (append-nil (adu_of message.header message.pdu)));
     whole = All-cons IsAdu message [] begins.whole (All-nil IsAdu);
     others = All-cons (IsOfAnother asked) message [] other (All-nil (IsOfAnother asked));
   }
 
   drops_both : (bytes held left : List ℕ) (adus more : Adus) → DropsAdus asked bytes adus held → DropsAdus asked held more left → DropsAdus asked bytes (adus ++ more) left
   drops_both bytes held left adus more a b =
-      let bytes_of : Header × List ℕ → List ℕ = λ m. adu_of m.0 m.1 in record {
+      let bytes_of : Message Header → List ℕ = λ m. adu_of m.header m.pdu in record {
         joined = a.joined ∙ ap (λ rest. stream_of adus ++ rest) b.joined ∙ sym (append_assoc (stream_of adus) (stream_of more) left)
             ∙ ap (λ adus. adus ++ left) (sym (flat_map-append bytes_of adus more));
         whole = All-append IsAdu adus more a.whole b.whole;
@@ -82,7 +83,7 @@ module _ (asked : HeaderSeen) where
       where
         under : (found : Found) → FindsReplyAdu left cuts found → IsUnder asked found
         under (waiting held) finds = tt
-        under (reply held seen pdu) (header, begins, is) = is ∙ none (header, pdu) held begins
+        under (reply held seen pdu) (header, begins, is) = is ∙ none (message header pdu) held begins
         under (broken held fault) finds = tt
 
     pub looks_own : (new : List ℕ) (result : Result (Option Reply) LookError) → LooksAs tcp_protocol asked left cuts new result → LooksAs matching_protocol asked bytes cuts new result
@@ -110,20 +111,20 @@ module _ (asked : HeaderSeen) where
   count_on before after adus more told on = omega (arith, told, on, length-append adus more)
 
   -- what begins with ADUs that are dropped begins with the first of them
-  begins_first : (bytes left : List ℕ) (message : Header × List ℕ) (adus : Adus) → DropsAdus asked bytes (message ∷ adus) left → BeginsWith bytes message (stream_of adus ++ left)
-  begins_first bytes left message adus d = record { joined = d.joined ∙ append_assoc (adu_of message.0 message.1) (stream_of adus) left; whole = All-head IsAdu message adus d.whole }
+  begins_first : (bytes left : List ℕ) (message : Message Header) (adus : Adus) → DropsAdus asked bytes (message ∷ adus) left → BeginsWith bytes message (stream_of adus ++ left)
+  begins_first bytes left message adus d = record { joined = d.joined ∙ append_assoc (adu_of message.header message.pdu) (stream_of adus) left; whole = All-head IsAdu message adus d.whole }
 
-  drops_rest : (bytes left : List ℕ) (message : Header × List ℕ) (adus : Adus) → DropsAdus asked bytes (message ∷ adus) left → DropsAdus asked (stream_of adus ++ left) adus left
+  drops_rest : (bytes left : List ℕ) (message : Message Header) (adus : Adus) → DropsAdus asked bytes (message ∷ adus) left → DropsAdus asked (stream_of adus ++ left) adus left
   drops_rest bytes left message adus d = record { joined = refl; whole = All-tail IsAdu message adus d.whole; others = All-tail (IsOfAnother asked) message adus d.others }
 
 module _ (one_begins : OneBegins) (one_rest : OneRest) (apart : AreApart) where
   module _ (asked : HeaderSeen) (cuts : List ℕ) where
     -- where a search that dropped nothing stands, the bytes begin with no ADU of another
-    not_other : (left others : List ℕ) (found : Found) (message : Header × List ℕ) → FindsReplyAdu left cuts found → IsUnder asked found → BeginsWith left message others → IsOfAnother asked message → ⊥
+    not_other : (left others : List ℕ) (found : Found) (message : Message Header) → FindsReplyAdu left cuts found → IsUnder asked found → BeginsWith left message others → IsOfAnother asked message → ⊥
     not_other left others (waiting held) message finds own begins other = not_waiting one_begins one_rest apart left cuts others message finds.0 begins
     not_other left others (reply held seen pdu) message (header, here, is) own begins other =
-        let same = one_begins left held others (header, pdu) message here begins in
-        other (sym (ap (λ (m : Header × List ℕ). header_seen m.0) same.0) ∙ sym is ∙ own)
+        let same = one_begins left held others (record { header = header; pdu = pdu }) message here begins in
+        other (sym (ap (λ (m : Message Header). header_seen m.header) same.0) ∙ sym is ∙ own)
     not_other left others (broken held fault) message finds own begins other = not_broken one_begins one_rest apart left cuts others held message fault begins finds
 
     -- two searches in the same bytes drop the same ADUs
@@ -152,19 +153,19 @@ module _ (one_begins : OneBegins) (one_rest : OneRest) (apart : AreApart) where
     count_of bytes dropped found counts finds =
         subst (λ found. (finds : FindsOwnAdu asked bytes cuts found) × (dropped ≡ adus_in finds.dropped)) (one_own bytes counts.found found counts.finds finds) (counts.finds, counts.tells)
 
-  module _ (begins_on : (bytes more others : List ℕ) (message : Header × List ℕ) → BeginsWith bytes message others → BeginsWith (bytes ++ more) message (others ++ more))
+  module _ (begins_on : (bytes more others : List ℕ) (message : Message Header) → BeginsWith bytes message others → BeginsWith (bytes ++ more) message (others ++ more))
       (no_length_on : (bytes more : List ℕ) → IsRest bytes no_length → IsRest (bytes ++ more) no_length)
       (foreign_on : (bytes more : List ℕ) (protocol : ℕ) → IsRest bytes (foreign protocol) → IsRest (bytes ++ more) (foreign protocol))
-      (header : Header) (pdu bytes rest cuts : List ℕ) (whole : IsAdu (header, pdu)) (joined : adu_of header pdu ≡ bytes ++ rest) where
+      (header : Header) (pdu bytes rest cuts : List ℕ) (whole : IsAdu (message header pdu)) (joined : adu_of header pdu ≡ bytes ++ rest) where
     -- a front of one message alone begins with no ADU of another
     alone_by : (found : Found) (left : List ℕ) (adus : Adus) → DropsAdus (header_seen header) bytes adus left → FindsReplyAdu left cuts found → IsOfMessage (header_seen header) pdu rest found
     alone_by found left [] d finds =
         adu_alone one_begins one_rest apart begins_on no_length_on foreign_on header pdu bytes rest cuts whole joined found (subst (λ l. FindsReplyAdu l cuts found) (sym d.joined) finds)
     alone_by found left (message ∷ adus) d finds =
-        let all : BeginsWith (bytes ++ rest) (header, pdu) [] = record { joined = sym joined ∙ sym (append-nil (adu_of header pdu)); whole = whole } in
+        let all : BeginsWith (bytes ++ rest) (record { header = header; pdu = pdu }) [] = record { joined = sym joined ∙ sym (append-nil (adu_of header pdu)); whole = whole } in
         let here = begins_on bytes rest (stream_of adus ++ left) message (begins_first (header_seen header) bytes left message adus d) in
-        let same = one_begins (bytes ++ rest) ((stream_of adus ++ left) ++ rest) [] message (header, pdu) here all in
-        absurd (All-head (IsOfAnother (header_seen header)) message adus d.others (ap (λ (m : Header × List ℕ). header_seen m.0) same.0))
+        let same = one_begins (bytes ++ rest) ((stream_of adus ++ left) ++ rest) [] message (record { header = header; pdu = pdu }) here all in
+        absurd (All-head (IsOfAnother (header_seen header)) message adus d.others (ap (λ (m : Message Header). header_seen m.header) same.0))
 
     pub own_alone : (found : Found) → FindsOwnAdu (header_seen header) bytes cuts found → IsOfMessage (header_seen header) pdu rest found
     own_alone found a = alone_by found a.left a.dropped a.drops a.finds

@@ -10,6 +10,7 @@ use Rattle.modbus_frame.specs.declared.response.Response.{Response}
 use Rattle.modbus_frame.specs.declared.response.ExceptionResponse.{ExceptionResponse}
 use Rattle.modbus_frame.specs.declared.rtu.Header.{Header}
 use Rattle.modbus_pdu.specs.ResponseOf.{response_result_of}
+use Rattle.modbus_pdu.specs.Message.{message}
 use Rattle.modbus_rtu.specs.declared.verdict.Verdict.{Verdict}
 use Rattle.modbus_rtu.specs.declared.verdict.Verdict.TheVariants.{Open, Bad, Good}
 use Rattle.modbus_rtu.specs.Frame.{frame}
@@ -74,7 +75,7 @@ module _ (nothing_open : response_verdict [] ≡ Open) (seen_of : HeaderSeen) (f
 
 -- One frame gives what its PDU stands for.
 module _ (good : FramesAreGood) (front : FrontsAreOpen) (slave : ℕ) (function : FunctionCode) (pdu : List ℕ) (result : Result Response ExceptionResponse)
-    (has : HasResponseHead (slave, pdu)) (means : response_result_of pdu ≡ Ok result) (bytes rest cuts : List ℕ) (joined : frame slave pdu ≡ bytes ++ rest) where
+    (has : HasResponseHead (message slave pdu)) (means : response_result_of pdu ≡ Ok result) (bytes rest cuts : List ℕ) (joined : frame slave pdu ≡ bytes ++ rest) where
   header : Header
   header = record { slave_id = slave }
 
@@ -106,7 +107,7 @@ module _ (good : FramesAreGood) (front : FrontsAreOpen) (slave : ℕ) (function 
   read_ends held (Err (Transport _)) only ends ended = absurd only
   read_ends held (Err NoMemory) only ends ended = inr refl
 
-pub frame_back : FramesAreGood → FrontsAreOpen → (slave : ℕ) (function : FunctionCode) (pdu : List ℕ) (result : Result Response ExceptionResponse) → HasResponseHead (slave, pdu)
+pub frame_back : FramesAreGood → FrontsAreOpen → (slave : ℕ) (function : FunctionCode) (pdu : List ℕ) (result : Result Response ExceptionResponse) → HasResponseHead (message slave pdu)
     → response_result_of pdu ≡ Ok result → (held : List ℕ) (answer : Answer) → ReadsAll rtu_protocol (slave_seen slave) function (frame slave pdu) held answer
     → Judges (slave_seen slave) function (slave_seen slave) result answer ⊎ (answer ≡ Err NoMemory)
 frame_back good front slave function pdu result has means held answer r =

@@ -11,20 +11,21 @@ use Rattle.modbus_pdu.specs.Limits.{max_pdu}
 use Rattle.modbus_pdu.specs.RequestOf.{IsModelled}
 use Rattle.modbus_pdu.specs.ResponseLaws.{IsResponse, response_size}
 use Rattle.modbus_pdu.specs.ResponsePdu.{response_pdu}
+use Rattle.modbus_pdu.specs.Message.{message}
 use Rattle.modbus_rtu.specs.ResponseHead.{response_head, response_rule, HasResponseHead}
 use Rattle.modbus_service.specs.Outcome.{reply_pdu, exception, code_of}
 use Rattle.modbus_rtu.specs.WholeReading.{IsModelledAsk}
 use Rattle.modbus_client.proofs.IdentifiedHeads.{identified_head}
 
 module _ (sizes : (r : Response) → length (response_pdu r) ≡ response_size r) (slave : ℕ) where
-  by_size : (given : Response) → response_head (slave ∷ response_pdu given) ≡ Ok (Some (response_size given)) → HasResponseHead (slave, response_pdu given)
+  by_size : (given : Response) → response_head (slave ∷ response_pdu given) ≡ Ok (Some (response_size given)) → HasResponseHead (message slave (response_pdu given))
   by_size given is = is ∙ ap (λ n. Ok (Some n)) (sym (sizes given))
 
   -- the byte count of a queue that fits, in two bytes
   counted_bytes : (n : ℕ) → 5 + 2 * n ≤ max_pdu → 3 + (256 * ((2 + 2 * n) / 256 % 256) + (2 + 2 * n) % 256) ≡ 5 + 2 * n
   counted_bytes n fits = omega arith
 
-  pub response_has_head : (given : Response) → IsResponse given → IsModelled (function_number (function_answered given)) → Fits (response_pdu given) → HasResponseHead (slave, response_pdu given)
+  pub response_has_head : (given : Response) → IsResponse given → IsModelled (function_number (function_answered given)) → Fits (response_pdu given) → HasResponseHead (message slave (response_pdu given))
   unfolding response_head response_rule response_pdu
   response_has_head (response.ReadCoils coils) is of fits = by_size (response.ReadCoils coils) refl
   response_has_head (response.ReadDiscreteInputs coils) is of fits = by_size (response.ReadDiscreteInputs coils) refl
@@ -41,7 +42,7 @@ module _ (sizes : (r : Response) → length (response_pdu r) ≡ response_size r
   response_has_head (response.ReadDeviceIdentification found) is of fits = identified_head slave found
   response_has_head (response.Custom code bytes) is of fits = absurd (is of)
 
-pub exception_has_head : (slave : ℕ) (asked : Asked) (code : ExceptionCode) → IsModelledAsk asked → HasResponseHead (slave, reply_pdu (code_of asked) (exception code))
+pub exception_has_head : (slave : ℕ) (asked : Asked) (code : ExceptionCode) → IsModelledAsk asked → HasResponseHead (message slave (reply_pdu (code_of asked) (exception code)))
 unfolding response_head response_rule reply_pdu
 exception_has_head slave (ReadCoils address quantity) code is = refl
 exception_has_head slave (ReadDiscreteInputs address quantity) code is = refl

@@ -5,6 +5,7 @@ use Rattle.modbus_frame.specs.declared.rtu.Header.{Header}
 use Rattle.modbus_frame.specs.declared.fault.HeaderSeen.{HeaderSeen}
 use Rattle.modbus_frame.specs.declared.fault.TransportError.{TransportError}
 use Rattle.modbus_frame.specs.declared.fault.TransportError.TheVariants.{TooManyRetries}
+use Rattle.modbus_pdu.specs.Message.{message}
 use Rattle.modbus_rtu.specs.Frame.{frame}
 use Rattle.modbus_rtu.specs.ResponseHead.{HasResponseHead}
 use Rattle.modbus_client.specs.Protocol.{Protocol, Heading, Found}
@@ -49,7 +50,7 @@ rtu_protocol = record {
   adu = λ header pdu. frame header.slave_id pdu;
   Finds = λ asked. FindsReplyFrame;
   Counts = λ asked bytes cuts dropped. dropped ≡ 0;
-  IsWhole = λ header pdu. HasResponseHead (header.slave_id, pdu);
+  IsWhole = λ header pdu. HasResponseHead (message header.slave_id pdu);
 }
 
 -- a frame has the address of its slave alone, so a client keeps nothing for it

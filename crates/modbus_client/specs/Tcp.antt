@@ -4,6 +4,7 @@ use Rattle.modbus_frame.specs.declared.tcp.Header.{Header}
 use Rattle.modbus_frame.specs.declared.fault.HeaderSeen.{HeaderSeen}
 use Rattle.modbus_frame.specs.declared.fault.TransportError.{TransportError}
 use Rattle.modbus_frame.specs.declared.fault.TransportError.TheVariants.{InvalidLength, InvalidProtocol}
+use Rattle.modbus_pdu.specs.Message.{Message, message}
 use Rattle.modbus_tcp.specs.Adu.{adu_of, IsAdu, stream_of}
 use Rattle.modbus_tcp.specs.Stream.{IsRest, empty, unfinished, no_length, foreign, BeginsWith}
 use Rattle.modbus_client.specs.Protocol.{Protocol, Heading, Found, waiting, reply, broken}
@@ -22,7 +23,7 @@ IsBrokenAt bytes held _ = ⊥
 -- header tells no ADU of Modbus. The cuts are of no matter.
 abbrev pub FindsReplyAdu : List ℕ → List ℕ → Found → Type 0
 FindsReplyAdu bytes cuts (waiting held) = (IsRest bytes empty ⊎ IsRest bytes unfinished) × (held ≡ bytes)
-FindsReplyAdu bytes cuts (reply held seen pdu) = (header : Header) × BeginsWith bytes (header, pdu) held × (seen ≡ header_seen header)
+FindsReplyAdu bytes cuts (reply held seen pdu) = (header : Header) × BeginsWith bytes (message header pdu) held × (seen ≡ header_seen header)
 FindsReplyAdu bytes cuts (broken held fault) = IsBrokenAt bytes held fault
 
 abbrev pub tcp_protocol : Protocol Header
@@ -31,7 +32,7 @@ tcp_protocol = record {
   adu = adu_of;
   Finds = λ asked. FindsReplyAdu;
   Counts = λ asked bytes cuts dropped. dropped ≡ 0;
-  IsWhole = λ header pdu. IsAdu (header, pdu);
+  IsWhole = λ header pdu. IsAdu (message header pdu);
 }
 
 -- each request draws the transaction that comes next, from 0 on; 65535 is followed by 0
@@ -43,11 +44,11 @@ tcp_heading = record {
 }
 
 -- an ADU of another transaction, or of another unit, than was asked (section 4.4.1.3)
-abbrev pub IsOfAnother : HeaderSeen → Header × List ℕ → Type 0
-IsOfAnother asked message = header_seen message.0 ≢ asked
+abbrev pub IsOfAnother : HeaderSeen → Message Header → Type 0
+IsOfAnother asked message = header_seen message.header ≢ asked
 
 -- The bytes are these ADUs, one after another, each of another transaction or unit than was asked, and what is left.
-pub record DropsAdus (asked : HeaderSeen) (bytes : List ℕ) (adus : List (Header × List ℕ)) (left : List ℕ) : Type 0 where
+pub record DropsAdus (asked : HeaderSeen) (bytes : List ℕ) (adus : List (Message Header)) (left : List ℕ) : Type 0 where
   pub joined : bytes ≡ stream_of adus ++ left
   pub whole : All IsAdu adus
   pub others : All (IsOfAnother asked) adus
@@ -56,8 +57,8 @@ pub record DropsAdus (asked : HeaderSeen) (bytes : List ℕ) (adus : List (Heade
 -- ADU: if they begin with an ADU, it is of the transaction and the unit that were asked.
 abbrev pub EndsOfAnother : HeaderSeen → List ℕ → Option ℕ → Type 0
 EndsOfAnother asked bytes (Some end) =
-    (0 < end) × (end ≤ length bytes) × (message : Header × List ℕ) × BeginsWith bytes message (drop end bytes) × IsOfAnother asked message
-EndsOfAnother asked bytes None = (message : Header × List ℕ) (others : List ℕ) → BeginsWith bytes message others → header_seen message.0 ≡ asked
+    (0 < end) × (end ≤ length bytes) × (message : Message Header) × BeginsWith bytes message (drop end bytes) × IsOfAnother asked message
+EndsOfAnother asked bytes None = (message : Message Header) (others : List ℕ) → BeginsWith bytes message others → header_seen message.header ≡ asked
 
 -- a message that is found is of the transaction and the unit that were asked
 abbrev pub IsUnder : HeaderSeen → Found → Type 0
@@ -68,14 +69,14 @@ IsUnder asked _ = Unit {0}
 -- transaction and unit, which is the reply, and those behind it are held; or it is nothing or a front of an ADU, which is held; or a
 -- header in it tells no ADU of Modbus.
 pub record FindsOwnAdu (asked : HeaderSeen) (bytes cuts : List ℕ) (found : Found) : Type 0 where
-  pub dropped : List (Header × List ℕ)
+  pub dropped : List (Message Header)
   pub left : List ℕ
   pub drops : DropsAdus asked bytes dropped left
   pub finds : FindsReplyAdu left cuts found
   pub own : IsUnder asked found
 
 -- how many ADUs a counter of 64 bits tells: it stands still at its end
-abbrev pub adus_in : List (Header × List ℕ) → ℕ
+abbrev pub adus_in : List (Message Header) → ℕ
 adus_in adus = min (length adus) (2 ^ 64 - 1)
 
 -- The number tells the ADUs that are dropped where the search stands in these bytes.
@@ -91,5 +92,5 @@ matching_protocol = record {
   adu = adu_of;
   Finds = FindsOwnAdu;
   Counts = CountsOthers;
-  IsWhole = λ header pdu. IsAdu (header, pdu);
+  IsWhole = λ header pdu. IsAdu (message header pdu);
 }

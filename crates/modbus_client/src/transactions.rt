@@ -2,6 +2,7 @@
 ghost use Rattle.std.specs.Prelude.{◌≡◌, ◌↔◌, ℕ, ◌<◌, ◌++◌, ◌∷◌, List, [], length, IsTrue, None};
 ghost use Rattle.modbus_frame.specs.Meaning.{meaning};
 ghost use Rattle.modbus_frame.specs.declared.tcp.Header.{Header};
+ghost use Rattle.modbus_pdu.specs.Message.{Message};
 ghost use Rattle.modbus_client.specs.Tcp.{matching_protocol, tcp_heading, header_seen, DropsAdus, EndsOfAnother, adus_in};
 ghost use Rattle.modbus_client.specs.State.{attached_client};
 ghost use Rattle.modbus_client.specs.Polled.{OpensPolled};
@@ -50,7 +51,7 @@ fn end_of_another(asked: HeaderSeen, bytes: &[u8]) -> Option<usize>
 /// Drops the ADUs at the front of the held bytes that are of another transaction or unit than was asked, and tells how many. Their PDUs are
 /// not read, and no memory is taken.
 fn drop_others(asked: HeaderSeen, held: &mut BytesMut) -> u64
-    ensures dropped { (adus : List (Header × List ℕ))
+    ensures dropped { (adus : List (Message Header))
         × DropsAdus asked held.old.items adus held.new.items × (result ≡ adus_in adus) }
     ensures all { EndsOfAnother asked held.new.items None }
 {

@@ -8,11 +8,11 @@ use Rattle.modbus_pdu.specs.RequestOf.{request_of}
 use Rattle.modbus_server.specs.Framing.{Framing}
 
 abbrev pub bytes_of : List SlavePdu → List ℕ
-bytes_of messages = map (λ m. m.0) messages
+bytes_of messages = map (λ m. m.header) messages
 
 -- the PDU of a message is the byte alone
 abbrev pub IsAlone : SlavePdu → Type 0
-IsAlone message = message.1 ≡ message.0 ∷ []
+IsAlone message = message.pdu ≡ message.header ∷ []
 
 -- the bytes are those of these messages, and what is held
 abbrev pub Follows : List ℕ → List ℕ → List ℕ → List SlavePdu → Type 0
@@ -31,7 +31,7 @@ IsZeroAfter bytes cuts taken _ = ⊥
 
 -- the byte of a message is not 0
 abbrev pub IsSome : SlavePdu → Type 0
-IsSome message = message.0 ≢ 0
+IsSome message = message.header ≢ 0
 
 -- the bytes are those of these messages, with no byte 0
 pub record AreOnlyBytes (bytes : List ℕ) (messages : List SlavePdu) : Type 0 where

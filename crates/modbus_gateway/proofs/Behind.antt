@@ -3,11 +3,12 @@ use Rattle.std.proofs.Common.{◌≡◌, inl, inr, ℕ, List, [], ◌∷◌, ap,
 use Rattle.modbus_link.specs.Outside.{Input, Output}
 use Rattle.modbus_link.specs.Reads.{totals}
 use Rattle.modbus_frame.specs.Meaning.{Asked}
+use Rattle.modbus_pdu.specs.Message.{Message}
 use Rattle.modbus_service.specs.Outcome.{Outcome}
 use Rattle.modbus_server.specs.declared.error.ProcessError.{ProcessError}
 use Rattle.modbus_server.specs.declared.error.ProcessError.TheVariants.{ReadFault, WriteFault, TooManyRetries, BytesRemaining, InvalidRequest, ResponseTooLong, TurnLimit, InvalidLength, InvalidProtocol, NoMemory}
 use Rattle.modbus_service.specs.Answering.{Answering}
-use Rattle.modbus_server.specs.Framing.{Framing, Message}
+use Rattle.modbus_server.specs.Framing.{Framing}
 use Rattle.modbus_server.specs.Exchanges.{Exchange, Run}
 use Rattle.modbus_server.specs.Answer.{WantsFor}
 use Rattle.modbus_server.specs.Served.{past, Stands, Halt, remaining, broken, refused, too_long, Halts, Served, Unwritten, Wanting, WantsMemory, EndsAs}
@@ -36,7 +37,7 @@ module _ (F : Framing) {S T : Type 0} (view : S → T) (name : S → ℕ) (B : A
       let more = run_behind xs next end rest in
       ((view next, first.0, more.0), more.1 ∙ first.1)
 
-  halts_behind : (bytes cuts : List ℕ) (before : List (Message F)) (ends now : S) (halt : Halt) → Halts F B bytes cuts before ends now halt
+  halts_behind : (bytes cuts : List ℕ) (before : List (Message F.Header)) (ends now : S) (halt : Halt) → Halts F B bytes cuts before ends now halt
       → Halts F A bytes cuts before (view ends) (view now) halt × (name now ≡ name ends)
   halts_behind bytes cuts before ends now (remaining left) (all, same) = ((all, ap view same), ap name same)
   halts_behind bytes cuts before ends now (broken fault) (bad, same) = ((bad, ap view same), ap name same)
@@ -86,14 +87,14 @@ module _ (F : Framing) {S T : Type 0} (view : S → T) (name : S → ℕ) (B : A
       let stood = stands_behind bytes cuts u.held opening now written u.waiting u.exchanges u.stood in
       (record { held = u.held; waiting = u.waiting; exchanges = u.exchanges; stood = stood.0 }, stood.1)
 
-  wants_behind : (message : Message F) (old new : S) → WantsFor F B message old new
+  wants_behind : (message : Message F.Header) (old new : S) → WantsFor F B message old new
       → WantsFor F A message (view old) (view new) × (name new ≡ name old)
   wants_behind message old new (request, asked, inl (carries, same)) = ((request, asked, inl (carries, ap view same)), ap name same)
   wants_behind message old new (request, asked, inr wants) =
-      let step = steps.wants old (F.slave message.0) request new wants in
+      let step = steps.wants old (F.slave message.header) request new wants in
       ((request, asked, inr step.0), step.1)
 
-  cause_behind : (bytes cuts held : List ℕ) (taken : List (Message F)) (old new : S) → WantsMemory F B bytes cuts held taken old new
+  cause_behind : (bytes cuts held : List ℕ) (taken : List (Message F.Header)) (old new : S) → WantsMemory F B bytes cuts held taken old new
       → WantsMemory F A bytes cuts held taken (view old) (view new) × (name new ≡ name old)
   cause_behind bytes cuts held taken old new (inl (message, next, wants)) =
       let more = wants_behind message old new wants in

@@ -9,8 +9,8 @@ use Rattle.modbus_frame.specs.declared.response.Response.{Response}
 use Rattle.modbus_pdu.specs.ResponsePdu.{response_pdu}
 use Rattle.modbus_frame.specs.declared.fault.Error.TheVariants as call
 use Rattle.modbus_pdu.specs.Limits.{max_pdu}
+use Rattle.modbus_pdu.specs.Message.{Message}
 use Rattle.modbus_service.specs.Outcome.{Outcome, reply, exception, code_of, reply_pdu}
-use Rattle.modbus_server.specs.Framing.{Message}
 use Rattle.modbus_server.specs.declared.error.ProcessError.TheVariants.{TooManyRetries}
 use Rattle.modbus_server.specs.Exchanges.{Exchange, Run, GivesOutcome, ReplyFits}
 use Rattle.modbus_server.specs.Served.{Served, Halts, broken, too_long}
@@ -50,7 +50,7 @@ module _ {L : Type 0} (M : LinkMeaning L) where
   run_fits [] start end run = All-nil (ReplyFits tcp)
   run_fits (x ∷ xs) start end (next, step, rest) = All-cons (ReplyFits tcp) x xs (step_fits x start next step) (run_fits xs next end rest)
 
-  pub replies_fit : (opening : LineState L) (messages : List (Message tcp)) → RepliesFit tcp (forwards M) opening messages
+  pub replies_fit : (opening : LineState L) (messages : List (Message tcp.Header)) → RepliesFit tcp (forwards M) opening messages
   replies_fit opening messages xs end front rest run split asked = run_fits xs opening end run
 
   module _ (bytes cuts : List ℕ) (opening now : LineState L) (written : List ℕ) where

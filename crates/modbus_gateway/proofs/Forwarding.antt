@@ -12,10 +12,10 @@ use Rattle.modbus_frame.specs.Meaning.{Asked}
 use Rattle.modbus_frame.specs.declared.tcp.Header.{Header}
 use Rattle.modbus_frame.specs.declared.fault.Reason.{Reason}
 use Rattle.modbus_pdu.specs.RequestOf.{request_of}
+use Rattle.modbus_pdu.specs.Message.{Message}
 use Rattle.modbus_tcp.specs.Stream.{IsSplit, IsRest, empty, unfinished}
 use Rattle.modbus_server.specs.declared.error.ProcessError.{ProcessError}
 use Rattle.modbus_server.specs.declared.error.ProcessError.TheVariants.{ReadFault, WriteFault, TooManyRetries, BytesRemaining, InvalidRequest, ResponseTooLong, TurnLimit, InvalidLength, InvalidProtocol, NoMemory}
-use Rattle.modbus_server.specs.Framing.{Message}
 use Rattle.modbus_server.specs.Exchanges.{Exchange, Run, output, asked_of, asks}
 use Rattle.modbus_server.specs.Exchanges as server
 use Rattle.modbus_server.specs.Served.{IsEndOf, Halt, remaining, broken, refused, Served, Unwritten, Wanting, WantsMemory, EndsAs}
@@ -70,7 +70,7 @@ joined_more turns start now end [] r e last = subst (λ view. AreJoined turns vi
 joined_more turns start now end (s ∷ rs) r (begins, is, later) last = (begins, is, joined_more turns s.after now end rs r later last)
 
 -- nothing is left where no ADU is unfinished
-only_adus : (bytes cuts : List ℕ) (adus : List (Message tcp)) → AreAllAdus bytes cuts [] adus → IsSplit bytes adus [] empty
+only_adus : (bytes cuts : List ℕ) (adus : List (Message tcp.Header)) → AreAllAdus bytes cuts [] adus → IsSplit bytes adus [] empty
 only_adus bytes cuts adus (inl s) = s
 only_adus bytes cuts adus (inr s) = absurd (some s.left)
   where
@@ -79,7 +79,7 @@ only_adus bytes cuts adus (inr s) = absurd (some s.left)
 
 module _ {L : Type 0} (M : LinkMeaning L) (fed cuts : List ℕ) (old new : LineState L) (sent : List ℕ) where
   -- by a run over the first ADUs
-  by_run : (result : Result (Unit {0}) ProcessError) (adus : List (Message tcp)) (xs : List (Exchange tcp)) → map (asked_of tcp) adus ≡ map (asks tcp) xs
+  by_run : (result : Result (Unit {0}) ProcessError) (adus : List (Message tcp.Header)) (xs : List (Exchange tcp)) → map (asked_of tcp) adus ≡ map (asks tcp) xs
       → Run tcp (forwards M) old xs new → StopsAfter fed cuts adus result
       → ((rs : List LineRecord) → map record_told rs ≡ map told_in xs → output tcp xs ≡ replies rs → SendsAs rs sent result)
       → InRecords M old new fed cuts sent result
@@ -126,17 +126,17 @@ module _ {L : Type 0} (M : LinkMeaning L) (fed cuts : List ℕ) (old new : LineS
         (λ rs told out. (inl (all_told w.exchanges rs told), sent_all ∙ out))
 
     -- memory was wanting in the exchange for the next ADU
-    by_want : (next : Message tcp) (request : Asked) → tcp.IsNext fed cuts w.stood.taken next → request_of next.1 ≡ Ok request
-        → (forwards M).wants w.ends (tcp.slave next.0) request new → InRecords M old new fed cuts sent (Err NoMemory)
+    by_want : (next : Message tcp.Header) (request : Asked) → tcp.IsNext fed cuts w.stood.taken next → request_of next.pdu ≡ Ok request
+        → (forwards M).wants w.ends (tcp.slave next.header) request new → InRecords M old new fed cuts sent (Err NoMemory)
     by_want next request (rest, joined, whole) is wants =
         let r = run_in_records M old w.ends w.exchanges w.stood.run in
-        let last = want_in_record M w.ends new next.0 request wants in
+        let last = want_in_record M w.ends new next.header request wants in
         let view : AreJoined old.turns (view_of M w.ends) (last.row ∷ []) (view_of M new) =
         subst (λ n. AreJoined n (view_of M w.ends) (last.row ∷ []) (view_of M new)) r.turns last.recorded.joined in
         let all = joined_more old.turns (view_of M old) (view_of M w.ends) (view_of M new) r.records last.row r.recorded.joined view in
         let none : outcome_of last.row.answer ≡ None = ap (λ (t : Header × Asked × Option Outcome). t.2) last.told in
         let no_reply : record_reply last.row ≡ [] = ap (reply_to last.row.header (code_of last.row.request)) none in
-        let asked_last : asked_of tcp next ≡ question_asked last.row = ap (λ (request' : Result Asked Reason). (next.0, request')) is ∙ sym (ap asks_told last.told) in
+        let asked_last : asked_of tcp next ≡ question_asked last.row = ap (λ (request' : Result Asked Reason). (next.header, request')) is ∙ sym (ap asks_told last.told) in
         record {
           adus = w.stood.taken ++ next ∷ [];
           records = r.records ++ last.row ∷ [];
@@ -156,7 +156,7 @@ module _ {L : Type 0} (M : LinkMeaning L) (fed cuts : List ℕ) (old new : LineS
           );
         }
 
-    by_cause : (held : List ℕ) (taken : List (Message tcp)) → taken ≡ w.stood.taken → WantsMemory tcp (forwards M) fed cuts held taken w.ends new → InRecords M old new fed cuts sent (Err NoMemory)
+    by_cause : (held : List ℕ) (taken : List (Message tcp.Header)) → taken ≡ w.stood.taken → WantsMemory tcp (forwards M) fed cuts held taken w.ends new → InRecords M old new fed cuts sent (Err NoMemory)
     by_cause held taken e (inl (next, is_next, (request, is, inl (carries, same)))) = by_run_alone same
     by_cause held taken e (inl (next, is_next, (request, is, inr wants))) = by_want next request (subst (λ t. tcp.IsNext fed cuts t next) e is_next) is wants
     by_cause held taken e (inr (inl (takes, all, same))) = by_run_alone same

@@ -7,6 +7,7 @@ use Rattle.modbus_frame.specs.Meaning.{Asked}
 use Rattle.modbus_frame.specs.declared.tcp.Header.{Header}
 use Rattle.modbus_frame.specs.declared.fault.Reason.{Reason}
 use Rattle.modbus_pdu.specs.RequestOf.{request_of}
+use Rattle.modbus_pdu.specs.Message.{Message}
 use Rattle.modbus_tcp.specs.Adu.{stream_of, IsAdu}
 use Rattle.modbus_tcp.specs.Stream.{IsSplit, empty}
 use Rattle.modbus_server.specs.declared.error.ProcessError.{ProcessError}
@@ -22,7 +23,7 @@ use Rattle.modbus_gateway.specs.Records.{view_of, LineRecord, Recorded, record_r
 use Rattle.modbus_server.specs.Moment.{Moment}
 
 abbrev Adus : Type 0
-Adus = List (Header × List ℕ)
+Adus = List (Message Header)
 
 -- what was asked in a record
 abbrev pub question_asked : LineRecord → Header × Result Asked Reason
@@ -39,7 +40,7 @@ StopsAfter bytes cuts adus (Ok done) = IsSplit bytes adus [] empty
 StopsAfter bytes cuts adus (Err BytesRemaining) = (left : List ℕ) × (left ≢ []) × AreAllAdus bytes cuts left adus
 StopsAfter bytes cuts adus (Err ReadFault) = (left : List ℕ) × AreAllAdus bytes cuts left adus
 StopsAfter bytes cuts adus (Err TurnLimit) = (left : List ℕ) × AreAllAdus bytes cuts left adus
-StopsAfter bytes cuts adus (Err (InvalidRequest reason)) = (next : Header × List ℕ) × IsNextAdu bytes cuts adus next × (request_of next.1 ≡ Err reason)
+StopsAfter bytes cuts adus (Err (InvalidRequest reason)) = (next : Message Header) × IsNextAdu bytes cuts adus next × (request_of next.pdu ≡ Err reason)
 StopsAfter bytes cuts adus (Err InvalidLength) = IsFaultAfter bytes cuts adus InvalidLength
 StopsAfter bytes cuts adus (Err (InvalidProtocol protocol)) = IsFaultAfter bytes cuts adus (InvalidProtocol protocol)
 StopsAfter bytes cuts adus (Err WriteFault) = BeginWith bytes adus

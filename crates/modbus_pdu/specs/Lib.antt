@@ -2,6 +2,7 @@ pub mod Encodes
 pub mod Fields
 pub mod Laws
 pub mod Limits
+pub mod Message
 pub mod Decodes
 pub mod RequestOf
 pub mod RequestPdu

@@ -1,6 +1,7 @@
 -- A PDU under the address of a slave, as a frame of a serial line carries it (MODBUS over Serial Line V1.02, section 2.2).
-use Rattle.std.specs.Prelude.{ℕ, List}
+use Rattle.std.specs.Prelude.{ℕ}
+use Rattle.modbus_pdu.specs.Message.{Message}
 
--- the slave address and the bytes of the PDU
+-- the slave address and the PDU
 abbrev pub SlavePdu : Type 0
-SlavePdu = ℕ × List ℕ
+SlavePdu = Message ℕ

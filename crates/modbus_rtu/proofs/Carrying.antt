@@ -1,6 +1,7 @@
 -- What a call of an inbox carries on.
 use Rattle.std.proofs.Common.{◌≡◌, ℕ, ◌+◌, ◌<◌, ◌≤◌, List, [], ◌∷◌, ◌++◌, length, drop, Option, Some, None, Result, Ok, Err, refl, ap, arith, length-drop}
 use Rattle.std.specs.Prelude.{IfOk, IfErr, IfSome}
+use Rattle.modbus_pdu.specs.SlavePdu.{SlavePdu}
 use Rattle.modbus_rtu.proofs.Verdicts.{good_within}
 use Rattle.modbus_rtu.specs.declared.verdict.Verdict.TheVariants.{Open}
 use Rattle.modbus_rtu.specs.declared.search.Next.TheVariants.{Waiting}
@@ -18,7 +19,7 @@ use Rattle.modbus_rtu.specs.Limits.{overhead}
 waits_at_front : (held : List ℕ) → verdict held 0 ≡ Open → IsNext held (Waiting 0)
 waits_at_front held open' = (omega arith, (λ i lt. absurd (omega arith)), open')
 
-pub used_up_after : (bytes cuts held : List ℕ) (taken : List (ℕ × List ℕ)) → StandsFor bytes cuts held taken → verdict held 0 ≡ Open → IsUsedUp bytes cuts held taken
+pub used_up_after : (bytes cuts held : List ℕ) (taken : List SlavePdu) → StandsFor bytes cuts held taken → verdict held 0 ≡ Open → IsUsedUp bytes cuts held taken
 used_up_after bytes cuts held taken s open' = used_up bytes cuts held taken s 0 (waits_at_front held open')
 
 length_zero : (xs : List ℕ) → length xs ≡ 0 → xs ≡ []
@@ -29,7 +30,7 @@ length_zero (x ∷ xs) e = absurd (omega (arith, e))
 pub open_at_front : (held : List ℕ) (dropped : ℕ) → IsNext held (Waiting dropped) → verdict (drop dropped held) 0 ≡ Open
 open_at_front held dropped next = next.2
 
-pub stands_after : (old : List ℕ) (result : Result (Option RtuFrame) RtuError) (new : List ℕ) → TakesFrame old result new → (bytes cuts : List ℕ) (taken : List (ℕ × List ℕ)) → StandsFor bytes cuts old taken → StandsAfter bytes cuts taken result new
+pub stands_after : (old : List ℕ) (result : Result (Option RtuFrame) RtuError) (new : List ℕ) → TakesFrame old result new → (bytes cuts : List ℕ) (taken : List SlavePdu) → StandsFor bytes cuts old taken → StandsAfter bytes cuts taken result new
 stands_after old (Ok (Some frame)) new (start, n, next, same, rest) bytes cuts taken s =
     rw (same, rest) (stands_frame bytes cuts old taken s start n next)
 stands_after old (Ok None) new (dropped, next, rest) bytes cuts taken s =
@@ -39,7 +40,7 @@ stands_after old (Err (errors.Invalid reason)) new gives bytes cuts taken s = ab
 stands_after old (Err errors.NoMemory) new gives bytes cuts taken s = absurd gives
 
 -- a read where nothing can be taken
-pub stands_after_read : (bytes cuts held more : List ℕ) (taken : List (ℕ × List ℕ)) → StandsFor bytes cuts held taken → verdict held 0 ≡ Open → 0 < length more → StandsFor (bytes ++ more) (cuts ++ length (bytes ++ more) ∷ []) (held ++ more) taken
+pub stands_after_read : (bytes cuts held more : List ℕ) (taken : List SlavePdu) → StandsFor bytes cuts held taken → verdict held 0 ≡ Open → 0 < length more → StandsFor (bytes ++ more) (cuts ++ length (bytes ++ more) ∷ []) (held ++ more) taken
 stands_after_read bytes cuts held more taken s open' some =
     stands_read bytes cuts held taken s 0 (waits_at_front held open') more some
 
@@ -60,7 +61,7 @@ gives_open old (Ok None) new (dropped, next, rest) e = rw rest (open_at_front ol
 gives_open old (Err x) new gives e = cc
 
 pub gives_next : (old : List ℕ) (result : Result (Option RtuFrame) RtuError) (new : List ℕ) → TakesFrame old result new →
-    IfOk result (λ found. IfSome found (λ frame. (bytes cuts : List ℕ) (taken : List (ℕ × List ℕ)) → StandsFor bytes cuts old taken → IsTakenNext bytes cuts taken (slave_and_pdu frame)))
+    IfOk result (λ found. IfSome found (λ frame. (bytes cuts : List ℕ) (taken : List SlavePdu) → StandsFor bytes cuts old taken → IsTakenNext bytes cuts taken (slave_and_pdu frame)))
 gives_next old (Ok (Some frame)) new (start, n, next, same, rest) = λ bytes cuts taken s. rw same (next_taken bytes cuts old taken s start n next)
 gives_next old (Ok None) new gives = tt
 gives_next old (Err e) new gives = tt
@@ -72,5 +73,5 @@ gives_cause old (Err (errors.Invalid reason)) new gives = absurd gives
 gives_cause old (Err errors.NoMemory) new gives = absurd gives
 
 -- what an inbox stands for after a read
-pub read_stands : (old new piece bytes cuts : List ℕ) (taken : List (ℕ × List ℕ)) → new ≡ old ++ piece → 0 < length piece → StandsFor bytes cuts old taken → verdict old 0 ≡ Open → StandsFor (bytes ++ piece) (cuts ++ length (bytes ++ piece) ∷ []) new taken
+pub read_stands : (old new piece bytes cuts : List ℕ) (taken : List SlavePdu) → new ≡ old ++ piece → 0 < length piece → StandsFor bytes cuts old taken → verdict old 0 ≡ Open → StandsFor (bytes ++ piece) (cuts ++ length (bytes ++ piece) ∷ []) new taken
 read_stands old new piece bytes cuts taken e some s open' = rw e (stands_after_read bytes cuts old piece taken s open' some)

@@ -4,6 +4,8 @@ use Rattle.std.specs.List.{AllByRecursion}
 use Rattle.std.specs.Prelude.{Contains}
 use Rattle.std.proofs.lemmas.Bool.{cases_lt}
 use Rattle.std.proofs.lemmas.List.{take_at, drop_at, drop_all, drop-drop, get_or-drop, get_or-append_right}
+use Rattle.modbus_pdu.specs.SlavePdu.{SlavePdu}
+use Rattle.modbus_pdu.specs.Message.{message}
 use Rattle.modbus_rtu.specs.declared.verdict.Verdict.{Verdict}
 use Rattle.modbus_rtu.specs.declared.verdict.Verdict.TheVariants.{Open, Bad, Good}
 use Rattle.modbus_rtu.specs.Checksum.{crc}
@@ -28,7 +30,7 @@ unfolding frame
 length-frame slave pdu = omega (arith, length-append (slave ∷ pdu) (crc (slave ∷ pdu) % 256 ∷ crc (slave ∷ pdu) / 256 ∷ []))
 
 -- what begins with a frame is good
-good_front : (slave low high : ℕ) (pdu rest : List ℕ) → HasHead (slave, pdu) → crc (slave ∷ pdu) ≡ low + 256 * high →
+good_front : (slave low high : ℕ) (pdu rest : List ℕ) → HasHead (message slave pdu) → crc (slave ∷ pdu) ≡ low + 256 * high →
     verdict_of ((slave ∷ pdu) ++ (low ∷ high ∷ rest)) ≡ Good (length pdu)
 unfolding verdict_of
 good_front slave low high pdu rest has sum =
@@ -44,7 +46,7 @@ good_front slave low high pdu rest has sum =
     let taken : take (n + 1) adu ≡ body = take_at body (low ∷ high ∷ rest) (n + 1) size in
     sym (judged_good adu (head adu) n (sym is) (omega (arith, length-append body (low ∷ high ∷ rest))) (ap crc taken ∙ sum ∙ omega (arith, first, second)))
 
-front_of : (slave : ℕ) (pdu rest : List ℕ) → verdict ((slave ∷ pdu) ++ rest) 0 ≡ Good (length pdu) → frame_at ((slave ∷ pdu) ++ rest) 0 ≡ (slave, pdu)
+front_of : (slave : ℕ) (pdu rest : List ℕ) → verdict ((slave ∷ pdu) ++ rest) 0 ≡ Good (length pdu) → frame_at ((slave ∷ pdu) ++ rest) 0 ≡ message slave pdu
 front_of slave pdu rest good = rw (good, take_at pdu rest (length pdu) refl) refl
 
 -- an offset in what follows a front
@@ -61,7 +63,7 @@ frames_later bytes start (f ∷ frames) = let one = frame_at_later bytes start f
 abbrev AreAllUsed : List ℕ → List ℕ → Type 0
 AreAllUsed bytes frames = (i : ℕ) → verdict bytes i ≡ Bad → IsUncovered bytes frames i → ⊥
 
-abbrev ReadsAll : List ℕ → List (ℕ × List ℕ) → Type 0
+abbrev ReadsAll : List ℕ → List SlavePdu → Type 0
 ReadsAll bytes messages = (frames : List ℕ) × Reads bytes 0 frames (length bytes) × (map (frame_at bytes) frames ≡ messages) × AreAllUsed bytes frames
 
 contains_shifted : (start : ℕ) (frames : List ℕ) (f : ℕ) → Contains frames f → Contains (map (λ g. start + g) frames) (start + f)
@@ -94,7 +96,7 @@ module _ (bytes rest frames : List ℕ) (n : ℕ) (good : verdict bytes 0 ≡ Go
         later_used (suc i - (n + overhead)) (subst (λ k. verdict bytes k ≡ Bad) e bad) (subst (λ k. IsUncovered bytes all k) e free))
   ]
 
-one_more : (slave : ℕ) (pdu rest : List ℕ) (messages : List (ℕ × List ℕ)) → HasHead (slave, pdu) → ReadsAll rest messages → ReadsAll (frame slave pdu ++ rest) ((slave, pdu) ∷ messages)
+one_more : (slave : ℕ) (pdu rest : List ℕ) (messages : List SlavePdu) → HasHead (message slave pdu) → ReadsAll rest messages → ReadsAll (frame slave pdu ++ rest) (message slave pdu ∷ messages)
 one_more slave pdu rest messages has (frames, reads, are, used) =
     let n = length pdu in
     let bytes = frame slave pdu ++ rest in
@@ -107,7 +109,7 @@ one_more slave pdu rest messages has (frames, reads, are, used) =
     let end : n + overhead + length rest ≡ length bytes = omega arith in
     let reads' : Reads (drop (n + overhead) bytes) 0 frames (length rest) = rw left reads in
     let moved = reads-shift bytes (n + overhead) inside reads' (0 + (n + overhead)) (omega arith) in
-    let front : frame_at bytes 0 ≡ (slave, pdu) = rw (frame_append slave pdu rest) (front_of slave pdu _ (good_front slave (sum % 256) (sum / 256) pdu rest has (omega arith))) in
+    let front : frame_at bytes 0 ≡ message slave pdu = rw (frame_append slave pdu rest) (front_of slave pdu _ (good_front slave (sum % 256) (sum / 256) pdu rest has (omega arith))) in
     let later : map (frame_at bytes) (map (λ f. n + overhead + f) frames) ≡ messages = frames_later bytes (n + overhead) frames ∙ ap (λ xs. map (frame_at xs) frames) left ∙ are in (
       0 ∷ map (λ f. n + overhead + f) frames,
       subst (λ s. Reads bytes 0 (0 ∷ map (λ f. n + overhead + f) frames) s) end (takes n good moved),
@@ -115,19 +117,19 @@ one_more slave pdu rest messages has (frames, reads, are, used) =
       used_by bytes rest frames n good left used,
     )
 
-all_read : (messages : List (ℕ × List ℕ)) → AllByRecursion HasHead messages → ReadsAll (stream_of messages) messages
+all_read : (messages : List SlavePdu) → AllByRecursion HasHead messages → ReadsAll (stream_of messages) messages
 all_read [] has = ([], stops (omega arith) verdict_of-nil, refl, λ i bad free. open_bad (ap verdict_of (drop_all i [] (omega arith)) ∙ verdict_of-nil) bad)
   where
     open_bad : {v : Verdict} → v ≡ Open → v ≡ Bad → ⊥
     open_bad o b = cc
-all_read (message ∷ messages) has = one_more message.0 message.1 (stream_of messages) messages has.0 (all_read messages has.1)
+all_read (message ∷ messages) has = one_more message.header message.pdu (stream_of messages) messages has.0 (all_read messages has.1)
 
 -- Frames one after another, each of the length that its head says, are the leftmost frames, and the stop is the end.
-pub stream_read : (messages : List (ℕ × List ℕ)) → AllByRecursion HasHead messages → IsWholeReading (stream_of messages) messages
+pub stream_read : (messages : List SlavePdu) → AllByRecursion HasHead messages → IsWholeReading (stream_of messages) messages
 stream_read messages has = let r = all_read messages has in (r.0, leftmost_from_reads (stream_of messages) r.1, sym r.2)
 
 -- So they are a quiet line.
-pub stream_quiet : (messages : List (ℕ × List ℕ)) → AllByRecursion HasHead messages → IsQuietLine (stream_of messages) messages
+pub stream_quiet : (messages : List SlavePdu) → AllByRecursion HasHead messages → IsQuietLine (stream_of messages) messages
 stream_quiet messages has =
     let r = all_read messages has in record {
       frames = r.0;

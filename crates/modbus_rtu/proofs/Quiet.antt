@@ -3,6 +3,7 @@ use Rattle.std.proofs.Common.{◌≡◌, inl, inr, ℕ, ◌+◌, ◌<◌, ◌≤
 use Rattle.std.proofs.lemmas.Grind.{common_steps}
 use Rattle.std.proofs.lemmas.List.{take-append-drop, map-append}
 use Rattle.std.proofs.lemmas.List.Elements.{All-contains, Contains-append_cases}
+use Rattle.modbus_pdu.specs.SlavePdu.{SlavePdu}
 use Rattle.modbus_rtu.specs.declared.verdict.Verdict.TheVariants.{Bad, Good}
 use Rattle.modbus_rtu.specs.Frame.{verdict}
 use Rattle.modbus_rtu.specs.Leftmost.{IsLeftmost, IsUncovered}
@@ -16,7 +17,7 @@ use Rattle.modbus_rtu.proofs.Places.{Passes-append, passes_of_reads, rest_of}
 use Rattle.modbus_rtu.proofs.Fronts.{frames_same, frames_around}
 use Rattle.modbus_rtu.specs.Limits.{max_retries}
 
-module _ (read rest : List ℕ) (messages : List (ℕ × List ℕ)) (quiet : IsQuietLine (read ++ rest) messages) where
+module _ (read rest : List ℕ) (messages : List SlavePdu) (quiet : IsQuietLine (read ++ rest) messages) where
   whole : Reads (read ++ rest) 0 quiet.frames (length (read ++ rest))
   whole = reads_from_leftmost (read ++ rest) quiet.reading
 
@@ -52,7 +53,7 @@ module _ (read rest : List ℕ) (messages : List (ℕ × List ℕ)) (quiet : IsQ
       no_crowd_at (take b read) (take e read) (drop e read ++ rest)
       (sym (append_assoc (take e read) (drop e read) rest) ∙ ap (λ front. front ++ rest) (take-append-drop e read)) k c
 
-  pub taken_of_these : (cuts : List ℕ) (before : List (ℕ × List ℕ)) (message : ℕ × List ℕ) → IsTakenNext read cuts before message → (later : List (ℕ × List ℕ)) × (messages ≡ (before ++ message ∷ []) ++ later)
+  pub taken_of_these : (cuts : List ℕ) (before : List SlavePdu) (message : SlavePdu) → IsTakenNext read cuts before message → (later : List SlavePdu) × (messages ≡ (before ++ message ∷ []) ++ later)
   taken_of_these cuts before message t =
       let r = reading read 0 (omega arith) in
       let l : IsLeftmost read r.0 r.1 = leftmost_from_reads read r.2 in
@@ -71,7 +72,7 @@ module _ (read rest : List ℕ) (messages : List (ℕ × List ℕ)) (quiet : IsQ
       )
 
 -- once all is read, nothing is held
-pub none_held : (read cuts left : List ℕ) (messages before : List (ℕ × List ℕ)) → IsQuietLine read messages → IsUsedUp read cuts left before → left ≡ []
+pub none_held : (read cuts left : List ℕ) (messages before : List SlavePdu) → IsQuietLine read messages → IsUsedUp read cuts left before → left ≡ []
 none_held read cuts left messages before quiet u =
     let stop : length read ≡ u.stop = (reads_same (reads_from_leftmost read quiet.reading) refl (reads_from_leftmost read u.reading)).1 in
     u.holds ∙ rw (← stop) (grind (arith, common_steps))

@@ -4,6 +4,7 @@ use Rattle.std.specs.Prelude.{slice_get}
 use Rattle.std.specs.Option.{option_map}
 use Rattle.std.proofs.lemmas.List.{take_at, take-append-drop, get_or-append_right, length-take-le}
 use Rattle.std.proofs.lemmas.Bool.{le-leb, leb-true, ltb-false, eqb-true}
+use Rattle.modbus_pdu.specs.Message.{message}
 use Rattle.modbus_rtu.specs.declared.verdict.Verdict.TheVariants.{Open, Good}
 use Rattle.modbus_rtu.specs.Checksum.{crc}
 use Rattle.modbus_rtu.specs.Frame.{Head, frame}
@@ -129,7 +130,7 @@ by_rule code slave pdu identification e = by_mei code slave pdu (slice_get (slav
 by_rule code slave pdu unknown e = not_held code slave pdu e
 
 -- only such a function has a head that is the length of what follows the slave address
-told_of : (slave : ℕ) (pdu : List ℕ) → HasResponseHead (slave, pdu) → IsToldHead (slave ∷ pdu)
+told_of : (slave : ℕ) (pdu : List ℕ) → HasResponseHead (message slave pdu) → IsToldHead (slave ∷ pdu)
 unfolding response_head
 told_of slave [] has = cc
 told_of slave (code ∷ rest) has = (code, refl, by_rule code slave (code ∷ rest) (response_rule code) has)
@@ -144,10 +145,10 @@ told_again whole more unknown told = told
 told_head_again : (whole more : List ℕ) → IsToldHead whole → IsToldHead (whole ++ more)
 told_head_again whole more (code, at, told) = (code, got_again whole more 1 code at, told_again whole more (response_rule code) told)
 
-head_of_body : (slave : ℕ) (pdu more : List ℕ) → HasResponseHead (slave, pdu) → response_head ((slave ∷ pdu) ++ more) ≡ Ok (Some (length pdu))
+head_of_body : (slave : ℕ) (pdu more : List ℕ) → HasResponseHead (message slave pdu) → response_head ((slave ∷ pdu) ++ more) ≡ Ok (Some (length pdu))
 head_of_body slave pdu more has = head_stays (slave ∷ pdu) more (told_head_again (slave ∷ pdu) more (told_of slave pdu has)) (λ o. cc (o, has)) ∙ has
 
-good_front : (slave low high : ℕ) (pdu rest : List ℕ) → HasResponseHead (slave, pdu) → crc (slave ∷ pdu) ≡ low + 256 * high → response_verdict ((slave ∷ pdu) ++ (low ∷ high ∷ rest)) ≡ Good (length pdu)
+good_front : (slave low high : ℕ) (pdu rest : List ℕ) → HasResponseHead (message slave pdu) → crc (slave ∷ pdu) ≡ low + 256 * high → response_verdict ((slave ∷ pdu) ++ (low ∷ high ∷ rest)) ≡ Good (length pdu)
 unfolding response_verdict
 good_front slave low high pdu rest has sum =
     let body = slave ∷ pdu in
@@ -163,19 +164,19 @@ good_front slave low high pdu rest has sum =
     sym (judged_good adu (response_head adu) n (sym is) (omega (arith, length-append body (low ∷ high ∷ rest))) (ap crc taken ∙ sum ∙ omega (arith, first, second)))
 
 -- a frame is good, whatever follows it
-pub frame_good : (slave : ℕ) (pdu more : List ℕ) → HasResponseHead (slave, pdu) → response_verdict (frame slave pdu ++ more) ≡ Good (length pdu)
+pub frame_good : (slave : ℕ) (pdu more : List ℕ) → HasResponseHead (message slave pdu) → response_verdict (frame slave pdu ++ more) ≡ Good (length pdu)
 frame_good slave pdu more has =
     let sum = crc (slave ∷ pdu) in
     ap response_verdict (frame_append slave pdu more) ∙ good_front slave (sum % 256) (sum / 256) pdu more has (omega arith)
 
-told_frame : (slave : ℕ) (pdu : List ℕ) → HasResponseHead (slave, pdu) → IsToldHead (frame slave pdu) × (response_head (frame slave pdu) ≡ Ok (Some (length pdu)))
+told_frame : (slave : ℕ) (pdu : List ℕ) → HasResponseHead (message slave pdu) → IsToldHead (frame slave pdu) × (response_head (frame slave pdu) ≡ Ok (Some (length pdu)))
 unfolding frame
 told_frame slave pdu has =
     let sums = crc (slave ∷ pdu) % 256 ∷ crc (slave ∷ pdu) / 256 ∷ [] in
     (told_head_again (slave ∷ pdu) sums (told_of slave pdu has), head_of_body slave pdu sums has)
 
 -- each front of it is open
-pub front_open : (slave : ℕ) (pdu : List ℕ) (k : ℕ) → HasResponseHead (slave, pdu) → k < length pdu + overhead → response_verdict (take k (frame slave pdu)) ≡ Open
+pub front_open : (slave : ℕ) (pdu : List ℕ) (k : ℕ) → HasResponseHead (message slave pdu) → k < length pdu + overhead → response_verdict (take k (frame slave pdu)) ≡ Open
 unfolding response_verdict
 front_open slave pdu k has short = go (response_head front) refl
   where

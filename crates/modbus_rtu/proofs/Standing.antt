@@ -3,6 +3,8 @@ use Rattle.std.proofs.Common.{◌≡◌, ◌⊎◌, inl, inr, ℕ, ◌+◌, ◌-
 use Rattle.std.specs.Prelude.{Contains, slice_index}
 use Rattle.std.proofs.lemmas.Bool.{cases_lt}
 use Rattle.std.proofs.lemmas.List.{map-append, take-append-drop, take-take, take_all, take_at, take-append-le, drop-append-le, drop-drop, get_or-drop}
+use Rattle.modbus_pdu.specs.SlavePdu.{SlavePdu}
+use Rattle.modbus_pdu.specs.Message.{message}
 use Rattle.modbus_rtu.specs.declared.verdict.Verdict.TheVariants.{Good}
 use Rattle.modbus_rtu.specs.declared.search.Next.TheVariants.{Frame, Waiting, TooManyRetries}
 use Rattle.modbus_rtu.specs.Frame.{verdict}
@@ -142,12 +144,12 @@ stop_of_front e cut bytes first last le s s' =
     stop_rises (take e bytes) (drop e (take cut bytes)) first last s (rw split s')
 
 -- the frame as it stands in the held bytes
-frame_held : (bytes : List ℕ) (place start n : ℕ) → verdict bytes (place + start) ≡ Good n → frame_at bytes (place + start) ≡ (slice_index (drop place bytes) start, take n (drop (start + 1) (drop place bytes)))
+frame_held : (bytes : List ℕ) (place start n : ℕ) → verdict bytes (place + start) ≡ Good n → frame_at bytes (place + start) ≡ message (slice_index (drop place bytes) start) (take n (drop (start + 1) (drop place bytes)))
 frame_held bytes place start n good =
     let e : place + (start + 1) ≡ place + start + 1 = omega arith in
     rw (good, get_or-drop place bytes start 0, drop-drop (start + 1) place bytes, e) refl
 
-module _ (bytes cuts held : List ℕ) (taken : List (ℕ × List ℕ)) (s : StandsFor bytes cuts held taken) where
+module _ (bytes cuts held : List ℕ) (taken : List SlavePdu) (s : StandsFor bytes cuts held taken) where
   whole : take (last_cut 0 cuts) bytes ≡ bytes
   whole = take_all (last_cut 0 cuts) bytes (omega (arith, s.are_cuts.all))
 
@@ -172,7 +174,7 @@ module _ (bytes cuts held : List ℕ) (taken : List (ℕ × List ℕ)) (s : Stan
     ]
   ]
 
-  pub stands_frame : (start n : ℕ) → IsNext held (Frame start n) → StandsFor bytes cuts (drop (start + (n + overhead)) held) (taken ++ (slice_index held start, take n (drop (start + 1) held)) ∷ [])
+  pub stands_frame : (start n : ℕ) → IsNext held (Frame start n) → StandsFor bytes cuts (drop (start + (n + overhead)) held) (taken ++ message (slice_index held start) (take n (drop (start + 1) held)) ∷ [])
   stands_frame start n next =
       let step = frame_step (last_cut_but_one 0 cuts) bytes s.place start n s.at (rw s.holds at next) in
       record {
@@ -183,11 +185,11 @@ module _ (bytes cuts held : List ℕ) (taken : List (ℕ × List ℕ)) (s : Stan
         calm = no_crowd (s.place + start + (n + overhead)) (omega arith) step.calm;
         took = λ frames stop l.
             rw (step.frames frames stop l, map-append (frame_at bytes) (frames_below s.place frames) ((s.place + start) ∷ []), frame_held bytes s.place start n step.good, ← s.holds)
-            (ap (λ xs. xs ++ (slice_index held start, take n (drop (start + 1) held)) ∷ []) (s.took frames stop l));
+            (ap (λ xs. xs ++ message (slice_index held start) (take n (drop (start + 1) held)) ∷ []) (s.took frames stop l));
       }
 
   -- the frame that was taken off is the next one of the reading
-  pub next_taken : (start n : ℕ) → IsNext held (Frame start n) → IsTakenNext bytes cuts taken (slice_index held start, take n (drop (start + 1) held))
+  pub next_taken : (start n : ℕ) → IsNext held (Frame start n) → IsTakenNext bytes cuts taken (message (slice_index held start) (take n (drop (start + 1) held)))
   next_taken start n next =
       let step = frame_step (last_cut_but_one 0 cuts) bytes s.place start n s.at (rw s.holds at next) in
       record {

@@ -1,6 +1,7 @@
 -- What the decoders take out of a buffer, and what then stands in it and in the record of dropped bytes.
 use Rattle.std.specs.Prelude.{◌≡◌, ◌≢◌, ℕ, ◌+◌, ◌*◌, ◌<◌, ◌≤◌, if◌then◌else◌, nat_lt, List, [], ◌∷◌, ◌++◌, fold, length, take, drop, slice_index, Option, Some, None, Result, Ok, Err, IsOkAnd}
 use Rattle.modbus_pdu.specs.SlavePdu.{SlavePdu}
+use Rattle.modbus_pdu.specs.Message.{message}
 use Rattle.modbus_frame.specs.declared.fault.Reason.{Reason}
 use Rattle.modbus_frame.specs.declared.fault.PduError.{PduError}
 use Rattle.modbus_frame.specs.declared.fault.PduError.TheVariants as pdu_errors
@@ -25,7 +26,7 @@ with_all_dropped dropped bytes = fold with_dropped dropped bytes
 -- Bytes that begin with a frame whose PDU has n bytes: its slave address and its PDU, the checksum of these, and the checksum that
 -- stands in the frame, the low byte first (MODBUS over Serial Line V1.02, section 2.5.1).
 abbrev pub frame_with : ℕ → List ℕ → SlavePdu
-frame_with n bytes = (slice_index bytes 0, take n (drop 1 bytes))
+frame_with n bytes = message (slice_index bytes 0) (take n (drop 1 bytes))
 
 abbrev pub sum_made : ℕ → List ℕ → ℕ
 sum_made n bytes = crc (take (n + 1) bytes)
@@ -36,9 +37,9 @@ sum_sent n bytes = slice_index bytes (n + 1) + 256 * slice_index bytes (n + 2)
 -- From the buffer and the record before, what a decoder answers that is told the length n of the PDU, and the buffer and the record
 -- after. A frame that is there with a right checksum is given; it leaves the buffer, and the record is emptied. Else nothing
 -- changes: where the frame isn't whole, where its checksum is wrong, and where memory is wanting for it.
-abbrev pub DecodesFrame : ℕ → List ℕ → List ℕ → Result (Option SlavePdu) FrameFault → List ℕ → List ℕ → Type 0
+abbrev pub DecodesFrame : ℕ → List ℕ → List ℕ → Result (Option (ℕ × List ℕ)) FrameFault → List ℕ → List ℕ → Type 0
 DecodesFrame n old before (Ok (Some frame)) new after =
-    (n + overhead ≤ length old) × (sum_made n old ≡ sum_sent n old) × (frame ≡ frame_with n old) × (new ≡ drop (n + overhead) old) × (after ≡ [])
+    (n + overhead ≤ length old) × (sum_made n old ≡ sum_sent n old) × (message frame.0 frame.1 ≡ frame_with n old) × (new ≡ drop (n + overhead) old) × (after ≡ [])
 DecodesFrame n old before (Ok None) new after = (length old < n + overhead) × (new ≡ old) × (after ≡ before)
 DecodesFrame n old before (Err (fault.Crc mismatch)) new after =
     (n + overhead ≤ length old) × (sum_made n old ≢ sum_sent n old) × (mismatch.expected ≡ sum_sent n old) × (mismatch.actual ≡ sum_made n old) × (new ≡ old) × (after ≡ before)
@@ -48,9 +49,9 @@ DecodesFrame n old before (Err fault.NoMemory) new after =
 -- The same of a decoder that looks for the next frame, by what judges the bytes from an offset on. The frame is given with all
 -- bytes before it; where the search waits, the bad offsets before the open one are dropped; `max_retries` bad offsets are dropped
 -- too. Where memory is wanting for a frame, the bad offsets before it are dropped, and it stays.
-abbrev pub DecodesBy : (List ℕ → Verdict) → List ℕ → List ℕ → Result (Option SlavePdu) RtuError → List ℕ → List ℕ → Type 0
+abbrev pub DecodesBy : (List ℕ → Verdict) → List ℕ → List ℕ → Result (Option (ℕ × List ℕ)) RtuError → List ℕ → List ℕ → Type 0
 DecodesBy judge old before (Ok (Some frame)) new after =
-    (start : ℕ) × (n : ℕ) × IsNextBy judge old (Frame start n) × (frame ≡ (slice_index old start, take n (drop (start + 1) old))) × (new ≡ drop (start + (n + overhead)) old) × (after ≡ [])
+    (start : ℕ) × (n : ℕ) × IsNextBy judge old (Frame start n) × (message frame.0 frame.1 ≡ message (slice_index old start) (take n (drop (start + 1) old))) × (new ≡ drop (start + (n + overhead)) old) × (after ≡ [])
 DecodesBy judge old before (Ok None) new after =
     (bad : ℕ) × IsNextBy judge old (Waiting bad) × (new ≡ drop bad old) × (after ≡ with_all_dropped before (take bad old))
 DecodesBy judge old before (Err errors.TooManyRetries) new after =

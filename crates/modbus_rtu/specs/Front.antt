@@ -1,6 +1,7 @@
 -- What stands at the front of the bytes that a reader holds.
 use Rattle.std.specs.Prelude.{◌≡◌, ℕ, ◌+◌, ◌<◌, ◌≤◌, List, [], ◌∷◌, ◌++◌, length, take, drop, slice_index, Result, Ok, Err}
 use Rattle.modbus_pdu.specs.SlavePdu.{SlavePdu}
+use Rattle.modbus_pdu.specs.Message.{message}
 use Rattle.modbus_rtu.specs.declared.verdict.Verdict.{Verdict}
 use Rattle.modbus_rtu.specs.declared.verdict.Verdict.TheVariants.{Open}
 use Rattle.modbus_rtu.specs.declared.search.Next.TheVariants as next
@@ -28,7 +29,7 @@ FindsFrame held result = FindsFrameBy verdict_of max_frame held result
 -- what this says of the bytes that were given so far, and what the bytes behind it then stand for
 abbrev pub FindsFrameIn : List ℕ → List ℕ → List SlavePdu → List ℕ → Result (Front ℕ) Crowd → Type 0
 FindsFrameIn bytes cuts taken held (Ok (front.Message slave pdu end)) =
-    StandsFor bytes cuts (drop end held) (taken ++ (slave, pdu.now) ∷ []) × IsTakenNext bytes cuts taken (slave, pdu.now)
+    StandsFor bytes cuts (drop end held) (taken ++ message slave pdu.now ∷ []) × IsTakenNext bytes cuts taken (message slave pdu.now)
 FindsFrameIn bytes cuts taken held (Ok (front.Waiting dropped)) =
     StandsFor bytes cuts (drop dropped held) taken × IsUsedUp bytes cuts (drop dropped held) taken × (verdict (drop dropped held) 0 ≡ Open)
 FindsFrameIn bytes cuts taken held (Err crowd) = (k : ℕ) × IsFirstCrowd bytes cuts taken k

@@ -1,6 +1,7 @@
 -- What one call of an inbox does.
 use Rattle.std.specs.Prelude.{◌≡◌, ℕ, ◌+◌, List, [], ◌∷◌, ◌++◌, take, drop, slice_index, Option, Some, None, Result, Ok, Err}
 use Rattle.modbus_pdu.specs.SlavePdu.{SlavePdu}
+use Rattle.modbus_pdu.specs.Message.{message}
 use Rattle.modbus_rtu.specs.declared.verdict.Verdict.TheVariants.{Open}
 use Rattle.modbus_rtu.specs.declared.search.Next.TheVariants.{Frame, Waiting, TooManyRetries}
 use Rattle.modbus_rtu.specs.declared.inbox.RtuFrame.{RtuFrame}
@@ -13,13 +14,13 @@ use Rattle.modbus_rtu.specs.Limits.{overhead, max_retries}
 
 -- the slave address and the PDU of a frame
 abbrev pub slave_and_pdu : RtuFrame → SlavePdu
-slave_and_pdu frame = (frame.slave, frame.pdu.items)
+slave_and_pdu frame = message frame.slave frame.pdu.items
 
 -- From the bytes held before, what is answered, and the bytes held after: a frame is taken off with all bytes before it; where the
 -- search waits, the bad offsets before the open one are dropped; `max_retries` bad offsets are dropped too.
 abbrev pub TakesFrame : List ℕ → Result (Option RtuFrame) RtuError → List ℕ → Type 0
 TakesFrame old (Ok (Some frame)) new =
-    (start : ℕ) × (n : ℕ) × IsNext old (Frame start n) × (slave_and_pdu frame ≡ (slice_index old start, take n (drop (start + 1) old))) × (new ≡ drop (start + (n + overhead)) old)
+    (start : ℕ) × (n : ℕ) × IsNext old (Frame start n) × (slave_and_pdu frame ≡ message (slice_index old start) (take n (drop (start + 1) old))) × (new ≡ drop (start + (n + overhead)) old)
 TakesFrame old (Ok None) new = (dropped : ℕ) × IsNext old (Waiting dropped) × (new ≡ drop dropped old)
 TakesFrame old (Err errors.TooManyRetries) new = IsNext old TooManyRetries × (new ≡ drop max_retries old)
 TakesFrame old (Err (errors.Invalid reason)) new = ⊥

@@ -94,7 +94,7 @@ response_head adu = response_head_at adu (slice_get adu 1)
 
 -- a slave address and the PDU of a response whose first bytes tell its length
 abbrev pub HasResponseHead : SlavePdu → Type 0
-HasResponseHead message = response_head (message.0 ∷ message.1) ≡ Ok (Some (length message.1))
+HasResponseHead message = response_head (message.header ∷ message.pdu) ≡ Ok (Some (length message.pdu))
 
 -- what stands at the front of a list that is read as a response
 unfoldable pub response_verdict : List ℕ → Verdict

@@ -2,6 +2,7 @@
 -- gave away.
 use Rattle.std.specs.Prelude.{◌≡◌, ℕ, ◌+◌, ◌-◌, ◌<◌, ◌≤◌, List, map, take, drop, slice_index, Contains}
 use Rattle.modbus_pdu.specs.SlavePdu.{SlavePdu}
+use Rattle.modbus_pdu.specs.Message.{message}
 use Rattle.modbus_link.specs.Reads.{last_cut_but_one, IsRead, AreCuts}
 use Rattle.modbus_rtu.specs.declared.verdict.Verdict.{Verdict}
 use Rattle.modbus_rtu.specs.declared.verdict.Verdict.TheVariants.{Open, Bad, Good}
@@ -17,7 +18,7 @@ pdu_len_of Bad = 0
 pdu_len_of (Good n) = n
 
 abbrev pub frame_at : List ℕ → ℕ → SlavePdu
-frame_at bytes f = (slice_index bytes f, take (pdu_len_of (verdict bytes f)) (drop (f + 1) bytes))
+frame_at bytes f = message (slice_index bytes f) (take (pdu_len_of (verdict bytes f)) (drop (f + 1) bytes))
 
 -- one of the reads brought a crowd that begins at k
 abbrev pub HasCrowd : List ℕ → List ℕ → ℕ → Type 0

@@ -4,17 +4,18 @@ use Rattle.modbus_pdu.specs.SlavePdu.{SlavePdu}
 use Rattle.modbus_frame.specs.Meaning.{Asked, Custom}
 use Rattle.modbus_pdu.specs.Encodes.{Fits}
 use Rattle.modbus_pdu.specs.RequestPdu.{request_pdu}
+use Rattle.modbus_pdu.specs.Message.{message}
 use Rattle.modbus_rtu.specs.Frame.{head, frame}
 use Rattle.modbus_rtu.specs.Leftmost.{IsLeftmost}
 use Rattle.modbus_rtu.specs.Stands.{frame_at}
 
 -- a slave address and a PDU whose first bytes tell its length
 abbrev pub HasHead : SlavePdu → Type 0
-HasHead message = head (message.0 ∷ message.1) ≡ Ok (Some (length message.1))
+HasHead message = head (message.header ∷ message.pdu) ≡ Ok (Some (length message.pdu))
 
 -- their frames, one after another
 abbrev pub stream_of : List SlavePdu → List ℕ
-stream_of messages = flat_map (λ message. frame message.0 message.1) messages
+stream_of messages = flat_map (λ message. frame message.header message.pdu) messages
 
 -- the leftmost reading delivers exactly these, and stops where the bytes end
 abbrev pub IsWholeReading : List ℕ → List SlavePdu → Type 0
@@ -31,4 +32,4 @@ IsFramedAsk asked = IsModelledAsk asked × Fits (request_pdu asked)
 
 -- a request for a slave, as the slave address and the PDU of its frame
 abbrev pub message_of : ℕ × Asked → SlavePdu
-message_of asked = (asked.0, request_pdu asked.1)
+message_of asked = message asked.0 (request_pdu asked.1)

@@ -3,6 +3,7 @@
 //! A line carries noise: where no frame stands at the front of the buffer, a decoder drops a byte and looks again. The bytes that it
 //! dropped since its last frame are recorded.
 ghost use Rattle.std.specs.Prelude.{◌≡◌, ℕ, ◌+◌, ◌<◌, ◌≤◌, Ok, None, List, [], ◌↔◌, length, take, drop, slice_index, IsOk, IfOk, IfErr, OnOk, OnErr};
+ghost use Rattle.modbus_pdu.specs.Message.{message};
 ghost use Rattle.modbus_rtu.specs.Frame.{judged_by};
 ghost use Rattle.modbus_rtu.specs.Decoder.{with_dropped, with_all_dropped, frame_with, sum_made, sum_sent, DecodesFrame, DecodesBy};
 ghost use Rattle.modbus_rtu.specs.declared.decoder.FrameFault.TheVariants as fault;
@@ -75,7 +76,8 @@ impl Default for FrameDecoder {
 /// Takes the frame off the front of a buffer: its slave address, and its PDU.
 fn take_frame(buf: &mut BytesMut, pdu_len: usize) -> Result<(SlaveId, Bytes), AllocError>
     requires { pdu_len + overhead ≤ length buf.old.items }
-    ensures ok { IfOk result (λ frame. frame ≡ frame_with pdu_len buf.old.items) }
+    ensures ok { IfOk result (λ frame. message frame.0 frame.1 ≡ frame_with pdu_len
+        buf.old.items) }
     ensures rest { OnOk result (buf.new.items ≡ drop (pdu_len + overhead) buf.old.items) }
     ensures err { OnErr result (buf.new.items ≡ buf.old.items) }
 {

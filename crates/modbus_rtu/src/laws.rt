@@ -2,6 +2,7 @@
 ghost use Rattle.std.specs.Prelude.{◌*◌, ◌≡◌, ◌≢◌, ◌↔◌, ℕ, ◌+◌, ◌-◌, ◌/◌, ◌%◌, ◌^◌, bit_xor, ◌<◌, ◌≤◌, All, Contains, List, [], ◌∷◌, ◌++◌, map, length, take, drop, get_or, slice_index};
 ghost use Rattle.std.specs.List.{AllByRecursion};
 ghost use Rattle.modbus_pdu.specs.SlavePdu.{SlavePdu};
+ghost use Rattle.modbus_pdu.specs.Message.{message};
 ghost use Rattle.modbus_rtu.specs.declared.verdict.Verdict.{Verdict};
 ghost use Rattle.modbus_rtu.specs.declared.verdict.Verdict.TheVariants.{Open, Bad, Good};
 ghost use Rattle.modbus_rtu.specs.declared.search.Next.{Next};
@@ -62,9 +63,9 @@ pub fn responses_by_front()
 
 /// The frame of a response whose first bytes tell its length is read whatever follows it, and each shorter front of it waits.
 pub fn responses_in_pieces()
-    ensures frame { (slave : ℕ) (pdu more : List ℕ) → HasResponseHead (slave, pdu)
+    ensures frame { (slave : ℕ) (pdu more : List ℕ) → HasResponseHead (message slave pdu)
         → response_verdict (frame slave pdu ++ more) ≡ Good (length pdu) }
-    ensures front { (slave : ℕ) (pdu : List ℕ) (k : ℕ) → HasResponseHead (slave, pdu)
+    ensures front { (slave : ℕ) (pdu : List ℕ) (k : ℕ) → HasResponseHead (message slave pdu)
         → k < length pdu + overhead → response_verdict (take k (frame slave pdu)) ≡ Open }
 {}
 
@@ -155,7 +156,7 @@ pub fn standing()
     ensures frame { (bytes cuts held : List ℕ) (taken : List SlavePdu) (start n : ℕ)
         → StandsFor bytes cuts held taken → IsNext held (Frame start n)
         → StandsFor bytes cuts (drop (start + (n + overhead)) held)
-        (taken ++ (slice_index held start, take n (drop (start + 1) held)) ∷ []) }
+        (taken ++ message (slice_index held start) (take n (drop (start + 1) held)) ∷ []) }
 
     // or drops the bad offsets before an open one; then all delivered frames are taken.
     ensures waiting { (bytes cuts held : List ℕ) (taken : List SlavePdu) (dropped : ℕ)

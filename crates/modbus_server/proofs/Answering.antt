@@ -9,12 +9,13 @@ use Rattle.modbus_frame.specs.declared.response.Response.{Response}
 use Rattle.modbus_frame.specs.declared.response.ExceptionResponse.{ExceptionResponse}
 use Rattle.modbus_pdu.specs.Encodes.{Encodes}
 use Rattle.modbus_pdu.specs.ResponsePdu.{response_pdu, response_result_pdu}
+use Rattle.modbus_pdu.specs.Message.{Message, message}
 use Rattle.modbus_server.specs.declared.error.NextError.{NextError}
 use Rattle.modbus_server.specs.declared.error.NextError.TheVariants.{Broken, Refused, TooLong, NoMemory}
 use Rattle.modbus_server.specs.declared.error.Next.{Next}
 use Rattle.modbus_server.specs.declared.error.Next.TheVariants.{Reply, Silent, Waiting}
 use Rattle.modbus_service.specs.Outcome.{Outcome, silence, reply, exception, reply_pdu, code_of}
-use Rattle.modbus_server.specs.Framing.{Framing, Message}
+use Rattle.modbus_server.specs.Framing.{Framing}
 use Rattle.modbus_service.specs.Answering.{Answering}
 use Rattle.modbus_server.specs.Exchanges.{Exchange, Question, ReplyFits, framed_outcome}
 use Rattle.modbus_server.specs.Answer.{Answered, FramesAs, AnswersAs}
@@ -53,20 +54,20 @@ module _ (F : Framing) where
 
   module _ {S : Type 0} (A : Answering S) where
     pub answered : (header : F.Header) (pdu : List ℕ) (old new : S) (request : Asked) (outcome : Outcome)
-        → F.request_of pdu ≡ Ok request → A.gives old (F.slave header) request outcome new → Answered F A (header, pdu) old new (exchange header request outcome)
+        → F.request_of pdu ≡ Ok request → A.gives old (F.slave header) request outcome new → Answered F A (message header pdu) old new (exchange header request outcome)
     answered header pdu old new request outcome e step = record { asked = ap (λ r. (header, r)) e; step = step }
 
     -- the service gave an answer that is not silent, with this PDU
-    abbrev pub Gave : Message F → S → Result Response ExceptionResponse → S → Type 0
+    abbrev pub Gave : Message F.Header → S → Result Response ExceptionResponse → S → Type 0
     Gave message old given new =
         (x : Exchange F) × Answered F A message old new x × (x.outcome ≢ silence) × (reply_pdu (code_of x.request) x.outcome ≡ response_result_pdu given)
 
     -- the reply of an exchange that is not silent was framed, or is too long
-    pub framed_as : {E : Type 0} (message : Message F) (old new : S) (given : Result Response ExceptionResponse) (result : Result Next (NextError E)) (made : List ℕ)
-        → Gave message old given new → FramesAs F message.0 given result made → AnswersAs F A message old result new made
+    pub framed_as : {E : Type 0} (message : Message F.Header) (old new : S) (given : Result Response ExceptionResponse) (result : Result Next (NextError E)) (made : List ℕ)
+        → Gave message old given new → FramesAs F message.header given result made → AnswersAs F A message old result new made
     framed_as message old new given (Ok Reply) made (x, answer, some, is) (fits, e) =
         let same = ap length is in
-        let to : message.0 ≡ x.header = ap (λ (q : Question F). q.0) answer.asked in
+        let to : message.header ≡ x.header = ap (λ (q : Question F). q.0) answer.asked in
         (x, answer, omega (arith, same, fits), some, e ∙ ap (λ h. F.adu h (response_result_pdu given)) to ∙ ap (F.adu x.header) (sym is) ∙ sym (framed_some x.header (code_of x.request) x.outcome some))
     framed_as message old new given (Err (TooLong size)) made (x, answer, some, is) (long, e) =
         let same = ap length is in
@@ -77,6 +78,6 @@ module _ (F : Framing) where
     framed_as message old new given (Err (Refused reason)) made gave frames = absurd frames
     framed_as message old new given (Err NoMemory) made gave frames = absurd frames
 
-    pub silent : (E : Type 0) (message : Message F) (old new : S) (made : List ℕ) (x : Exchange F) → Answered F A message old new x → x.outcome ≡ silence → made ≡ []
+    pub silent : (E : Type 0) (message : Message F.Header) (old new : S) (made : List ℕ) (x : Exchange F) → Answered F A message old new x → x.outcome ≡ silence → made ≡ []
         → AnswersAs F {E = E} A message old (Ok Silent) new made
     silent E message old new made x done quiet none = (x, done, quiet_fits x quiet, quiet, none)

@@ -4,7 +4,8 @@ use Rattle.std.specs.Prelude.{All, Contains}
 use Rattle.std.proofs.lemmas.List.Elements.{All-contains, Contains-append_right}
 use Rattle.modbus_frame.specs.declared.fault.Reason.{Reason}
 use Rattle.modbus_pdu.specs.Limits.{max_pdu}
-use Rattle.modbus_server.specs.Framing.{Framing, Message}
+use Rattle.modbus_pdu.specs.Message.{Message}
+use Rattle.modbus_server.specs.Framing.{Framing}
 use Rattle.modbus_server.specs.Served.{Halt, remaining, broken, refused, too_long}
 use Rattle.modbus_server.specs.First.{IsFirst}
 use Rattle.modbus_server.specs.Exchanges.{Exchange, Question, ReplyFits, told_reply_size, asked_of, asks}
@@ -40,12 +41,12 @@ same_after (z ∷ xs) (w ∷ ys) x y later after e n =
     same_after xs ys x y later after rest (omega arith)
 
 -- none of the messages that were asked is refused
-pub no_refusal : (F : Framing) (earlier : List (Message F)) (message : Message F) (later : List (Message F)) (xs : List (Exchange F)) (reason : Reason)
-    → map (asked_of F) (earlier ++ message ∷ later) ≡ map (asks F) xs → F.request_of message.1 ≡ Err reason → ⊥
+pub no_refusal : (F : Framing) (earlier : List (Message F.Header)) (message : Message F.Header) (later : List (Message F.Header)) (xs : List (Exchange F)) (reason : Reason)
+    → map (asked_of F) (earlier ++ message ∷ later) ≡ map (asks F) xs → F.request_of message.pdu ≡ Err reason → ⊥
 no_refusal F [] message later [] reason e bad = cc
 no_refusal F [] message later (x ∷ xs) reason e bad =
     let first : asked_of F message ≡ asks F x = cc in
-    let ok : F.request_of message.1 ≡ Ok x.request = ap (λ (q : Question F). q.1) first in
+    let ok : F.request_of message.pdu ≡ Ok x.request = ap (λ (q : Question F). q.1) first in
     let clash : Err reason ≡ Ok x.request = sym bad ∙ ok in
     cc
 no_refusal F (m ∷ earlier) message later [] reason e bad = cc
@@ -54,7 +55,7 @@ no_refusal F (m ∷ earlier) message later (x ∷ xs) reason e bad =
     no_refusal F earlier message later xs reason rest bad
 
 -- as many were asked as there are exchanges
-pub as_many : (F : Framing) (messages : List (Message F)) (xs : List (Exchange F)) → map (asked_of F) messages ≡ map (asks F) xs → length messages ≡ length xs
+pub as_many : (F : Framing) (messages : List (Message F.Header)) (xs : List (Exchange F)) → map (asked_of F) messages ≡ map (asks F) xs → length messages ≡ length xs
 as_many F [] [] e = refl
 as_many F [] (x ∷ xs) e = cc
 as_many F (m ∷ messages) [] e = cc
@@ -74,9 +75,9 @@ within_front (f ∷ front) tail (z ∷ earlier) x later e less =
     (inner.0, cc (first, inner.1))
 
 -- a message that is refused was asked in no exchange
-pub asked_well : (F : Framing) (message : Message F) (x : Exchange F) (reason : Reason) → F.request_of message.1 ≡ Err reason → asked_of F message ≡ asks F x → ⊥
+pub asked_well : (F : Framing) (message : Message F.Header) (x : Exchange F) (reason : Reason) → F.request_of message.pdu ≡ Err reason → asked_of F message ≡ asks F x → ⊥
 asked_well F message x reason bad asked =
-    let ok : F.request_of message.1 ≡ Ok x.request = ap (λ (q : Question F). q.1) asked in
+    let ok : F.request_of message.pdu ≡ Ok x.request = ap (λ (q : Question F). q.1) asked in
     let clash : Err reason ≡ Ok x.request = sym bad ∙ ok in
     cc
 

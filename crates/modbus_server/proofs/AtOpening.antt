@@ -2,6 +2,7 @@
 use Rattle.std.proofs.Common.{◌≡◌, ℕ, List, [], ◌∷◌, map, refl, sym, ap, ◌∙◌, subst, Err, append-nil, inl, inr}
 use Rattle.std.specs.Prelude.{All}
 use Rattle.std.proofs.lemmas.List.Elements.{All-contains}
+use Rattle.modbus_pdu.specs.SlavePdu.{SlavePdu}
 use Rattle.modbus_rtu.specs.Leftmost.{IsLeftmost}
 use Rattle.modbus_rtu.specs.Stands.{frame_at}
 use Rattle.modbus_server.specs.declared.error.ProcessError.TheVariants.{NoMemory}
@@ -19,7 +20,7 @@ module _ {S : Type 0} (A : Answering S) where
   none_asked [] e = refl
   none_asked (x ∷ xs) e = cc
 
-  no_next : (bytes cuts : List ℕ) (taken : List (ℕ × List ℕ)) (old new : S) (frames : List ℕ) (stop : ℕ) → IsLeftmost bytes frames stop
+  no_next : (bytes cuts : List ℕ) (taken : List SlavePdu) (old new : S) (frames : List ℕ) (stop : ℕ) → IsLeftmost bytes frames stop
       → All (λ f. TakesNone rtu A (frame_at bytes f)) frames → NextTakesMemory rtu A bytes cuts taken old new → ⊥
   no_next bytes cuts taken old new frames stop reading none (message, next, (request, asked, wants)) =
       let free : TakesNone rtu A message = subst (TakesNone rtu A) next.is (All-contains (λ f. TakesNone rtu A (frame_at bytes f)) frames next.offset none (next.within frames stop reading)) in

@@ -8,10 +8,11 @@ use Rattle.modbus_link.specs.Runs.{RisesTo-count}
 use Rattle.modbus_frame.specs.declared.fault.Reason.{Reason}
 use Rattle.modbus_frame.specs.declared.server.Terminated.{Terminated}
 use Rattle.modbus_frame.specs.declared.server.Terminated.TheVariants.{Finished, Aborted}
+use Rattle.modbus_pdu.specs.Message.{Message}
 use Rattle.modbus_server.specs.declared.error.ProcessError.{ProcessError}
 use Rattle.modbus_server.specs.declared.error.ProcessError.TheVariants.{ReadFault, WriteFault, BytesRemaining, InvalidRequest, ResponseTooLong, TurnLimit, NoMemory}
 use Rattle.modbus_service.specs.Answering.{Answering}
-use Rattle.modbus_server.specs.Framing.{Framing, Message}
+use Rattle.modbus_server.specs.Framing.{Framing}
 use Rattle.modbus_server.specs.Exchanges.{ReplyFits, asked_of, asks}
 use Rattle.modbus_server.specs.Served.{Served, Halts, remaining, broken, refused, too_long, EndsAs}
 use Rattle.modbus_server.specs.Step.{EndsRead, spending_of, Ran}
@@ -22,13 +23,13 @@ use Rattle.modbus_server.proofs.Standing.{run_more}
 use Rattle.modbus_server.specs.Moment.{Moment, Watched, SignalMeaning}
 
 -- what a framing owes where bytes that were read begin a clean line
-pub record GoesOn (F : Framing) (read rest cuts : List ℕ) (messages : List (Message F)) : Type 0 where
-  pub unbroken : (before : List (Message F)) (fault : ProcessError) → F.IsBroken read cuts before fault → ⊥
-  pub next : (before : List (Message F)) (message : Message F) → F.IsNext read cuts before message → (later : List (Message F)) × (messages ≡ (before ++ message ∷ []) ++ later)
-  pub used : rest ≡ [] → (left : List ℕ) (before : List (Message F)) → F.IsAll read cuts left before → left ≡ []
+pub record GoesOn (F : Framing) (read rest cuts : List ℕ) (messages : List (Message F.Header)) : Type 0 where
+  pub unbroken : (before : List (Message F.Header)) (fault : ProcessError) → F.IsBroken read cuts before fault → ⊥
+  pub next : (before : List (Message F.Header)) (message : Message F.Header) → F.IsNext read cuts before message → (later : List (Message F.Header)) × (messages ≡ (before ++ message ∷ []) ++ later)
+  pub used : rest ≡ [] → (left : List ℕ) (before : List (Message F.Header)) → F.IsAll read cuts left before → left ≡ []
 
 module _ (F : Framing) {S : Type 0} (A : Answering S) (read rest cuts : List ℕ) (opening now : S) (written : List ℕ)
-    (messages : List (Message F)) (requests : All (IsRequest F) messages) (fit : RepliesFit F A opening messages) (on : GoesOn F read rest cuts messages) where
+    (messages : List (Message F.Header)) (requests : All (IsRequest F) messages) (fit : RepliesFit F A opening messages) (on : GoesOn F read rest cuts messages) where
   none_broken : (fault : ProcessError) → Served F A read cuts opening now written (broken fault) → ⊥
   none_broken fault s = by_halts s.halts
     where
@@ -91,10 +92,10 @@ module _ (F : Framing) {S : Type 0} (A : Answering S) (read rest cuts : List ℕ
 
 -- by the laws of its framing
 module _ (F : Framing)
-    (calm : (read rest cuts : List ℕ) (messages before : List (Message F)) (fault : ProcessError) → F.IsClean (read ++ rest) messages → F.IsBroken read cuts before fault → ⊥)
-    (next : (read rest cuts : List ℕ) (messages before : List (Message F)) (message : Message F) → F.IsClean (read ++ rest) messages → F.IsNext read cuts before message
-    → (later : List (Message F)) × (messages ≡ (before ++ message ∷ []) ++ later))
-    (used : (read cuts left : List ℕ) (messages before : List (Message F)) → F.IsClean read messages → F.IsAll read cuts left before → left ≡ []) where
+    (calm : (read rest cuts : List ℕ) (messages before : List (Message F.Header)) (fault : ProcessError) → F.IsClean (read ++ rest) messages → F.IsBroken read cuts before fault → ⊥)
+    (next : (read rest cuts : List ℕ) (messages before : List (Message F.Header)) (message : Message F.Header) → F.IsClean (read ++ rest) messages → F.IsNext read cuts before message
+    → (later : List (Message F.Header)) × (messages ≡ (before ++ message ∷ []) ++ later))
+    (used : (read cuts left : List ℕ) (messages before : List (Message F.Header)) → F.IsClean read messages → F.IsAll read cuts left before → left ≡ []) where
   pub goes_on : (read rest : List ℕ) (line : IsCleanLine F (read ++ rest)) (cuts : List ℕ) → GoesOn F read rest cuts line.messages
   goes_on read rest line cuts = record {
     unbroken = λ before fault. calm read rest cuts line.messages before fault line.clean;

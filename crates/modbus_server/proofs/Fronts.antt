@@ -3,6 +3,8 @@ use Rattle.std.proofs.Common.{ℕ, List, drop, arith, Result, Ok, Err, length-dr
 use Rattle.modbus_frame.specs.declared.front.Front.{Front}
 use Rattle.modbus_frame.specs.declared.front.Front.TheVariants as front
 use Rattle.modbus_frame.specs.declared.tcp.Header.{Header}
+use Rattle.modbus_pdu.specs.SlavePdu.{SlavePdu}
+use Rattle.modbus_pdu.specs.Message.{Message, message}
 use Rattle.modbus_rtu.specs.declared.front.Crowd.{Crowd}
 use Rattle.modbus_rtu.specs.Front.{FindsFrame, FindsFrameIn}
 use Rattle.modbus_tcp.specs.Decoder.{FindsAdu}
@@ -15,7 +17,7 @@ use Rattle.modbus_server.specs.Rtu.{rtu, BeginsOpen}
 use Rattle.modbus_server.specs.Tcp.{tcp, Follows, IsShort, told_fault}
 use Rattle.modbus_server.proofs.TcpIntake.{next_adu, split_with, all_adus}
 
-pub finds_frame : (bytes cuts : List ℕ) (taken : List (ℕ × List ℕ)) (held : List ℕ) (result : Result (Front ℕ) Crowd)
+pub finds_frame : (bytes cuts : List ℕ) (taken : List SlavePdu) (held : List ℕ) (result : Result (Front ℕ) Crowd)
     → FindsFrameIn bytes cuts taken held result → FindsNext rtu (λ slave. slave) (λ crowd. TooManyRetries) bytes cuts taken held result
 finds_frame bytes cuts taken held (Ok (front.Message slave pdu end)) found = found
 finds_frame bytes cuts taken held (Ok (front.Waiting dropped)) found = (found.0, found.1)
@@ -26,9 +28,9 @@ frame_within held (Ok (front.Message slave pdu end)) (start, n, next, address, s
 frame_within held (Ok (front.Waiting dropped)) (next, within, short) = (within, (omega (arith, within, short, length-drop dropped held), next.2))
 frame_within held (Err crowd) found = tt
 
-module _ (bytes cuts held : List ℕ) (taken : List (Header × List ℕ)) (s : Follows bytes cuts held taken) where
+module _ (bytes cuts held : List ℕ) (taken : List (Message Header)) (s : Follows bytes cuts held taken) where
   pub finds_adu : (result : Result (Front Header) HeaderFault) → FindsAdu held result → FindsNext tcp (λ header. header) told_fault bytes cuts taken held result
-  finds_adu (Ok (front.Message header pdu end)) found = next_adu bytes cuts held taken s (header, pdu.now) (drop end held) found.0
+  finds_adu (Ok (front.Message header pdu end)) found = next_adu bytes cuts held taken s (message header pdu.now) (drop end held) found.0
   finds_adu (Ok (front.Waiting dropped)) found = rw found.0 (s, all_adus bytes cuts held taken s found.1)
   finds_adu (Err fault.InvalidLength) found = (held, split_with bytes cuts held taken s no_length found)
   finds_adu (Err (fault.InvalidProtocol protocol)) found = (held, split_with bytes cuts held taken s (foreign protocol) found)

@@ -9,6 +9,7 @@ use Rattle.modbus_server.proofs.Contained.{none, here, there, front_or_later}
 use Rattle.modbus_frame.specs.declared.fault.Reason.{Reason}
 use Rattle.modbus_service.specs.Answering.{Answering}
 use Rattle.modbus_pdu.specs.RequestOf.{request_of}
+use Rattle.modbus_pdu.specs.SlavePdu.{SlavePdu}
 use Rattle.modbus_server.specs.Exchanges.{Exchange, Run, ReplyFits, asked_of, asks}
 use Rattle.modbus_server.specs.declared.error.ProcessError.TheVariants.{TooManyRetries}
 use Rattle.modbus_server.specs.Rtu.{rtu}
@@ -56,26 +57,26 @@ below_fewer low high (g ∷ frames) lt c = elim (front_or_later g low frames c) 
 ]
 
 -- none of the frames that were answered is refused
-all_requests : (message : ℕ → ℕ × List ℕ) (fs : List ℕ) (xs : List (Exchange rtu)) → map (asked_of rtu) (map message fs) ≡ map (asks rtu) xs
-    → (p : ℕ) (reason : Reason) → Contains fs p → request_of (message p).1 ≡ Err reason → ⊥
+all_requests : (message : ℕ → SlavePdu) (fs : List ℕ) (xs : List (Exchange rtu)) → map (asked_of rtu) (map message fs) ≡ map (asks rtu) xs
+    → (p : ℕ) (reason : Reason) → Contains fs p → request_of (message p).pdu ≡ Err reason → ⊥
 all_requests message [] xs e p reason c bad = none p c
 all_requests message (f ∷ fs) [] e p reason c bad = cc
 all_requests message (f ∷ fs) (x ∷ xs) e p reason c bad = elim (front_or_later f p fs c) [
-  | inl same ↦ (let first : asked_of rtu (message f) ≡ asks rtu x = cc in let ok : request_of (message f).1 ≡ Ok x.request = ap (λ (a : ℕ × _). a.1) first in
-      let err : request_of (message f).1 ≡ Err reason = ap (λ q. request_of (message q).1) same ∙ bad in cc)
+  | inl same ↦ (let first : asked_of rtu (message f) ≡ asks rtu x = cc in let ok : request_of (message f).pdu ≡ Ok x.request = ap (λ (a : ℕ × _). a.1) first in
+      let err : request_of (message f).pdu ≡ Err reason = ap (λ q. request_of (message q).pdu) same ∙ bad in cc)
   | inr c' ↦ (let rest : map (asked_of rtu) (map message fs) ≡ map (asks rtu) xs = cc in all_requests message fs xs rest p reason c' bad)
 ]
 
-same_length : (message : ℕ → ℕ × List ℕ) (fs : List ℕ) (xs : List (Exchange rtu)) → map (asked_of rtu) (map message fs) ≡ map (asks rtu) xs → length fs ≡ length xs
+same_length : (message : ℕ → SlavePdu) (fs : List ℕ) (xs : List (Exchange rtu)) → map (asked_of rtu) (map message fs) ≡ map (asks rtu) xs → length fs ≡ length xs
 same_length message [] [] e = refl
 same_length message [] (x ∷ xs) e = cc
 same_length message (f ∷ fs) [] e = cc
 same_length message (f ∷ fs) (x ∷ xs) e = let rest : map (asked_of rtu) (map message fs) ≡ map (asks rtu) xs = cc in let same = same_length message fs xs rest in omega arith
 
 -- no frame before a place is refused
-refused_later : (bytes frames : List ℕ) (place : ℕ) (before : List (ℕ × List ℕ)) (exchanges : List (Exchange rtu)) → before ≡ map (frame_at bytes) (frames_below place frames)
+refused_later : (bytes frames : List ℕ) (place : ℕ) (before : List SlavePdu) (exchanges : List (Exchange rtu)) → before ≡ map (frame_at bytes) (frames_below place frames)
     → map (asked_of rtu) before ≡ map (asks rtu) exchanges
-    → (other : ℕ) (reason : Reason) → Contains frames other → request_of (frame_at bytes other).1 ≡ Err reason → place ≤ other
+    → (other : ℕ) (reason : Reason) → Contains frames other → request_of (frame_at bytes other).pdu ≡ Err reason → place ≤ other
 refused_later bytes frames place before exchanges e asked other reason c bad = elim (cases_lt other place) [
   | inl lt ↦ absurd (all_requests (frame_at bytes) (frames_below place frames) exchanges (ap (map (asked_of rtu)) (sym e) ∙ asked) other reason (below_contains place frames other c lt) bad)
   | inr ge ↦ ge
@@ -88,7 +89,7 @@ module _ (one : (bytes frames others : List ℕ) (stop last : ℕ) → IsLeftmos
   abbrev pub FirstFault : Halt → List (Exchange rtu) → Type 0
   FirstFault halt all = Run rtu A opening all now × ((frames : List ℕ) (stop : ℕ) → IsLeftmost bytes frames stop → IsFirstFault bytes cuts frames all halt)
 
-  module _ (before : List (ℕ × List ℕ)) (exchanges : List (Exchange rtu)) (asked : map (asked_of rtu) before ≡ map (asks rtu) exchanges)
+  module _ (before : List SlavePdu) (exchanges : List (Exchange rtu)) (asked : map (asked_of rtu) before ≡ map (asks rtu) exchanges)
       (fit : All (ReplyFits rtu) exchanges) (ends : S) (run : Run rtu A opening exchanges ends) where
     ran : now ≡ ends → Run rtu A opening exchanges now
     ran same = subst (λ x. Run rtu A opening exchanges x) (sym same) run
@@ -124,7 +125,7 @@ module _ (one : (bytes frames others : List ℕ) (stop last : ℕ) → IsLeftmos
         later frames stop l other (too_long size) (c', earlier, x, after, splits, count, asks', is', long) = absurd (all_fit rtu exchanges earlier after x size fit splits is' long)
     by_halts (broken _) (b, same) = absurd b
     by_halts (refused r) (message, t, bad, same) =
-        (ran same, λ frames stop l. (t.offset, (t.within frames stop l, ap (λ (m : ℕ × List ℕ). request_of m.1) t.is ∙ bad), later frames stop l))
+        (ran same, λ frames stop l. (t.offset, (t.within frames stop l, ap (λ (m : SlavePdu). request_of m.pdu) t.is ∙ bad), later frames stop l))
       where
         later : (frames : List ℕ) (stop : ℕ) → IsLeftmost bytes frames stop → (other : ℕ) (fault : Halt) → HasFault bytes cuts frames exchanges other fault → t.offset ≤ other
         later frames stop l other (remaining left) h = absurd h

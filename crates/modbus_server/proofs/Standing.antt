@@ -4,13 +4,14 @@ use Rattle.std.proofs.lemmas.List.{map-append}
 use Rattle.std.proofs.lemmas.List.Elements.{All-append, All-cons, All-nil}
 use Rattle.std.proofs.lemmas.Grind.{flat_map-append}
 use Rattle.modbus_frame.specs.Meaning.{Asked}
+use Rattle.modbus_pdu.specs.Message.{Message}
 use Rattle.modbus_server.specs.declared.error.ProcessError.{ProcessError}
 use Rattle.modbus_server.specs.declared.error.NextError.{NextError}
 use Rattle.modbus_server.specs.declared.error.NextError.TheVariants.{Broken, Refused, TooLong, NoMemory}
 use Rattle.modbus_server.specs.declared.error.Next.{Next}
 use Rattle.modbus_server.specs.declared.error.Next.TheVariants.{Reply, Silent, Waiting}
 use Rattle.modbus_service.specs.Outcome.{silence}
-use Rattle.modbus_server.specs.Framing.{Framing, Message}
+use Rattle.modbus_server.specs.Framing.{Framing}
 use Rattle.modbus_service.specs.Answering.{Answering}
 use Rattle.modbus_server.specs.Exchanges.{Exchange, GivesOutcome, Run, ReplyFits, reply_of, output, last_reply, asked_of, asks}
 use Rattle.modbus_server.specs.Answer.{Answered, AnswersAs}
@@ -84,7 +85,7 @@ module _ (F : Framing) where
       all_written = sym (append-nil behind.written) ∙ s.wrote
 
       -- one more message is answered, and its reply waits
-      pub answered_on : (message : Message F) (held' : List ℕ) (next : S) (x : Exchange F) → F.StandsFor behind.bytes behind.cuts held' (s.taken ++ message ∷ [])
+      pub answered_on : (message : Message F.Header) (held' : List ℕ) (next : S) (x : Exchange F) → F.StandsFor behind.bytes behind.cuts held' (s.taken ++ message ∷ [])
           → Answered F A message now next x → ReplyFits F x → (made : List ℕ) → made ≡ reply_of F x → Stands F A (with_exchange behind x) held' next made
       answered_on message held' next x stands answered fits made e = record {
         taken = s.taken ++ message ∷ [];
@@ -122,7 +123,7 @@ module _ (F : Framing) where
       pub wanting : (next : S) → WantsMemory F A behind.bytes behind.cuts held s.taken now next → Wanting F A behind.bytes behind.cuts behind.opening next behind.written
       wanting next cause = (wanting_after next cause).0
 
-      module _ {E : Type 0} (told : E → ProcessError) (message : Message F) (held' : List ℕ) (next : S) (made : List ℕ)
+      module _ {E : Type 0} (told : E → ProcessError) (message : Message F.Header) (held' : List ℕ) (next : S) (made : List ℕ)
           (stands : F.StandsFor behind.bytes behind.cuts held' (s.taken ++ message ∷ [])) (is_next : F.IsNext behind.bytes behind.cuts s.taken message) where
         abbrev Answers : Result Next (NextError E) → Type 0
         Answers result = AnswersAs F A message now result next made
@@ -142,7 +143,7 @@ module _ (F : Framing) where
         overlong : (size : ℕ) → Answers (Err (TooLong size)) → Takes (Err (TooLong size))
         overlong size (x, answered, e, long) = halted_after (too_long size) next (message, is_next, x, answered.asked, answered.step, e, long)
 
-        next_is : (request : Asked) → F.request_of message.1 ≡ Ok request → NextIsRequest F behind.bytes behind.cuts behind.exchanges
+        next_is : (request : Asked) → F.request_of message.pdu ≡ Ok request → NextIsRequest F behind.bytes behind.cuts behind.exchanges
         next_is request asked = (s.taken, message, is_next, s.asked, request, asked)
 
         wants : Answers (Err NoMemory) → Takes (Err NoMemory)
@@ -158,7 +159,7 @@ module _ (F : Framing) where
         takes_on (Err NoMemory) h = wants h
 
     -- the answer to the next message wants memory only for that message
-    pub next_takes : {E : Type 0} (message : Message F) (old new : S) (made : List ℕ) (bytes cuts : List ℕ) (taken : List (Message F)) (result : Result Next (NextError E))
+    pub next_takes : {E : Type 0} (message : Message F.Header) (old new : S) (made : List ℕ) (bytes cuts : List ℕ) (taken : List (Message F.Header)) (result : Result Next (NextError E))
         → AnswersAs F A message old result new made → F.IsNext bytes cuts taken message → result ≡ Err NoMemory → NextTakesMemory F A bytes cuts taken old new
     next_takes message old new made bytes cuts taken (Ok answer) h is_next e = cc
     next_takes message old new made bytes cuts taken (Err (Broken broken)) h is_next e = cc

@@ -2,6 +2,7 @@
 use Rattle.std.proofs.Common.{◌≡◌, ◌≢◌, ◌⊎◌, ℕ, ◌<◌, List, [], ◌∷◌, ◌++◌, length, refl, sym, ap, ◌∙◌, subst, Ok, Err, Result, Bool, true, false, append-nil, length-append, inl, inr}
 use Rattle.std.proofs.lemmas.List.{take_at}
 use Rattle.modbus_link.specs.declared.outside.Cut.{Cut}
+use Rattle.modbus_pdu.specs.Message.{Message}
 use Rattle.modbus_link.specs.Outside.{outside, Input, Output, Rose, cuts_from, RisesTo}
 use Rattle.modbus_link.specs.Passes.{Passes, Sends, rises_none, rises_one, passes_out, passes_in, passes_none}
 use Rattle.modbus_link.specs.Reads.{HaveRooms, totals}
@@ -14,7 +15,7 @@ use Rattle.modbus_server.specs.declared.error.Next.TheVariants.{Reply, Waiting}
 use Rattle.modbus_server.specs.declared.error.Next.TheVariants as take
 use Rattle.modbus_server.specs.declared.error.Step.{Step}
 use Rattle.modbus_server.specs.declared.error.Step.TheVariants.{Answered, Silent, MoreRead, Hungry, Ended}
-use Rattle.modbus_server.specs.Framing.{Framing, Message, IsOfFraming}
+use Rattle.modbus_server.specs.Framing.{Framing, IsOfFraming}
 use Rattle.modbus_service.specs.Answering.{Answering}
 use Rattle.modbus_server.specs.Exchanges.{Exchange}
 use Rattle.modbus_server.specs.Served.{Past, past, with_exchange, Stands, AreAllAnswered, ServedAfter, remaining, broken, NextTakesMemory, WantingAfter, EndsAs}
@@ -105,7 +106,7 @@ module _ (F : Framing) {S : Type 0} (A : Answering S) where
 
   -- what a step says of refused memory
   abbrev Memory : List ℕ → S → S → Result Step ProcessError → Type 0
-  Memory held before after result = result ≡ Err NoMemory → (bytes cuts : List ℕ) (taken : List (Message F)) → F.StandsFor bytes cuts held taken
+  Memory held before after result = result ≡ Err NoMemory → (bytes cuts : List ℕ) (taken : List (Message F.Header)) → F.StandsFor bytes cuts held taken
       → NextTakesMemory F A bytes cuts taken before after ⊎ (F.ReadsTakeMemory × (after ≡ before))
 
   module _ (old new : State) (before after : S) (a : Input) (k : Output) (may_read : Bool) where

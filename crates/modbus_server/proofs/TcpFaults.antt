@@ -5,6 +5,7 @@ use Rattle.std.proofs.lemmas.Bool.{cases_lt}
 use Rattle.modbus_frame.specs.declared.fault.Reason.{Reason}
 use Rattle.modbus_frame.specs.declared.tcp.Header.{Header}
 use Rattle.modbus_pdu.specs.RequestOf.{request_of}
+use Rattle.modbus_pdu.specs.Message.{Message}
 use Rattle.modbus_tcp.specs.Stream.{Rest, empty, unfinished, no_length, foreign, IsSplit}
 use Rattle.modbus_tcp.specs.Adu.{IsAdu, stream_of}
 use Rattle.modbus_service.specs.Answering.{Answering}
@@ -16,10 +17,10 @@ use Rattle.modbus_server.specs.FirstAdu.{HasAduFault, IsFirstAduFault}
 use Rattle.modbus_server.proofs.Asked.{all_fit, last_or_within, same_after, no_refusal, as_many, within_front, asked_well, one_first}
 use Rattle.modbus_server.proofs.Standing.{run_more}
 
-module _ (adus before : List (Header × List ℕ)) (exchanges : List (Exchange tcp)) (asked : map (asked_of tcp) before ≡ map (asks tcp) exchanges) where
+module _ (adus before : List (Message Header)) (exchanges : List (Exchange tcp)) (asked : map (asked_of tcp) before ≡ map (asks tcp) exchanges) where
   -- no ADU that was answered is refused
-  refused_later : (tail earlier : List (Header × List ℕ)) (message : Header × List ℕ) (later : List (Header × List ℕ)) (reason : Reason)
-      → adus ≡ before ++ tail → adus ≡ earlier ++ message ∷ later → request_of message.1 ≡ Err reason → length before ≤ length earlier
+  refused_later : (tail earlier : List (Message Header)) (message : Message Header) (later : List (Message Header)) (reason : Reason)
+      → adus ≡ before ++ tail → adus ≡ earlier ++ message ∷ later → request_of message.pdu ≡ Err reason → length before ≤ length earlier
   refused_later tail earlier message later reason e splits bad = elim (cases_lt (length earlier) (length before)) [
     | inl less ↦ (let inner = within_front before tail earlier message later (sym e ∙ splits) less in
         absurd (no_refusal tcp earlier message inner.0 exchanges reason (ap (map (asked_of tcp)) (sym inner.1) ∙ asked) bad))
@@ -27,30 +28,30 @@ module _ (adus before : List (Header × List ℕ)) (exchanges : List (Exchange t
   ]
 
 -- where each list of bytes is ADUs and a rest in one way, and ADUs that were taken off come first
-module _ (one : (bytes rest left : List ℕ) (adus others : List (Header × List ℕ)) (kind other : Rest) → IsSplit bytes adus rest kind → IsSplit bytes others left other
+module _ (one : (bytes rest left : List ℕ) (adus others : List (Message Header)) (kind other : Rest) → IsSplit bytes adus rest kind → IsSplit bytes others left other
     → (adus ≡ others) × (rest ≡ left) × (kind ≡ other))
-    (first : (bytes held rest : List ℕ) (adus all : List (Header × List ℕ)) (kind : Rest) → bytes ≡ stream_of adus ++ held → All IsAdu adus → IsSplit bytes all rest kind
-    → (later : List (Header × List ℕ)) × (all ≡ adus ++ later) × IsSplit held later rest kind)
+    (first : (bytes held rest : List ℕ) (adus all : List (Message Header)) (kind : Rest) → bytes ≡ stream_of adus ++ held → All IsAdu adus → IsSplit bytes all rest kind
+    → (later : List (Message Header)) × (all ≡ adus ++ later) × IsSplit held later rest kind)
     {S : Type 0} (A : Answering S) (bytes cuts : List ℕ) (opening now : S) (written : List ℕ) where
   -- all exchanges of the run, whose place that fails first is this one
   abbrev pub FirstAduFault : Halt → List (Exchange tcp) → Type 0
   FirstAduFault halt all = Run tcp A opening all now
-      × ((adus : List (Header × List ℕ)) (rest : List ℕ) (kind : Rest) → IsSplit bytes adus rest kind → IsFirstAduFault adus kind all halt)
+      × ((adus : List (Message Header)) (rest : List ℕ) (kind : Rest) → IsSplit bytes adus rest kind → IsFirstAduFault adus kind all halt)
 
   -- an ADU that comes next is the one after those that were taken
-  next_of_all : (rest : List ℕ) (adus before : List (Header × List ℕ)) (kind : Rest) (message : Header × List ℕ) → IsSplit bytes adus rest kind → IsNextAdu bytes cuts before message
-      → (later : List (Header × List ℕ)) × (adus ≡ before ++ message ∷ later)
+  next_of_all : (rest : List ℕ) (adus before : List (Message Header)) (kind : Rest) (message : Message Header) → IsSplit bytes adus rest kind → IsNextAdu bytes cuts before message
+      → (later : List (Message Header)) × (adus ≡ before ++ message ∷ later)
   next_of_all rest adus before kind message split (others, joined, whole) =
       let more = first bytes others rest (before ++ message ∷ []) adus kind joined whole split in
       (more.0, more.1 ∙ append_assoc before (message ∷ []) more.0)
 
-  module _ (before : List (Header × List ℕ)) (exchanges : List (Exchange tcp)) (asked : map (asked_of tcp) before ≡ map (asks tcp) exchanges)
+  module _ (before : List (Message Header)) (exchanges : List (Exchange tcp)) (asked : map (asked_of tcp) before ≡ map (asks tcp) exchanges)
       (fit : All (ReplyFits tcp) exchanges) (ends : S) (run : Run tcp A opening exchanges ends) where
     ran : now ≡ ends → Run tcp A opening exchanges now
     ran same = subst (λ x. Run tcp A opening exchanges x) (sym same) run
 
     -- all ADUs were answered, so only the rest can fail
-    only_rest : (adus : List (Header × List ℕ)) (kind : Rest) → adus ≡ before → (place : ℕ) (halt : Halt) → HasAduFault adus kind exchanges place halt
+    only_rest : (adus : List (Message Header)) (kind : Rest) → adus ≡ before → (place : ℕ) (halt : Halt) → HasAduFault adus kind exchanges place halt
         → length adus ≤ place
     only_rest adus kind e place (remaining left) h = absurd h
     only_rest adus kind e place (broken InvalidLength) h = omega (arith, h.0)
@@ -61,7 +62,7 @@ module _ (one : (bytes rest left : List ℕ) (adus others : List (Header × List
     only_rest adus kind e place (too_long size) (earlier, message, later, splits, count, before', x, after, all, count', asks', is, long) =
         absurd (all_fit tcp exchanges before' after x size fit all is long)
 
-    none_fails : (adus : List (Header × List ℕ)) (kind : Rest) → adus ≡ before → (kind ≡ no_length → ⊥) → ((protocol : ℕ) → kind ≡ foreign protocol → ⊥)
+    none_fails : (adus : List (Message Header)) (kind : Rest) → adus ≡ before → (kind ≡ no_length → ⊥) → ((protocol : ℕ) → kind ≡ foreign protocol → ⊥)
         → (place : ℕ) (halt : Halt) → HasAduFault adus kind exchanges place halt → ⊥
     none_fails adus kind e no_zero no_foreign place (remaining left) h = h
     none_fails adus kind e no_zero no_foreign place (broken InvalidLength) h = no_zero h.1
@@ -73,7 +74,7 @@ module _ (one : (bytes rest left : List ℕ) (adus others : List (Header × List
         all_fit tcp exchanges before' after x size fit all is long
 
     -- the ADU after those that were answered is the first that can fail
-    not_before : (adus tail : List (Header × List ℕ)) (kind : Rest) → adus ≡ before ++ tail → (place : ℕ) (halt : Halt) → HasAduFault adus kind exchanges place halt
+    not_before : (adus tail : List (Message Header)) (kind : Rest) → adus ≡ before ++ tail → (place : ℕ) (halt : Halt) → HasAduFault adus kind exchanges place halt
         → length before ≤ place
     not_before adus tail kind e place (remaining left) h = absurd h
     not_before adus tail kind e place (broken InvalidLength) h = omega (arith, h.0, ap length e, length-append before tail)
@@ -132,7 +133,7 @@ module _ (one : (bytes rest left : List ℕ) (adus others : List (Header × List
           ),
     )
       where
-        later : (adus tail : List (Header × List ℕ)) (kind : Rest) → adus ≡ before ++ tail → (place : ℕ) (halt : Halt) → HasAduFault adus kind (exchanges ++ y ∷ []) place halt
+        later : (adus tail : List (Message Header)) (kind : Rest) → adus ≡ before ++ tail → (place : ℕ) (halt : Halt) → HasAduFault adus kind (exchanges ++ y ∷ []) place halt
             → length before ≤ place
         later adus tail kind e place (remaining left) h = absurd h
         later adus tail kind e place (broken InvalidLength) h = omega (arith, h.0, ap length e, length-append before tail)
@@ -153,8 +154,8 @@ module _ (one : (bytes rest left : List ℕ) (adus others : List (Header × List
   first_adu_fault (too_long size) s = by_halts s.before s.exchanges s.asked s.fit s.ends s.run (too_long size) s.halts
 
 -- two kinds of fault are not both the first
-module _ (adus : List (Header × List ℕ)) (kind : Rest) (all : List (Exchange tcp)) where
-  past_all : (earlier : List (Header × List ℕ)) (message : Header × List ℕ) (later : List (Header × List ℕ)) (place : ℕ)
+module _ (adus : List (Message Header)) (kind : Rest) (all : List (Exchange tcp)) where
+  past_all : (earlier : List (Message Header)) (message : Message Header) (later : List (Message Header)) (place : ℕ)
       → adus ≡ earlier ++ message ∷ later → length earlier ≡ place → place ≡ length adus → ⊥
   past_all earlier message later place splits count end = omega (arith, count, end, ap length splits, length-append earlier (message ∷ later))
 
@@ -179,7 +180,7 @@ module _ (adus : List (Header × List ℕ)) (kind : Rest) (all : List (Exchange 
   same_at place (refused reason) (broken _) h k = absurd k
   same_at place (refused reason) (refused other) (earlier, message, later, splits, count, bad) (earlier', message', later', splits', count', bad') =
       let same : message ≡ message' = same_after earlier earlier' message message' later later' (sym splits ∙ splits') (count ∙ sym count') in
-      let e : Err reason ≡ Err other = sym bad ∙ ap (λ (m : Header × List ℕ). request_of m.1) same ∙ bad' in
+      let e : Err reason ≡ Err other = sym bad ∙ ap (λ (m : Message Header). request_of m.pdu) same ∙ bad' in
       cc
   same_at place (refused reason) (too_long size) (earlier, message, later, splits, count, bad) (earlier', message', later', splits', count', before, x, after, is_all, many, asked, is, long) =
       let same : message' ≡ message = same_after earlier' earlier message' message later' later (sym splits' ∙ splits) (count' ∙ sym count) in

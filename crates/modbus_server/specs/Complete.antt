@@ -1,26 +1,27 @@
 -- When a call of a server comes to the end of its input.
 use Rattle.std.specs.Prelude.{◌≡◌, ◌⊎◌, ℕ, ◌<◌, List, ◌++◌, map, length, All, IsTrue, Result, Ok, Err}
 use Rattle.modbus_frame.specs.Meaning.{Asked}
+use Rattle.modbus_pdu.specs.Message.{Message}
 use Rattle.modbus_link.specs.Outside.{Rose}
 use Rattle.modbus_service.specs.Answering.{Answering}
 use Rattle.modbus_server.specs.declared.error.ProcessError.{ProcessError}
 use Rattle.modbus_server.specs.declared.error.ProcessError.TheVariants.{NoMemory}
 use Rattle.modbus_server.specs.Moment.{Moment}
-use Rattle.modbus_server.specs.Framing.{Framing, Message}
+use Rattle.modbus_server.specs.Framing.{Framing}
 use Rattle.modbus_server.specs.Exchanges.{Exchange, Run, ReplyFits, asked_of, asks}
 
-abbrev pub IsRequest : (F : Framing) → Message F → Type 0
-IsRequest F message = (request : Asked) × (F.request_of message.1 ≡ Ok request)
+abbrev pub IsRequest : (F : Framing) → Message F.Header → Type 0
+IsRequest F message = (request : Asked) × (F.request_of message.pdu ≡ Ok request)
 
 -- the bytes are nothing but messages, with no fault however they are cut, and each message is a request
 pub record IsCleanLine (F : Framing) (bytes : List ℕ) : Type 0 where
-  pub messages : List (Message F)
+  pub messages : List (Message F.Header)
   pub clean : F.IsClean bytes messages
   pub requests : All (IsRequest F) messages
 
 -- in every run of the service over the first messages, each reply fits
-abbrev pub RepliesFit : (F : Framing) → {S : Type 0} → Answering S → S → List (Message F) → Type 0
-RepliesFit F {S} A opening messages = (xs : List (Exchange F)) (end : S) (front rest : List (Message F)) → Run F A opening xs end
+abbrev pub RepliesFit : (F : Framing) → {S : Type 0} → Answering S → S → List (Message F.Header) → Type 0
+RepliesFit F {S} A opening messages = (xs : List (Exchange F)) (end : S) (front rest : List (Message F.Header)) → Run F A opening xs end
     → messages ≡ front ++ rest → map (asked_of F) front ≡ map (asks F) xs → All (ReplyFits F) xs
 
 -- A clean line of fewer bytes than there are turns is served to its end, where every reply fits and neither the source nor the sink

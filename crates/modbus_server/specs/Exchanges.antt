@@ -4,10 +4,11 @@ use Rattle.std.specs.List.{flat_map}
 use Rattle.modbus_frame.specs.Meaning.{Asked}
 use Rattle.modbus_frame.specs.declared.fault.Reason.{Reason}
 use Rattle.modbus_pdu.specs.Limits.{max_pdu}
+use Rattle.modbus_pdu.specs.Message.{Message}
 use Rattle.modbus_service.specs.Outcome.{Outcome, silence, reply, exception, code_of, reply_pdu}
 use Rattle.modbus_service.specs.Answering.{Answering}
 use Rattle.modbus_service.specs.Exchange as service
-use Rattle.modbus_server.specs.Framing.{Framing, Message}
+use Rattle.modbus_server.specs.Framing.{Framing}
 
 -- one request that the service was asked, under the header of its message, and its outcome
 abbrev pub Exchange : Framing → Type 0
@@ -55,8 +56,8 @@ ReplyFits F x = reply_size F x ≤ max_pdu
 abbrev pub Question : Framing → Type 0
 Question F = F.Header × Result Asked Reason
 
-abbrev pub asked_of : (F : Framing) → Message F → Question F
-asked_of F message = (message.0, F.request_of message.1)
+abbrev pub asked_of : (F : Framing) → Message F.Header → Question F
+asked_of F message = (message.header, F.request_of message.pdu)
 
 -- what was asked in an exchange
 abbrev pub asks : (F : Framing) → Exchange F → Question F

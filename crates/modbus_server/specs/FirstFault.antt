@@ -15,7 +15,7 @@ abbrev pub HasFault : List ℕ → List ℕ → List ℕ → List (Exchange rtu)
 HasFault bytes cuts frames all place (remaining left) = ⊥
 HasFault bytes cuts frames all place (broken TooManyRetries) = (k : ℕ) × HasCrowd bytes cuts k × (place ≡ k + 19)
 HasFault bytes cuts frames all place (broken _) = ⊥
-HasFault bytes cuts frames all place (refused reason) = Contains frames place × (request_of (frame_at bytes place).1 ≡ Err reason)
+HasFault bytes cuts frames all place (refused reason) = Contains frames place × (request_of (frame_at bytes place).pdu ≡ Err reason)
 HasFault bytes cuts frames all place (too_long size) =
     Contains frames place × (earlier : List (Exchange rtu)) × (x : Exchange rtu) × (later : List (Exchange rtu)) × (all ≡ earlier ++ x ∷ later)
     × (length earlier ≡ length (frames_below place frames)) × (asked_of rtu (frame_at bytes place) ≡ asks rtu x) × (size ≡ told_reply_size rtu x) × (max_pdu < size)

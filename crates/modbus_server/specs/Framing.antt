@@ -2,6 +2,7 @@
 use Rattle.std.specs.Prelude.{ℕ, List, Result}
 use Rattle.modbus_frame.specs.Meaning.{Asked}
 use Rattle.modbus_frame.specs.declared.fault.Reason.{Reason}
+use Rattle.modbus_pdu.specs.Message.{Message}
 use Rattle.modbus_server.specs.declared.error.ProcessError.{ProcessError}
 use Rattle.modbus_server.specs.declared.error.ProcessError.TheVariants.{TooManyRetries, InvalidLength, InvalidProtocol}
 
@@ -17,15 +18,15 @@ pub record Framing : Type 1 where
   -- the bytes of a message
   pub adu : Header → List ℕ → List ℕ
   -- of bytes, cuts, held bytes and messages: what holds these bytes has given away these messages
-  pub StandsFor : List ℕ → List ℕ → List ℕ → List (Header × List ℕ) → Type 0
+  pub StandsFor : List ℕ → List ℕ → List ℕ → List (Message Header) → Type 0
   -- of bytes, cuts, messages and a message: this one comes next after these, with no fault before it
-  pub IsNext : List ℕ → List ℕ → List (Header × List ℕ) → Header × List ℕ → Type 0
+  pub IsNext : List ℕ → List ℕ → List (Message Header) → Message Header → Type 0
   -- of bytes, cuts, a rest and messages: these are all messages, there is no fault, and the rest is left
-  pub IsAll : List ℕ → List ℕ → List ℕ → List (Header × List ℕ) → Type 0
+  pub IsAll : List ℕ → List ℕ → List ℕ → List (Message Header) → Type 0
   -- of bytes, cuts, messages and a fault, as it is told: it comes right after these messages
-  pub IsBroken : List ℕ → List ℕ → List (Header × List ℕ) → ProcessError → Type 0
+  pub IsBroken : List ℕ → List ℕ → List (Message Header) → ProcessError → Type 0
   -- of bytes and messages: they are nothing but these, however they are cut, with no fault
-  pub IsClean : List ℕ → List (Header × List ℕ) → Type 0
+  pub IsClean : List ℕ → List (Message Header) → Type 0
   -- the held bytes begin with no whole message and no fault
   pub Waits : List ℕ → Type 0
   -- of the held bytes: the length of the room of the next read
@@ -42,9 +43,6 @@ pub record Framing : Type 1 where
   pub ReadsTakeMemory : Type 0
   -- the room in a buffer that is enough for each answer
   pub reply_room : ℕ
-
-abbrev pub Message : Framing → Type 0
-Message F = F.Header × List ℕ
 
 -- the answers that are left to a framing for its faults
 abbrev pub IsOfFraming : ProcessError → Type 0

@@ -4,12 +4,13 @@ use Rattle.modbus_server.specs.declared.error.ProcessError.{ProcessError}
 use Rattle.modbus_server.specs.declared.error.ProcessError.TheVariants as process
 use Rattle.modbus_frame.specs.declared.front.Front.{Front}
 use Rattle.modbus_frame.specs.declared.front.Front.TheVariants as front
+use Rattle.modbus_pdu.specs.Message.{Message, message}
 use Rattle.modbus_server.specs.declared.error.NextError.{NextError}
 use Rattle.modbus_server.specs.declared.error.NextError.TheVariants.{Broken, Refused, TooLong, NoMemory}
 use Rattle.modbus_server.specs.declared.error.Next.{Next}
 use Rattle.modbus_server.specs.declared.error.Next.TheVariants.{Reply, Silent, Waiting}
 use Rattle.modbus_service.specs.Outcome.{silence}
-use Rattle.modbus_server.specs.Framing.{Framing, Message, IsOfFraming}
+use Rattle.modbus_server.specs.Framing.{Framing, IsOfFraming}
 use Rattle.modbus_service.specs.Answering.{Answering}
 use Rattle.modbus_server.specs.Exchanges.{Exchange}
 use Rattle.modbus_server.specs.Served.{Past, with_exchange, Stands, NextIsRequest, ServedAfter, broken, refused, too_long, NextTakesMemory, WantingAfter}
@@ -17,9 +18,9 @@ use Rattle.modbus_server.specs.State.{State}
 
 -- what stands at the front of the held bytes: the next message, which is taken off with all bytes before it; or these are all, and the
 -- bytes of no use are dropped; or there is a fault
-abbrev pub FindsNext : (F : Framing) → {H E : Type 0} → (H → F.Header) → (E → ProcessError) → List ℕ → List ℕ → List (Message F) → List ℕ → Result (Front H) E → Type 0
+abbrev pub FindsNext : (F : Framing) → {H E : Type 0} → (H → F.Header) → (E → ProcessError) → List ℕ → List ℕ → List (Message F.Header) → List ℕ → Result (Front H) E → Type 0
 FindsNext F header_of told bytes cuts taken held (Ok (front.Message header pdu end)) =
-    F.StandsFor bytes cuts (drop end held) (taken ++ (header_of header, pdu.now) ∷ []) × F.IsNext bytes cuts taken (header_of header, pdu.now)
+    F.StandsFor bytes cuts (drop end held) (taken ++ message (header_of header) pdu.now ∷ []) × F.IsNext bytes cuts taken (message (header_of header) pdu.now)
 FindsNext F header_of told bytes cuts taken held (Ok (front.Waiting dropped)) =
     F.StandsFor bytes cuts (drop dropped held) taken × F.IsAll bytes cuts (drop dropped held) taken
 FindsNext F header_of told bytes cuts taken held (Err fault) = F.IsBroken bytes cuts taken (told fault)
@@ -53,7 +54,7 @@ pub record Took (F : Framing) {S E : Type 0} (A : Answering S) (told : E → Pro
   pub stands : (behind : Past F S) → Stands F A behind old.held before [] → TakesAs F A told behind new.held after new.waiting result
   pub keeps : KeepsAs F.Waits old.held new.held new.waiting before after result
   -- memory is wanting only for the next message
-  pub memory : result ≡ Err NoMemory → (bytes cuts : List ℕ) (taken : List (Message F)) → F.StandsFor bytes cuts old.held taken
+  pub memory : result ≡ Err NoMemory → (bytes cuts : List ℕ) (taken : List (Message F.Header)) → F.StandsFor bytes cuts old.held taken
       → NextTakesMemory F A bytes cuts taken before after
   -- it goes on until it tells an error
   pub goes_on : new.is_open ≡ is_ok result
@@ -77,5 +78,5 @@ pub record Fed (F : Framing) (old new : State) (piece : List ℕ) : Type 0 where
   pub held : new.held ≡ old.held ++ piece
   pub waiting : new.waiting ≡ old.waiting
   pub is_open : new.is_open ≡ old.is_open
-  pub grows : (bytes cuts : List ℕ) (taken : List (Message F)) → F.StandsFor bytes cuts old.held taken → 0 < length piece
+  pub grows : (bytes cuts : List ℕ) (taken : List (Message F.Header)) → F.StandsFor bytes cuts old.held taken → 0 < length piece
       → F.StandsFor (bytes ++ piece) (cuts ++ length (bytes ++ piece) ∷ []) new.held taken

@@ -6,9 +6,10 @@ use Rattle.modbus_link.specs.Reads.{totals}
 use Rattle.modbus_frame.specs.Meaning.{Asked}
 use Rattle.modbus_frame.specs.declared.fault.Reason.{Reason}
 use Rattle.modbus_pdu.specs.Limits.{max_pdu}
+use Rattle.modbus_pdu.specs.Message.{Message}
 use Rattle.modbus_server.specs.declared.error.ProcessError.{ProcessError}
 use Rattle.modbus_server.specs.declared.error.ProcessError.TheVariants.{ReadFault, WriteFault, BytesRemaining, InvalidRequest, ResponseTooLong, TurnLimit, NoMemory}
-use Rattle.modbus_server.specs.Framing.{Framing, Message}
+use Rattle.modbus_server.specs.Framing.{Framing}
 use Rattle.modbus_service.specs.Answering.{Answering}
 use Rattle.modbus_server.specs.Exchanges.{Exchange, GivesOutcome, Run, ReplyFits, told_reply_size, output, last_reply, asked_of, asks}
 use Rattle.modbus_server.specs.Answer.{WantsFor}
@@ -42,7 +43,7 @@ with_exchange behind x = past behind.bytes behind.cuts behind.opening behind.wri
 -- exchanges with replies that fit. What was written, and then what waits, is the output of the run, and what waits is of the last reply
 -- alone.
 pub record Stands (F : Framing) {S : Type 0} (A : Answering S) (behind : Past F S) (held : List ℕ) (now : S) (waiting : List ℕ) : Type 0 where
-  pub taken : List (Message F)
+  pub taken : List (Message F.Header)
   pub stands : F.StandsFor behind.bytes behind.cuts held taken
   pub asked : map (asked_of F) taken ≡ map (asks F) behind.exchanges
   pub run : Run F A behind.opening behind.exchanges now
@@ -53,13 +54,13 @@ pub record Stands (F : Framing) {S : Type 0} (A : Answering S) (behind : Past F 
 -- all messages of these bytes were answered in these exchanges
 abbrev pub AreAllAnswered : (F : Framing) → List ℕ → List ℕ → List (Exchange F) → Type 0
 AreAllAnswered F bytes cuts exchanges =
-    (messages : List (Message F)) × (left : List ℕ) × F.IsAll bytes cuts left messages × (map (asked_of F) messages ≡ map (asks F) exchanges)
+    (messages : List (Message F.Header)) × (left : List ℕ) × F.IsAll bytes cuts left messages × (map (asked_of F) messages ≡ map (asks F) exchanges)
 
 -- the message that comes after those that were answered in these exchanges is a request
 abbrev pub NextIsRequest : (F : Framing) → List ℕ → List ℕ → List (Exchange F) → Type 0
 NextIsRequest F bytes cuts exchanges =
-    (messages : List (Message F)) × (next : Message F) × F.IsNext bytes cuts messages next × (map (asked_of F) messages ≡ map (asks F) exchanges)
-    × (request : Asked) × (F.request_of next.1 ≡ Ok request)
+    (messages : List (Message F.Header)) × (next : Message F.Header) × F.IsNext bytes cuts messages next × (map (asked_of F) messages ≡ map (asks F) exchanges)
+    × (request : Asked) × (F.request_of next.pdu ≡ Ok request)
 
 -- Where a call stops in the bytes that were fed.
 pub data Halt : Type 0 where
@@ -73,20 +74,20 @@ pub data Halt : Type 0 where
   too_long : ℕ → Halt
 
 -- it stops right after these messages; the service, which had answered them all, was then asked once more or not
-abbrev pub Halts : (F : Framing) → {S : Type 0} → Answering S → List ℕ → List ℕ → List (Message F) → S → S → Halt → Type 0
+abbrev pub Halts : (F : Framing) → {S : Type 0} → Answering S → List ℕ → List ℕ → List (Message F.Header) → S → S → Halt → Type 0
 Halts F A bytes cuts before ends now (remaining left) = F.IsAll bytes cuts left before × (now ≡ ends)
 Halts F A bytes cuts before ends now (broken fault) = F.IsBroken bytes cuts before fault × (now ≡ ends)
 Halts F A bytes cuts before ends now (refused reason) =
-    (message : Message F) × F.IsNext bytes cuts before message × (F.request_of message.1 ≡ Err reason) × (now ≡ ends)
+    (message : Message F.Header) × F.IsNext bytes cuts before message × (F.request_of message.pdu ≡ Err reason) × (now ≡ ends)
 Halts F A bytes cuts before ends now (too_long size) =
-    (message : Message F) × F.IsNext bytes cuts before message × (x : Exchange F) × (asked_of F message ≡ asks F x)
+    (message : Message F.Header) × F.IsNext bytes cuts before message × (x : Exchange F) × (asked_of F message ≡ asks F x)
     × GivesOutcome F A ends x now × (size ≡ told_reply_size F x) × (max_pdu < size)
 
 -- One run of the service answered exactly the messages before the place where the call stops with replies that fit, and these were
 -- written whole.
 pub record Served (F : Framing) {S : Type 0} (A : Answering S) (bytes cuts : List ℕ)
     (opening now : S) (written : List ℕ) (halt : Halt) : Type 0 where
-  pub before : List (Message F)
+  pub before : List (Message F.Header)
   pub exchanges : List (Exchange F)
   pub asked : map (asked_of F) before ≡ map (asks F) exchanges
   pub fit : All (ReplyFits F) exchanges
@@ -120,11 +121,11 @@ abbrev pub NothingFails : (F : Framing) → List ℕ → List ℕ → List (Exch
 NothingFails F bytes cuts exchanges = NextIsRequest F bytes cuts exchanges ⊎ (AreAllAnswered F bytes cuts exchanges ⊎ (bytes ≡ []))
 
 -- The message that comes after these took memory.
-abbrev pub NextTakesMemory : (F : Framing) → {S : Type 0} → Answering S → List ℕ → List ℕ → List (Message F) → S → S → Type 0
-NextTakesMemory F A bytes cuts taken old new = (message : Message F) × F.IsNext bytes cuts taken message × WantsFor F A message old new
+abbrev pub NextTakesMemory : (F : Framing) → {S : Type 0} → Answering S → List ℕ → List ℕ → List (Message F.Header) → S → S → Type 0
+NextTakesMemory F A bytes cuts taken old new = (message : Message F.Header) × F.IsNext bytes cuts taken message × WantsFor F A message old new
 
 -- What memory was wanting for, after these messages: for the next one; or for the room of a read, after all of them; or nothing was fed.
-abbrev pub WantsMemory : (F : Framing) → {S : Type 0} → Answering S → List ℕ → List ℕ → List ℕ → List (Message F) → S → S → Type 0
+abbrev pub WantsMemory : (F : Framing) → {S : Type 0} → Answering S → List ℕ → List ℕ → List ℕ → List (Message F.Header) → S → S → Type 0
 WantsMemory F A bytes cuts held taken old new =
     NextTakesMemory F A bytes cuts taken old new ⊎ ((F.ReadsTakeMemory × F.IsAll bytes cuts held taken × (new ≡ old)) ⊎ ((bytes ≡ []) × (taken ≡ []) × (new ≡ old)))
 

@@ -2,6 +2,7 @@
 use Rattle.std.specs.Prelude.{◌≡◌, ◌≢◌, ◌⊎◌, ℕ, ◌<◌, ◌≤◌, List, [], ◌∷◌, ◌++◌, length, IsTrue, Bool, true, false, Result, Ok, Err}
 use Rattle.modbus_link.specs.declared.outside.Cut.{Cut}
 use Rattle.modbus_link.specs.Outside.{Rose, cuts_from}
+use Rattle.modbus_pdu.specs.Message.{Message}
 use Rattle.modbus_link.specs.Passes.{Passes}
 use Rattle.modbus_link.specs.Reads.{totals, HaveRooms, Spending, all_turns, fewer_turns, some_turns, Spends}
 use Rattle.modbus_server.specs.declared.error.ProcessError.{ProcessError}
@@ -9,7 +10,7 @@ use Rattle.modbus_server.specs.declared.error.ProcessError.TheVariants.{ReadFaul
 use Rattle.modbus_server.specs.declared.error.Step.{Step}
 use Rattle.modbus_server.specs.declared.error.Step.TheVariants.{Answered, Silent, MoreRead, Hungry, Ended}
 use Rattle.modbus_service.specs.Outcome.{silence}
-use Rattle.modbus_server.specs.Framing.{Framing, Message}
+use Rattle.modbus_server.specs.Framing.{Framing}
 use Rattle.modbus_service.specs.Answering.{Answering}
 use Rattle.modbus_server.specs.Exchanges.{Exchange}
 use Rattle.modbus_server.specs.Served.{Past, with_reads, with_exchange, Stands, ServedAfter, remaining, broken, refused, too_long, Unwritten, WantingAfter, AreAllAnswered, NothingFails, NextTakesMemory, EndsAs}
@@ -86,7 +87,7 @@ pub record Stepped (F : Framing) {S : Type 0} (A : Answering S) (old new : State
       → HaveRooms F.HasRoom (behind.bytes ++ fed) (length behind.bytes) (cuts_from (length behind.bytes) made)
   pub leaves : LeavesAs F made may_read old new before.service after.service result
   -- memory is wanting only for the next message, or for the room of a read
-  pub memory : result ≡ Err NoMemory → (bytes cuts : List ℕ) (taken : List (Message F)) → F.StandsFor bytes cuts old.held taken
+  pub memory : result ≡ Err NoMemory → (bytes cuts : List ℕ) (taken : List (Message F.Header)) → F.StandsFor bytes cuts old.held taken
       → NextTakesMemory F A bytes cuts taken before.service after.service ⊎ (F.ReadsTakeMemory × (after.service ≡ before.service))
   pub ended : IsTrue before.outside.input.told → EndsInput result after.outside.input.left
   pub idle : may_read ≡ false → after.outside.input ≡ before.outside.input

@@ -7,6 +7,7 @@ use Rattle.modbus_tcp.specs.Stream.{empty, unfinished, no_length, foreign, IsSpl
 use Rattle.modbus_tcp.specs.declared.stream.HeaderFault.{HeaderFault}
 use Rattle.modbus_tcp.specs.declared.stream.HeaderFault.TheVariants as fault
 use Rattle.modbus_pdu.specs.RequestOf.{request_of}
+use Rattle.modbus_pdu.specs.Message.{Message}
 use Rattle.modbus_server.specs.declared.error.ProcessError.{ProcessError}
 use Rattle.modbus_server.specs.declared.error.ProcessError.TheVariants.{InvalidLength, InvalidProtocol}
 use Rattle.modbus_server.specs.Framing.{Framing}
@@ -16,14 +17,14 @@ abbrev pub read_room : ℕ
 read_room = 268
 
 abbrev Adus : Type 0
-Adus = List (Header × List ℕ)
+Adus = List (Message Header)
 
 -- the bytes are these ADUs, one after another, and what is held
 abbrev pub Follows : List ℕ → List ℕ → List ℕ → Adus → Type 0
 Follows bytes cuts held taken = (bytes ≡ stream_of taken ++ held) × All IsAdu taken
 
 -- this ADU is the next
-abbrev pub IsNextAdu : List ℕ → List ℕ → Adus → Header × List ℕ → Type 0
+abbrev pub IsNextAdu : List ℕ → List ℕ → Adus → Message Header → Type 0
 IsNextAdu bytes cuts taken message = (others : List ℕ) × (bytes ≡ stream_of (taken ++ message ∷ []) ++ others) × All IsAdu (taken ++ message ∷ [])
 
 -- these are all ADUs, and the rest is nothing or a front of an ADU

@@ -2,12 +2,13 @@
 use Rattle.std.specs.Prelude.{◌≡◌, ◌≢◌, ℕ, ◌<◌, ◌≤◌, List, [], ◌∷◌, ◌++◌, length, IsTrue, false, Result, Ok, Err}
 use Rattle.modbus_link.specs.declared.outside.Cut.{Cut}
 use Rattle.modbus_link.specs.Outside.{cut_at, Input, Rose, Advances, bytes_read, cuts_made}
+use Rattle.modbus_pdu.specs.Message.{Message}
 use Rattle.modbus_link.specs.Reads.{ReadsPiece}
 use Rattle.modbus_server.specs.declared.error.ProcessError.{ProcessError}
 use Rattle.modbus_server.specs.declared.error.ProcessError.TheVariants.{ReadFault, WriteFault, BytesRemaining, NoMemory}
 use Rattle.modbus_server.specs.declared.error.Step.{Step}
 use Rattle.modbus_server.specs.declared.error.Step.TheVariants.{Answered, MoreRead, Ended}
-use Rattle.modbus_server.specs.Framing.{Framing, Message}
+use Rattle.modbus_server.specs.Framing.{Framing}
 use Rattle.modbus_server.specs.State.{State}
 
 -- all that waited was written, or the sink failed
@@ -21,7 +22,7 @@ WritesOnce old new (Err _) = ⊥
 abbrev pub GivesAs : Framing → State → State → List ℕ → List Cut → Result Step ProcessError → Type 0
 GivesAs F old new fed made (Ok MoreRead) =
     (room : ℕ) × (made ≡ cut_at (length fed) room ∷ []) × (0 < length fed) × (new.waiting ≡ old.waiting) × (new.is_open ≡ old.is_open) × (length new.held ≤ F.most)
-    × ((bytes cuts : List ℕ) (taken : List (Message F)) → F.StandsFor bytes cuts old.held taken → F.HasRoom bytes room × F.StandsFor (bytes ++ fed) (cuts ++ length (bytes ++ fed) ∷ []) new.held taken)
+    × ((bytes cuts : List ℕ) (taken : List (Message F.Header)) → F.StandsFor bytes cuts old.held taken → F.HasRoom bytes room × F.StandsFor (bytes ++ fed) (cuts ++ length (bytes ++ fed) ∷ []) new.held taken)
 GivesAs F old new fed made (Ok Ended) = (fed ≡ []) × (made ≡ []) × (old.held ≡ []) × (new.held ≡ old.held) × (new.waiting ≡ old.waiting) × (new.is_open ≡ false)
 GivesAs F old new fed made (Ok _) = ⊥
 GivesAs F old new fed made (Err BytesRemaining) = (fed ≡ []) × (made ≡ []) × (old.held ≢ []) × (new.is_open ≡ false)
@@ -36,7 +37,7 @@ pub record Fills (F : Framing) {E : Type 0} (from to : Input) (old new : List �
   pub reads : ReadsPiece from to (F.room old) piece result
   pub held : new ≡ old ++ piece
   pub most : 0 < length piece → length new ≤ F.most
-  pub stands : (bytes cuts : List ℕ) (taken : List (Message F)) → F.StandsFor bytes cuts old taken → 0 < length piece
+  pub stands : (bytes cuts : List ℕ) (taken : List (Message F.Header)) → F.StandsFor bytes cuts old taken → 0 < length piece
       → F.HasRoom bytes (F.room old) × F.StandsFor (bytes ++ piece) (cuts ++ length (bytes ++ piece) ∷ []) new taken
 
 -- whether the input ended

@@ -2,6 +2,7 @@
 ghost use Rattle.std.specs.Prelude.{◌+◌, ◌<◌, ◌≤◌, ◌≡◌, [], length};
 ghost use Rattle.std.specs.Result.{ForErr};
 ghost use Rattle.modbus_frame.specs.Codes.{function_number};
+ghost use Rattle.modbus_pdu.specs.Message.{message};
 ghost use Rattle.modbus_server.specs.Answer.{FramesAs, AnswersAs};
 
 use crate::error::{Next, NextError};
@@ -61,8 +62,8 @@ pub(crate) fn answer<I: Framing, V: Answerer>(
 ) -> Result<Next, NextError<I::Fault>>
     requires empty { reply.old.items ≡ [] }
     requires space { I.framing.reply_room ≤ reply.old.spare }
-    ensures answers { AnswersAs I.framing V.answering (I.header_of header, pdu.now) service.old
-        result service.new reply.new.items }
+    ensures answers { AnswersAs I.framing V.answering (message (I.header_of header) pdu.now)
+        service.old result service.new reply.new.items }
     ensures space { I.framing.reply_room ≤ length reply.new.items + reply.new.spare }
 {
     let request = match I::decode(alloc, pdu) {

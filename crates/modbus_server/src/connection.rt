@@ -1,9 +1,9 @@
 //! One connection of a server, whatever frames its messages. It does no IO: it is given bytes, and gives bytes.
 ghost use Rattle.std.specs.Prelude.{◌≡◌, ◌↔◌, ℕ, ◌+◌, ◌<◌, ◌≤◌, List, [], false, length, drop, IsTrue, Err, IfOk, OnOk, OnErr};
+ghost use Rattle.modbus_pdu.specs.Message.{Message};
 ghost use Rattle.modbus_link.specs.Outside.{Rose, front_of};
 ghost use Rattle.modbus_link.specs.Polled.{Waited, at_once};
 ghost use Rattle.modbus_link.specs.Reads.{ReadsPiece};
-ghost use Rattle.modbus_server.specs.Framing.{Message};
 ghost use Rattle.modbus_server.specs.Exchanges.{Exchange};
 ghost use Rattle.modbus_server.specs.Served.{Past, Stands, NextTakesMemory};
 ghost use Rattle.modbus_server.specs.Transfer.{Fills};
@@ -71,7 +71,7 @@ fn take_next<I: Framing, V: Answerer>(
     ensures keeps { KeepsAs I.framing.Waits (I.held intake.old) (I.held intake.new) reply.new.items
         service.old service.new result }
     ensures memory { result ≡ Err NextError.NoMemory
-        → (bytes cuts : List ℕ) (taken : List (Message I.framing))
+        → (bytes cuts : List ℕ) (taken : List (Message I.framing.Header))
         → I.framing.StandsFor bytes cuts (I.held intake.old) taken
         → NextTakesMemory I.framing V.answering bytes cuts taken service.old service.new }
     ensures space { I.framing.reply_room ≤ length reply.new.items + reply.new.spare }
@@ -218,7 +218,7 @@ impl<I: Framing> Connection<I> {
         ensures exact { result ≡ I.framing.room self.now.held }
         ensures some { 0 < result }
         ensures within { result ≤ I.framing.longest_read }
-        ensures rooms { (bytes cuts : List ℕ) (taken : List (Message I.framing))
+        ensures rooms { (bytes cuts : List ℕ) (taken : List (Message I.framing.Header))
             → I.framing.StandsFor bytes cuts self.now.held taken → I.framing.HasRoom bytes result }
     {
         self.intake.room()

@@ -10,8 +10,9 @@ ghost use Rattle.modbus_pdu.specs.Encodes.{Encodes};
 ghost use Rattle.modbus_pdu.specs.Decodes.{Decodes};
 ghost use Rattle.modbus_pdu.specs.RequestOf.{CarriesList};
 ghost use Rattle.modbus_pdu.specs.ResponsePdu.{response_result_pdu};
+ghost use Rattle.modbus_pdu.specs.Message.{Message};
 ghost use Rattle.modbus_server.specs.declared.error.ProcessError.{ProcessError};
-ghost use Rattle.modbus_server.specs.Framing.{Framing as Frames, Message, IsOfFraming};
+ghost use Rattle.modbus_server.specs.Framing.{Framing as Frames, IsOfFraming};
 ghost use Rattle.modbus_server.specs.Next.{FindsNext, IsFrontWithin};
 
 use crate::error::ProcessError;
@@ -112,7 +113,7 @@ pub trait Framing: Drop {
     /// The fault that stands there.
     fn front<'a>(&'a self, seam: &'a mut [u8]) -> Result<Front<'a, Self::Header>, Self::Fault>
         requires { framing.seam ≤ length seam.old }
-        ensures finds { (bytes cuts : List ℕ) (taken : List (Message framing))
+        ensures finds { (bytes cuts : List ℕ) (taken : List (Message framing.Header))
             → framing.StandsFor bytes cuts (held self.now) taken
             → FindsNext framing header_of told bytes cuts taken (held self.now) result }
         ensures within { IsFrontWithin framing.Waits (held self.now) result };
@@ -128,7 +129,7 @@ pub trait Framing: Drop {
         ensures exact { result ≡ framing.room (held self.now) }
         ensures some { 0 < result }
         ensures within { result ≤ framing.longest_read }
-        ensures rooms { (bytes cuts : List ℕ) (taken : List (Message framing))
+        ensures rooms { (bytes cuts : List ℕ) (taken : List (Message framing.Header))
             → framing.StandsFor bytes cuts (held self.now) taken → framing.HasRoom bytes result };
 
     /// Makes the room of the next read.
@@ -150,7 +151,7 @@ pub trait Framing: Drop {
         ensures most { length (held self.new) ≤ framing.most }
 
         // What it stands for goes on by the piece.
-        ensures grows { (bytes cuts : List ℕ) (taken : List (Message framing))
+        ensures grows { (bytes cuts : List ℕ) (taken : List (Message framing.Header))
             → framing.StandsFor bytes cuts (held self.old) taken → 0 < length piece.now
             → framing.StandsFor (bytes ++ piece.now) (cuts ++ length (bytes ++ piece.now) ∷ [])
             (held self.new) taken };
@@ -158,13 +159,14 @@ pub trait Framing: Drop {
     /// What holds of the bytes that begin a clean line, in whatever pieces they came: they have no fault, a message that comes next is the
     /// next of the line, and where they are all of it nothing is left behind its messages. It has no code.
     fn laws()
-        ensures calm { (read rest cuts : List ℕ) (messages before : List (Message framing))
+        ensures calm { (read rest cuts : List ℕ) (messages before : List (Message framing.Header))
             (fault : ProcessError) → framing.IsClean (read ++ rest) messages
             → framing.IsBroken read cuts before fault → ⊥ }
-        ensures next { (read rest cuts : List ℕ) (messages before : List (Message framing))
-            (message : Message framing) → framing.IsClean (read ++ rest) messages
+        ensures next { (read rest cuts : List ℕ) (messages before : List (Message framing.Header))
+            (message : Message framing.Header) → framing.IsClean (read ++ rest) messages
             → framing.IsNext read cuts before message
-            → (later : List (Message framing)) × (messages ≡ (before ++ message ∷ []) ++ later) }
-        ensures used { (read cuts left : List ℕ) (messages before : List (Message framing))
+            → (later : List (Message framing.Header))
+            × (messages ≡ (before ++ message ∷ []) ++ later) }
+        ensures used { (read cuts left : List ℕ) (messages before : List (Message framing.Header))
             → framing.IsClean read messages → framing.IsAll read cuts left before → left ≡ [] };
 }

@@ -7,6 +7,7 @@ ghost use Rattle.modbus_rtu.specs.Stands.{frame_at};
 ghost use Rattle.modbus_server.specs.declared.error.ProcessError.TheVariants as errors;
 ghost use Rattle.modbus_tcp.specs.Stream.{Rest, IsSplit};
 ghost use Rattle.modbus_frame.specs.declared.tcp.Header.{Header};
+ghost use Rattle.modbus_pdu.specs.Message.{Message};
 ghost use Rattle.modbus_server.specs.declared.error.ProcessError.{ProcessError};
 ghost use Rattle.modbus_server.specs.State.{State};
 ghost use Rattle.modbus_server.specs.Exchanges.{Exchange, Run};
@@ -61,7 +62,7 @@ pub fn failing_adu<V: Answerer>()
         → Run tcp V.answering opening (all_asked halt s) now }
     ensures first { (bytes cuts written : List ℕ) (opening now : V) (halt : Halt)
         (s : Served tcp V.answering bytes cuts opening now written halt)
-        (adus : List (Header × List ℕ)) (rest : List ℕ) (kind : Rest) → IsSplit bytes adus rest kind
+        (adus : List (Message Header)) (rest : List ℕ) (kind : Rest) → IsSplit bytes adus rest kind
         → IsFirstAduFault adus kind (all_asked halt s) halt }
 {
     modbus_tcp::laws::one_splitting();
@@ -71,11 +72,11 @@ pub fn failing_adu<V: Answerer>()
 /// What fails first in a stream of ADUs is one, so a call whose bytes have it names it, unless a fault of the source or sink or
 /// refused memory came before.
 pub fn one_failing_adu()
-    ensures one { (adus : List (Header × List ℕ)) (kind : Rest) (all : List (Exchange tcp))
+    ensures one { (adus : List (Message Header)) (kind : Rest) (all : List (Exchange tcp))
         (place at : ℕ) (fault other : Halt) → HasAduFault adus kind all place fault
         → HasAduFault adus kind all at other → IsFirstAduFault adus kind all fault
         → IsFirstAduFault adus kind all other → fault ≡ other }
-    ensures none { (adus : List (Header × List ℕ)) (kind : Rest) (left : List ℕ)
+    ensures none { (adus : List (Message Header)) (kind : Rest) (left : List ℕ)
         (all : List (Exchange tcp)) (place : ℕ) (fault : Halt)
         → IsFirstAduFault adus kind all (remaining left) → HasAduFault adus kind all place fault
         → ⊥ }

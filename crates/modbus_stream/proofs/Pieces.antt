@@ -5,12 +5,13 @@ use Rattle.std.proofs.lemmas.List.{get_or_append_left, map-append, take-append-d
 use Rattle.std.proofs.lemmas.List.Elements.{All-append, All-cons, All-nil, All-head, All-tail}
 use Rattle.std.proofs.lemmas.Grind.{flat_map-append}
 use Rattle.modbus_frame.specs.declared.tcp.Header.{Header}
+use Rattle.modbus_pdu.specs.Message.{Message}
 use Rattle.modbus_tcp.specs.Limits.{uncounted}
 use Rattle.modbus_tcp.specs.Stream.{told_length}
 use Rattle.modbus_stream.specs.Pieces.{IsPiece, IsPartial, stream_of, message_of, AreMessages}
 
 abbrev Messages : Type 0
-Messages = List (Header × List ℕ)
+Messages = List (Message Header)
 
 stream_more : (pieces : List (List ℕ)) (piece rest : List ℕ) → stream_of (pieces ++ piece ∷ []) ++ rest ≡ stream_of pieces ++ (piece ++ rest)
 stream_more pieces piece rest =

@@ -1,6 +1,7 @@
 -- The pieces of a stream as a framing (MODBUS Messaging on TCP/IP V1.0b, section 3.1.3).
 use Rattle.std.specs.Prelude.{◌≡◌, ℕ, ◌+◌, ◌-◌, ◌<◌, List, [], ◌∷◌, ◌++◌, length, Ok}
 use Rattle.modbus_frame.specs.declared.tcp.Header.{Header}
+use Rattle.modbus_pdu.specs.Message.{Message}
 use Rattle.modbus_server.specs.declared.error.ProcessError.{ProcessError}
 use Rattle.modbus_server.specs.Framing.{Framing}
 use Rattle.modbus_standard.specs.Unread.{any_request_of}
@@ -9,14 +10,14 @@ use Rattle.modbus_tcp.specs.Limits.{longest_adu, longest_response}
 use Rattle.modbus_stream.specs.Pieces.{IsPartial, AreMessages}
 
 abbrev Messages : Type 0
-Messages = List (Header × List ℕ)
+Messages = List (Message Header)
 
 -- what is held is left of the pieces whose messages were given away
 abbrev pub StandsFor : List ℕ → List ℕ → List ℕ → Messages → Type 0
 StandsFor bytes cuts held taken = AreMessages bytes held taken
 
 -- this message is the next
-abbrev pub IsNextPiece : List ℕ → List ℕ → Messages → Header × List ℕ → Type 0
+abbrev pub IsNextPiece : List ℕ → List ℕ → Messages → Message Header → Type 0
 IsNextPiece bytes cuts taken message = (others : List ℕ) × AreMessages bytes others (taken ++ message ∷ [])
 
 -- these are all messages, and the rest is nothing or a front of a piece

@@ -3,6 +3,7 @@ use Rattle.std.specs.Prelude.{◌≡◌, ◌⊎◌, ℕ, ◌+◌, ◌<◌, ◌�
 use Rattle.std.specs.List.{flat_map}
 use Rattle.modbus_frame.specs.declared.tcp.Header.{Header}
 use Rattle.modbus_pdu.specs.Fields.{word_at}
+use Rattle.modbus_pdu.specs.Message.{Message, message}
 use Rattle.modbus_tcp.specs.Limits.{uncounted, mbap_header, longest_response, modbus_protocol}
 use Rattle.modbus_tcp.specs.Stream.{told_length}
 
@@ -35,12 +36,12 @@ abbrev pub header_with : List ℕ → ℕ → Header
 header_with piece unit = record { transaction_id = word_at piece 0; unit_id = unit }
 
 -- The message of a piece: its transaction, its unit identifier and its PDU; where it is no ADU of a request, no unit and no PDU.
-unfoldable pub message_of : List ℕ → Header × List ℕ
+unfoldable pub message_of : List ℕ → Message Header
 message_of piece =
-    if may_ask piece then (header_with piece (slice_index piece uncounted), drop mbap_header piece) else (header_with piece no_unit, [])
+    if may_ask piece then message (header_with piece (slice_index piece uncounted)) (drop mbap_header piece) else message (header_with piece no_unit) []
 
 -- The bytes are these pieces, one after another, and a rest; these are their messages.
-pub record AreMessages (bytes rest : List ℕ) (messages : List (Header × List ℕ)) : Type 0 where
+pub record AreMessages (bytes rest : List ℕ) (messages : List (Message Header)) : Type 0 where
   pub pieces : List (List ℕ)
   pub joined : bytes ≡ stream_of pieces ++ rest
   pub whole : All IsPiece pieces

@@ -1,15 +1,16 @@
 //! Laws on the pieces of a stream, about definitions alone. Each is proved by its contract, and its body is empty.
 ghost use Rattle.std.specs.Prelude.{◌≡◌, ℕ, List, [], ◌++◌};
 ghost use Rattle.modbus_frame.specs.declared.tcp.Header.{Header};
+ghost use Rattle.modbus_pdu.specs.Message.{Message};
 ghost use Rattle.modbus_stream.specs.Pieces.{IsPartial, AreMessages};
 
 /// Bytes are pieces and a rest in one way, however they are cut: the messages of a front of bytes are the first of those of all, and where
 /// all bytes are pieces, a rest that is no whole piece is nothing.
 pub fn one_reading()
-    ensures front { (read rest others : List ℕ) (messages front : List (Header × List ℕ))
+    ensures front { (read rest others : List ℕ) (messages front : List (Message Header))
         → AreMessages (read ++ rest) [] messages → AreMessages read others front
-        → (later : List (Header × List ℕ)) × (messages ≡ front ++ later) }
-    ensures rest { (read left : List ℕ) (messages before : List (Header × List ℕ))
+        → (later : List (Message Header)) × (messages ≡ front ++ later) }
+    ensures rest { (read left : List ℕ) (messages before : List (Message Header))
         → AreMessages read [] messages → AreMessages read left before → IsPartial left
         → left ≡ [] }
 {}

@@ -1,5 +1,6 @@
 //! One piece of a stream: a header and the bytes that it tells.
 ghost use Rattle.std.specs.Prelude.{◌≡◌, ◌<◌, ◌≤◌, length, take, MatchOption};
+ghost use Rattle.modbus_pdu.specs.Message.{message};
 ghost use Rattle.modbus_tcp.specs.Limits.{longest_adu};
 ghost use Rattle.modbus_stream.specs.Pieces.{IsPiece, IsPartial, may_ask, message_of};
 
@@ -42,7 +43,7 @@ fn may_ask(piece: &[u8]) -> bool
 #[tactic(auto, unfolding(crate::specs::Pieces::message_of))]
 pub(crate) fn message_in(piece: &[u8]) -> (Header, &[u8])
     requires { IsPiece piece.now }
-    ensures { (result.0, result.1.now) ≡ message_of piece.now }
+    ensures { message result.0 result.1.now ≡ message_of piece.now }
 {
     let transaction_id = u16::from_be_bytes([piece[0], piece[1]]);
     if may_ask(piece) {

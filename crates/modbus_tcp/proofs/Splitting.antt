@@ -5,26 +5,27 @@ use Rattle.std.proofs.lemmas.List.{drop_at}
 use Rattle.std.proofs.lemmas.List.Elements.{All-drop, All-nil, All-cons, All-head, All-tail}
 use Rattle.modbus_frame.specs.declared.tcp.Header.{Header}
 use Rattle.modbus_pdu.specs.Laws.{IsByte}
+use Rattle.modbus_pdu.specs.Message.{Message}
 use Rattle.modbus_tcp.specs.Adu.{adu_of, IsAdu, stream_of}
 use Rattle.modbus_tcp.specs.Stream.{Rest, IsRest, IsSplit, BeginsWith}
 use Rattle.modbus_tcp.proofs.Fronts.{told, front_of, same_adu, same_rest, no_rest}
 
 -- one more ADU in front
-one_more : {bytes others rest : List ℕ} {message : Header × List ℕ} {adus : List (Header × List ℕ)} {kind : Rest} → BeginsWith bytes message others → IsSplit others adus rest kind → IsSplit bytes (message ∷ adus) rest kind
+one_more : {bytes others rest : List ℕ} {message : Message Header} {adus : List (Message Header)} {kind : Rest} → BeginsWith bytes message others → IsSplit others adus rest kind → IsSplit bytes (message ∷ adus) rest kind
 one_more {rest = rest} {message} {adus} begins split = record {
-  joined = begins.joined ∙ ap (λ bytes. adu_of message.0 message.1 ++ bytes) split.joined ∙ sym (append_assoc (adu_of message.0 message.1) (stream_of adus) rest);
+  joined = begins.joined ∙ ap (λ bytes. adu_of message.header message.pdu ++ bytes) split.joined ∙ sym (append_assoc (adu_of message.header message.pdu) (stream_of adus) rest);
   whole = All-cons IsAdu message adus begins.whole split.whole;
   left = split.left;
 }
 
-others_bounded : {bytes others : List ℕ} {message : Header × List ℕ} → BeginsWith bytes message others → All IsByte bytes → All IsByte others
+others_bounded : {bytes others : List ℕ} {message : Message Header} → BeginsWith bytes message others → All IsByte bytes → All IsByte others
 others_bounded {bytes} {others} {message} begins bounded =
-    let n = length (adu_of message.0 message.1) in
-    let rest : drop n bytes ≡ others = ap (drop n) begins.joined ∙ drop_at (adu_of message.0 message.1) others n refl in
+    let n = length (adu_of message.header message.pdu) in
+    let rest : drop n bytes ≡ others = ap (drop n) begins.joined ∙ drop_at (adu_of message.header message.pdu) others n refl in
     subst (All IsByte) rest (All-drop IsByte n bytes bounded)
 
 abbrev Splits : List ℕ → Type 0
-Splits bytes = (adus : List (Header × List ℕ)) × (rest : List ℕ) × (kind : Rest) × IsSplit bytes adus rest kind
+Splits bytes = (adus : List (Message Header)) × (rest : List ℕ) × (kind : Rest) × IsSplit bytes adus rest kind
 
 nothing_taken : (bytes : List ℕ) (kind : Rest) → IsRest bytes kind → Splits bytes
 nothing_taken bytes kind is = ([], bytes, kind, record { joined = refl; whole = All-nil IsAdu; left = is })
@@ -45,22 +46,22 @@ pub some_splitting : (bytes : List ℕ) → All IsByte bytes → Splits bytes
 some_splitting bytes bounded = splits_by (length bytes) bytes (omega arith) bounded
 
 -- the first ADU, and the splitting of what follows
-first_of_split : {bytes rest : List ℕ} {message : Header × List ℕ} {adus : List (Header × List ℕ)} {kind : Rest} → IsSplit bytes (message ∷ adus) rest kind → BeginsWith bytes message (stream_of adus ++ rest)
+first_of_split : {bytes rest : List ℕ} {message : Message Header} {adus : List (Message Header)} {kind : Rest} → IsSplit bytes (message ∷ adus) rest kind → BeginsWith bytes message (stream_of adus ++ rest)
 first_of_split {rest = rest} {message} {adus} split = record {
-  joined = split.joined ∙ append_assoc (adu_of message.0 message.1) (stream_of adus) rest;
+  joined = split.joined ∙ append_assoc (adu_of message.header message.pdu) (stream_of adus) rest;
   whole = All-head IsAdu message adus split.whole;
 }
 
-after_first : {bytes rest : List ℕ} {message : Header × List ℕ} {adus : List (Header × List ℕ)} {kind : Rest} → IsSplit bytes (message ∷ adus) rest kind → IsSplit (stream_of adus ++ rest) adus rest kind
+after_first : {bytes rest : List ℕ} {message : Message Header} {adus : List (Message Header)} {kind : Rest} → IsSplit bytes (message ∷ adus) rest kind → IsSplit (stream_of adus ++ rest) adus rest kind
 after_first {message = message} {adus} split = record { joined = refl; whole = All-tail IsAdu message adus split.whole; left = split.left }
 
-moved : {bytes other rest : List ℕ} {adus : List (Header × List ℕ)} {kind : Rest} → bytes ≡ other → IsSplit bytes adus rest kind → IsSplit other adus rest kind
+moved : {bytes other rest : List ℕ} {adus : List (Message Header)} {kind : Rest} → bytes ≡ other → IsSplit bytes adus rest kind → IsSplit other adus rest kind
 moved {rest = rest} {adus} {kind} e split = subst (λ all. IsSplit all adus rest kind) e split
 
 left_is_all : {bytes rest : List ℕ} {kind : Rest} → IsSplit bytes [] rest kind → IsRest bytes kind
 left_is_all {kind = kind} split = subst (λ all. IsRest all kind) (sym split.joined) split.left
 
-pub same_splitting : (bytes rest left : List ℕ) (adus others : List (Header × List ℕ)) (kind other : Rest) → IsSplit bytes adus rest kind → IsSplit bytes others left other → (adus ≡ others) × (rest ≡ left) × (kind ≡ other)
+pub same_splitting : (bytes rest left : List ℕ) (adus others : List (Message Header)) (kind other : Rest) → IsSplit bytes adus rest kind → IsSplit bytes others left other → (adus ≡ others) × (rest ≡ left) × (kind ≡ other)
 same_splitting bytes rest left [] [] kind other split again =
     (refl, sym split.joined ∙ again.joined, same_rest bytes kind other (left_is_all split) (left_is_all again))
 same_splitting bytes rest left [] (n ∷ others) kind other split again = absurd (no_rest kind (first_of_split again) (left_is_all split))
@@ -70,21 +71,21 @@ same_splitting bytes rest left (m ∷ adus) (n ∷ others) kind other split agai
     let later = same_splitting (stream_of adus ++ rest) rest left adus others kind other (after_first split) (moved (sym one.1) (after_first again)) in
     (cc (one.0, later.0), later.1, later.2)
 
-front_of_adus : (message : Header × List ℕ) (adus : List (Header × List ℕ)) (held : List ℕ) → All IsAdu (message ∷ adus) → BeginsWith (stream_of (message ∷ adus) ++ held) message (stream_of adus ++ held)
+front_of_adus : (message : Message Header) (adus : List (Message Header)) (held : List ℕ) → All IsAdu (message ∷ adus) → BeginsWith (stream_of (message ∷ adus) ++ held) message (stream_of adus ++ held)
 front_of_adus message adus held whole = record {
-  joined = append_assoc (adu_of message.0 message.1) (stream_of adus) held;
+  joined = append_assoc (adu_of message.header message.pdu) (stream_of adus) held;
   whole = All-head IsAdu message adus whole;
 }
 
 -- ADUs, and then what follows them
-pub split_behind : (adus : List (Header × List ℕ)) (held rest : List ℕ) (later : List (Header × List ℕ)) (kind : Rest) → All IsAdu adus → IsSplit held later rest kind → IsSplit (stream_of adus ++ held) (adus ++ later) rest kind
+pub split_behind : (adus : List (Message Header)) (held rest : List ℕ) (later : List (Message Header)) (kind : Rest) → All IsAdu adus → IsSplit held later rest kind → IsSplit (stream_of adus ++ held) (adus ++ later) rest kind
 split_behind [] held rest later kind whole split = split
 split_behind (message ∷ adus) held rest later kind whole split =
     one_more (front_of_adus message adus held whole) (split_behind adus held rest later kind (All-tail IsAdu message adus whole) split)
 
 -- ADUs at the front are the first ADUs of the whole
-pub first_adus : (adus : List (Header × List ℕ)) (held rest : List ℕ) (all : List (Header × List ℕ)) (kind : Rest) → All IsAdu adus → IsSplit (stream_of adus ++ held) all rest kind →
-    (later : List (Header × List ℕ)) × (all ≡ adus ++ later) × IsSplit held later rest kind
+pub first_adus : (adus : List (Message Header)) (held rest : List ℕ) (all : List (Message Header)) (kind : Rest) → All IsAdu adus → IsSplit (stream_of adus ++ held) all rest kind →
+    (later : List (Message Header)) × (all ≡ adus ++ later) × IsSplit held later rest kind
 first_adus [] held rest all kind whole split = (all, refl, split)
 first_adus (message ∷ adus) held rest [] kind whole split = absurd (no_rest kind (front_of_adus message adus held whole) (left_is_all split))
 first_adus (message ∷ adus) held rest (other ∷ all) kind whole split =

@@ -4,6 +4,7 @@ use Rattle.std.specs.List.{flat_map}
 use Rattle.modbus_frame.specs.declared.tcp.Header.{Header}
 use Rattle.modbus_pdu.specs.Laws.{IsWord}
 use Rattle.modbus_pdu.specs.Word.{word}
+use Rattle.modbus_pdu.specs.Message.{Message}
 use Rattle.modbus_tcp.specs.Limits.{unit_identifier, max_length, modbus_protocol}
 
 -- the transaction, the protocol, the length of what follows, the unit identifier, and the PDU (section 3.1.3)
@@ -12,10 +13,10 @@ adu_of header pdu = word header.transaction_id ++ word modbus_protocol ++ word (
 
 -- A header and a PDU that an ADU can carry: the transaction is a number of two bytes, and so is the length of the unit identifier
 -- and the PDU.
-pub record IsAdu (message : Header × List ℕ) : Type 0 where
-  pub transaction : IsWord message.0.transaction_id
-  pub size : length message.1 ≤ max_length - unit_identifier
+pub record IsAdu (message : Message Header) : Type 0 where
+  pub transaction : IsWord message.header.transaction_id
+  pub size : length message.pdu ≤ max_length - unit_identifier
 
 -- ADUs one after another
-abbrev pub stream_of : List (Header × List ℕ) → List ℕ
-stream_of messages = flat_map (λ message. adu_of message.0 message.1) messages
+abbrev pub stream_of : List (Message Header) → List ℕ
+stream_of messages = flat_map (λ message. adu_of message.header message.pdu) messages

@@ -5,6 +5,7 @@ use Rattle.modbus_frame.specs.declared.fault.Reason.{Reason}
 use Rattle.modbus_frame.specs.declared.fault.PduError.{PduError}
 use Rattle.modbus_frame.specs.declared.fault.PduError.TheVariants as pdu_errors
 use Rattle.modbus_pdu.specs.Fields.{word_at}
+use Rattle.modbus_pdu.specs.Message.{Message, message}
 use Rattle.modbus_tcp.specs.declared.mbap.Mbap.{Mbap}
 use Rattle.modbus_frame.specs.declared.front.Front.{Front}
 use Rattle.modbus_frame.specs.declared.front.Front.TheVariants as found
@@ -25,7 +26,7 @@ pub record TellsHeader (bytes : List ℕ) (mbap : Mbap) : Type 0 where
 -- What stands at the front of bytes: an ADU, with its PDU and the place where the others begin; nothing or a front of an ADU, in
 -- fewer bytes than the longest ADU has; or a header that is no header of Modbus (section 3.1.3).
 abbrev pub FindsAdu : List ℕ → Result (Front Header) HeaderFault → Type 0
-FindsAdu bytes (Ok (found.Message header pdu end)) = BeginsWith bytes (header, pdu.now) (drop end bytes) × (0 < end) × (end ≤ length bytes)
+FindsAdu bytes (Ok (found.Message header pdu end)) = BeginsWith bytes (message header pdu.now) (drop end bytes) × (0 < end) × (end ≤ length bytes)
 FindsAdu bytes (Ok (found.Waiting dropped)) = (dropped ≡ 0) × (IsRest bytes empty ⊎ IsRest bytes unfinished) × (length bytes < longest_adu)
 FindsAdu bytes (Err faults.InvalidLength) = IsRest bytes no_length
 FindsAdu bytes (Err (faults.InvalidProtocol protocol)) = IsRest bytes (foreign protocol)
@@ -33,12 +34,12 @@ FindsAdu bytes (Err (faults.InvalidProtocol protocol)) = IsRest bytes (foreign p
 -- From the buffer before, what the decoder of ADUs answers, and the buffer after. The first ADU is given and leaves the buffer.
 -- Where the bytes begin no ADU the buffer stays as it is, but for the header of another protocol, which is gone.
 abbrev pub TakesAdu : List ℕ → Result (Option (Header × List ℕ)) TcpError → List ℕ → Type 0
-TakesAdu old (Ok (Some message)) new = BeginsWith old message new
+TakesAdu old (Ok (Some adu)) new = BeginsWith old (message adu.0 adu.1) new
 TakesAdu old (Ok None) new = (IsRest old empty ⊎ IsRest old unfinished) × (new ≡ old)
 TakesAdu old (Err errors.InvalidLength) new = IsRest old no_length × (new ≡ old)
 TakesAdu old (Err (errors.InvalidProtocol protocol)) new = IsRest old (foreign protocol) × (new ≡ drop mbap_header old)
 TakesAdu old (Err (errors.Invalid reason)) new = ⊥
-TakesAdu old (Err errors.NoMemory) new = (message : Header × List ℕ) × (others : List ℕ) × BeginsWith old message others × (new ≡ old)
+TakesAdu old (Err errors.NoMemory) new = (message : Message Header) × (others : List ℕ) × BeginsWith old message others × (new ≡ old)
 
 -- why a codec gives no message, of an ADU whose PDU is not read
 abbrev pub error_of : PduError → TcpError
@@ -50,11 +51,11 @@ error_of pdu_errors.NoMemory = errors.NoMemory
 -- nothing is gone then.
 abbrev pub ReadsAdu : {A M : Type 0} → (List ℕ → Result M Reason) → (M → Type 0) → (A → Header) → (A → M) → List ℕ → Result (Option A) TcpError → List ℕ → Type 0
 ReadsAdu read carries header meaning old (Ok (Some adu)) new =
-    (pdu : List ℕ) × BeginsWith old (header adu, pdu) new × (read pdu ≡ Ok (meaning adu))
+    (pdu : List ℕ) × BeginsWith old (message (header adu) pdu) new × (read pdu ≡ Ok (meaning adu))
 ReadsAdu read carries header meaning old (Ok None) new = (IsRest old empty ⊎ IsRest old unfinished) × (new ≡ old)
 ReadsAdu read carries header meaning old (Err errors.InvalidLength) new = IsRest old no_length × (new ≡ old)
 ReadsAdu read carries header meaning old (Err (errors.InvalidProtocol protocol)) new = IsRest old (foreign protocol) × (new ≡ drop mbap_header old)
 ReadsAdu read carries header meaning old (Err (errors.Invalid reason)) new =
-    (message : Header × List ℕ) × BeginsWith old message new × (read message.1 ≡ Err reason)
+    (message : Message Header) × BeginsWith old message new × (read message.pdu ≡ Err reason)
 ReadsAdu read carries header meaning old (Err errors.NoMemory) new =
-    (message : Header × List ℕ) × (others : List ℕ) × BeginsWith old message others × IsOkAnd (read message.1) carries × (new ≡ old)
+    (message : Message Header) × (others : List ℕ) × BeginsWith old message others × IsOkAnd (read message.pdu) carries × (new ≡ old)

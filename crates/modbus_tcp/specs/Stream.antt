@@ -2,6 +2,7 @@
 use Rattle.std.specs.Prelude.{◌≡◌, ◌≢◌, ◌⊎◌, ℕ, ◌+◌, ◌<◌, ◌≤◌, List, [], ◌++◌, length, All}
 use Rattle.modbus_frame.specs.declared.tcp.Header.{Header}
 use Rattle.modbus_pdu.specs.Fields.{word_at}
+use Rattle.modbus_pdu.specs.Message.{Message}
 use Rattle.modbus_tcp.specs.Adu.{adu_of, IsAdu, stream_of}
 use Rattle.modbus_tcp.specs.Limits.{uncounted, mbap_header, modbus_protocol}
 
@@ -28,12 +29,12 @@ IsRest bytes (foreign protocol) =
     (mbap_header ≤ length bytes) × (0 < told_length bytes) × (uncounted + told_length bytes ≤ length bytes) × (protocol ≡ word_at bytes 2) × (protocol ≢ modbus_protocol)
 
 -- the bytes are these ADUs, one after another, and a rest of this kind
-pub record IsSplit (bytes : List ℕ) (adus : List (Header × List ℕ)) (rest : List ℕ) (kind : Rest) : Type 0 where
+pub record IsSplit (bytes : List ℕ) (adus : List (Message Header)) (rest : List ℕ) (kind : Rest) : Type 0 where
   pub joined : bytes ≡ stream_of adus ++ rest
   pub whole : All IsAdu adus
   pub left : IsRest rest kind
 
 -- the bytes begin with this ADU, and the others follow
-pub record BeginsWith (bytes : List ℕ) (message : Header × List ℕ) (others : List ℕ) : Type 0 where
-  pub joined : bytes ≡ adu_of message.0 message.1 ++ others
+pub record BeginsWith (bytes : List ℕ) (message : Message Header) (others : List ℕ) : Type 0 where
+  pub joined : bytes ≡ adu_of message.header message.pdu ++ others
   pub whole : IsAdu message

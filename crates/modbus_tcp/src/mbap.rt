@@ -1,6 +1,7 @@
 //! The MBAP header, and what stands at the front of the bytes of a stream (MODBUS Messaging on TCP/IP V1.0b, section 3.1.3).
 ghost use Rattle.std.specs.Prelude.{◌≡◌, ◌+◌, ◌<◌, ◌≤◌, ◌↔◌, All, length, drop, IfSome, IsNone};
 ghost use Rattle.modbus_pdu.specs.Laws.{IsByte};
+ghost use Rattle.modbus_pdu.specs.Message.{message};
 ghost use Rattle.modbus_tcp.specs.Decoder.{FindsAdu, TellsHeader};
 ghost use Rattle.modbus_tcp.specs.Stream.{BeginsWith};
 ghost use Rattle.modbus_tcp.specs.Limits.{uncounted, mbap_header, modbus_protocol};
@@ -66,7 +67,7 @@ fn pdu_of(bytes: &[u8], mbap: Mbap) -> &[u8]
     requires some { 0 < mbap.length }
     requires whole { uncounted + mbap.length ≤ length bytes.now }
     requires ours { mbap.protocol ≡ modbus_protocol }
-    ensures { BeginsWith bytes.now (mbap.header, result.now)
+    ensures { BeginsWith bytes.now (message mbap.header result.now)
         (drop (uncounted + mbap.length) bytes.now) }
 {
     &bytes[HEADER..mbap.adu_len()]

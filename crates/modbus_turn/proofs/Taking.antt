@@ -7,7 +7,7 @@ use Rattle.modbus_service.specs.Answering.{Answering}
 use Rattle.modbus_frame.specs.Meaning.{Asked}
 use Rattle.modbus_server.specs.declared.error.ProcessError.{ProcessError}
 use Rattle.modbus_server.specs.declared.error.ProcessError.TheVariants.{ReadFault, WriteFault, BytesRemaining, InvalidRequest, ResponseTooLong, TurnLimit, NoMemory}
-use Rattle.modbus_server.specs.Framing.{Framing, Message}
+use Rattle.modbus_server.specs.Framing.{Framing}
 use Rattle.modbus_server.specs.Exchanges.{Exchange, GivesOutcome, Run}
 use Rattle.modbus_server.specs.Served.{past, Stands, Served, Unwritten, Wanting, WantsMemory, remaining, broken, refused, too_long, Halt, EndsAs}
 use Rattle.modbus_server.specs.State.{State}
@@ -75,9 +75,9 @@ module _ (F : Framing) {S : Type 0} (A : Answering S) where
   abbrev ahead_of : InTurnState S → List Said
   ahead_of t = t.ahead
 
-  wanting_own : (bytes cuts held : List ℕ) (taken : List (Message F)) (ends : InTurnState S) (end : S) → WantsMemory F T bytes cuts held taken ends (at [] end) → ends.ahead ≡ []
+  wanting_own : (bytes cuts held : List ℕ) (taken : List _) (ends : InTurnState S) (end : S) → WantsMemory F T bytes cuts held taken ends (at [] end) → ends.ahead ≡ []
   wanting_own bytes cuts held taken ends end (inl (message, next, (request, is, inl (list, same)))) = ap ahead_of (sym same)
-  wanting_own bytes cuts held taken ends end (inl (message, next, (request, is, inr wants))) = wants_own ends.ahead ends.service (F.slave message.0) request end wants
+  wanting_own bytes cuts held taken ends end (inl (message, next, (request, is, inr wants))) = wants_own ends.ahead ends.service (F.slave message.header) request end wants
   wanting_own bytes cuts held taken ends end (inr (inl (reads, all, same))) = ap ahead_of (sym same)
   wanting_own bytes cuts held taken ends end (inr (inr (none, first, same))) = ap ahead_of (sym same)
 

@@ -23,7 +23,7 @@ texts-preserved c =
 pub returns-in-Some : goal.returns-in-Some
 returns-in-Some c =
     let bytes = c.args.bytes.now in let place = c.texts.place in let taken = take place bytes in let now = c.texts.invariant in
-    delivers_first c.open_ends_grow.ensures.closes c.frames_go_on.ensures.closed bytes taken _ (place + 1) (c.in-Some.frame.slave, c.in-Some.frame.pdu.items) now.quiet (c.in-Some.ensures.gives taken now.decodes)
+    delivers_first c.open_ends_grow.ensures.closes c.frames_go_on.ensures.closed bytes taken _ (place + 1) (record { header = c.in-Some.frame.slave; pdu = c.in-Some.frame.pdu.items }) now.quiet (c.in-Some.ensures.gives taken now.decodes)
     (take_more bytes place 0 c.texts-test.true) (omega (arith, c.texts-test.true))
 
 pub returns-then-bytes-start-gt-MAX_FRAME : goal.returns-then-bytes-start-gt-MAX_FRAME

@@ -1,5 +1,6 @@
 use Rattle.std.proofs.Common.{[], ◌∷◌, length, subst, append-nil}
 use Rattle.modbus_pdu.specs.RequestPdu.{request_pdu}
+use Rattle.modbus_pdu.specs.Message.{message}
 use Rattle.modbus_rtu.specs.Frame.{frame}
 use Rattle.modbus_rtu.specs.Quiet.{IsQuietLine}
 use Rattle.modbus_client.proofs.ResponseHeads.{response_has_head, exception_has_head}
@@ -15,7 +16,7 @@ returns g c = λ before after slave asked answer reads exchanges.
     let pdu = request_pdu asked in
     let lines = c.quiet_lines.ensures in
     let pieces = c.responses_in_pieces.ensures in
-    let quiet = subst (λ bytes. IsQuietLine bytes ((slave, pdu) ∷ [])) (append-nil (frame slave pdu)) (c.request_frames.ensures.quiet ((slave, asked) ∷ []) ((of, fits), tt)) in
+    let quiet = subst (λ bytes. IsQuietLine bytes (message slave pdu ∷ [])) (append-nil (frame slave pdu)) (c.request_frames.ensures.quiet ((slave, asked) ∷ []) ((of, fits), tt)) in
     let once =
     asked_once lines.calm lines.next lines.used c.one_reading.ensures.only slave pdu asked (reads (readable asked of) fits) (frame slave pdu) (length (frame slave pdu) ∷ []) quiet
     g.V.Answerer.answering before after local.sent local.served local.only (λ wants. some (local.wanting wants)) local.server in (

@@ -1,5 +1,6 @@
 use Rattle.std.proofs.Common.{◌-◌, ◌≤◌, ◌∷◌, ◌++◌, [], length, drop, ap, subst, arith}
 use Rattle.std.specs.Prelude.{List, ℕ}
+use Rattle.modbus_pdu.specs.Message.{message}
 use Rattle.modbus_ascii.specs.Stands.{StandsFor, IsNextFrame, AreAllFrames, IsStillOpen}
 use Rattle.modbus_ascii.proofs.Holding.{open-within}
 use Rattle.modbus_ascii.proofs.Buffering.{fed-all, front-frame, front-some, front-waiting, front-left}
@@ -13,7 +14,7 @@ overflow_sub-result c =
 pub returns-then-self-clause-finds : goal.returns-then-self-clause-finds
 returns-then-self-clause-finds c = λ bytes cuts taken s.
     let P : List ℕ → Type 0 = λ h. StandsFor bytes cuts h taken
-    → StandsFor bytes cuts (drop c.self.inside.scan.fed h) (taken ++ (c.slave.result, c.pdu.result.now) ∷ []) × IsNextFrame bytes cuts taken (c.slave.result, c.pdu.result.now) in
+    → StandsFor bytes cuts (drop c.self.inside.scan.fed h) (taken ++ message c.slave.result c.pdu.result.now ∷ []) × IsNextFrame bytes cuts taken (message c.slave.result c.pdu.result.now) in
     subst P c.self.view_is
     (front-frame bytes cuts c.self.inside.ring.items taken c.self.inside.scan c.slave.result c.pdu.result.now c.self.invariant.scans c.if-self.true c.slave.ensures c.pdu.ensures.exact) s
 

@@ -1,5 +1,6 @@
 use Rattle.std.proofs.Common.{◌++◌, ◌∷◌, [], List, ℕ, drop, subst, sym}
 use Rattle.modbus_frame.specs.declared.tcp.Header.{Header}
+use Rattle.modbus_pdu.specs.Message.{Message, message}
 use Rattle.modbus_stream.specs.Pieces.{AreMessages}
 use Rattle.modbus_stream.proofs.Pieces.{one_more}
 use Rattle.modbus_stream.proofs.buffer.StreamBufferFraming.front.Goals as goal
@@ -11,6 +12,6 @@ returns-in-Some-clause-finds c = λ bytes cuts taken are.
     let whole = (rw (c.as_slice-held.ensures) at c.in-Some.ensures).2 in
     let more = one_more bytes held end taken are whole in
     let same = rw (c.as_slice-held.ensures) at c.message_in.ensures in
-    let is : AreMessages bytes (drop end held) (taken ++ (c.message_in.result.0, c.message_in.result.1.now) ∷ []) =
-    subst (λ (m : Header × List ℕ). AreMessages bytes (drop end held) (taken ++ m ∷ [])) (sym same) more in
+    let is : AreMessages bytes (drop end held) (taken ++ message c.message_in.result.0 c.message_in.result.1.now ∷ []) =
+    subst (λ (m : Message Header). AreMessages bytes (drop end held) (taken ++ m ∷ [])) (sym same) more in
     (is, (drop end held, is))
