@@ -17,11 +17,11 @@ use Rattle.modbus_pdu.specs.declared.limits.TheConstants.{MAX_PDU}
 use Rattle.modbus_pdu.specs.Laws.{IsInRange, IsReadable, ReadsBack, request_size}
 use Rattle.modbus_pdu.specs.RequestOf.{request_of}
 use Rattle.modbus_pdu.specs.RequestPdu.{request_pdu}
-use Rattle.modbus_pdu.specs.SlavePdu.{SlavePdu}
+use Rattle.modbus_pdu.specs.SlavePdu.{SlavePdu, message_of}
 use Rattle.modbus_pdu.specs.Message.{message}
 use Rattle.modbus_rtu.specs.Checksum.{crc}
 use Rattle.modbus_rtu.specs.Frame.{frame}
-use Rattle.modbus_rtu.specs.WholeReading.{IsModelledAsk, IsFramedAsk, message_of, stream_of}
+use Rattle.modbus_rtu.specs.WholeReading.{IsModelledAsk, IsFramedAsk, stream_of}
 use Rattle.modbus_rtu.specs.Leftmost.{IsLeftmost}
 use Rattle.modbus_rtu.specs.Place.{frames_below}
 use Rattle.modbus_rtu.specs.Quiet.{IsQuietLine}

@@ -7,7 +7,7 @@ use Rattle.modbus_poll.specs.declared.item.Kind.TheVariants.{U16}
 use Rattle.modbus_poll.specs.declared.item.Item.{Item}
 use Rattle.modbus_poll.specs.Items.{is_readable}
 use Rattle.modbus_poll.specs.Plans.{IsFirstBad}
-use Rattle.modbus_app.specs.Plan.{colon}
+use Rattle.modbus_ascii.specs.Limits.{colon}
 
 not_both : (b : Bool) → b ≡ true → not b ≡ true → ⊥
 not_both b e f = grind arith

@@ -5,16 +5,13 @@ use Rattle.std.specs.Option.{is_some}
 use Rattle.modbus_link.specs.Outside.{Output, Rose, Extends, bytes_appended, IsFront}
 use Rattle.modbus_server.specs.declared.error.ProcessError.{ProcessError}
 use Rattle.modbus_server.specs.declared.error.ProcessError.TheVariants.{WriteFault, NoMemory}
+use Rattle.modbus_ascii.specs.Limits.{colon}
 use Rattle.modbus_poll.specs.declared.item.Kind.TheVariants.{Text}
 use Rattle.modbus_poll.specs.declared.item.Item.{Item}
 use Rattle.modbus_poll.specs.declared.read.Read.{Read}
 use Rattle.modbus_poll.specs.Items.{addresses}
 use Rattle.modbus_poll.specs.Plans.{IsPlan, Follow}
 use Rattle.modbus_poll.specs.Notation.{number_within}
-
--- the byte between an address and a width
-abbrev pub colon : ℕ
-colon = 58
 
 -- an item of so many registers from an address on, none of which is behind the last address
 abbrev pub item_of : Option ℕ → Option ℕ → Option Item

@@ -3,7 +3,8 @@ ghost use Rattle.std.specs.Prelude.{◌≡◌, ◌+◌, ◌<◌, ◌≤◌, ◌=
 ghost use Rattle.std.specs.List.{AllPass};
 ghost use Rattle.arrayvec.specs.ArrayString.{array_string_len};
 ghost use Rattle.modbus_poll.specs.Items.{is_readable};
-ghost use Rattle.modbus_app.specs.Plan.{colon, item_of, item_split, item_named, items_named, read_line, count_line, plan_text, ArePlanned, IsPlanText, TellsPlan};
+ghost use Rattle.modbus_ascii.specs.Limits.{colon};
+ghost use Rattle.modbus_app.specs.Plan.{item_of, item_split, item_named, items_named, read_line, count_line, plan_text, ArePlanned, IsPlanText, TellsPlan};
 
 use arrayvec::ArrayString;
 use itoa::Buffer;

@@ -5,7 +5,7 @@ use Rattle.std.specs.List.{AllByRecursion, list_all, fold}
 use Rattle.std.proofs.lemmas.Bool.{and_parts}
 use Rattle.std.proofs.lemmas.List.{take_at}
 use Rattle.modbus_pdu.specs.Laws.{IsByte}
-use Rattle.modbus_pdu.specs.SlavePdu.{SlavePdu}
+use Rattle.modbus_pdu.specs.SlavePdu.{SlavePdu, IsFramed}
 use Rattle.modbus_pdu.specs.Message.{message}
 use Rattle.modbus_ascii.specs.Limits.{colon, carriage_return, line_feed, shortest_body}
 use Rattle.modbus_ascii.specs.Checksum.{lrc}
@@ -14,7 +14,7 @@ use Rattle.modbus_ascii.specs.Frames.{is_hex_digit, digit_value, frame_of, frame
 use Rattle.modbus_ascii.specs.Decoder.{Reading, digits_of, AreDigits, made_frame, ended}
 use Rattle.modbus_ascii.specs.declared.decoder.Phase.TheVariants.{Digits}
 use Rattle.modbus_ascii.specs.Encoder.{digit, text_of, body, frame}
-use Rattle.modbus_ascii.specs.WholeReading.{IsFramed, stream_of}
+use Rattle.modbus_ascii.specs.WholeReading.{stream_of}
 use Rattle.modbus_ascii.specs.Stands.{kept_of}
 use Rattle.modbus_ascii.proofs.Ends.{opened, given, open_end-more, frames-more}
 use Rattle.modbus_ascii.proofs.Digits.{frame_of-digits}

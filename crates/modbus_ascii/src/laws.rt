@@ -1,10 +1,10 @@
 //! Laws on the frames that bytes deliver, about definitions alone. Each is proved by its contract, and its body is empty.
 ghost use Rattle.std.specs.Prelude.{◌≡◌, ◌≢◌, ℕ, ◌<◌, List, [], ◌∷◌, ◌++◌, length, map};
 ghost use Rattle.std.specs.List.{AllByRecursion};
-ghost use Rattle.modbus_pdu.specs.SlavePdu.{SlavePdu};
+ghost use Rattle.modbus_pdu.specs.SlavePdu.{SlavePdu, IsFramed, message_of};
 ghost use Rattle.modbus_frame.specs.Meaning.{Asked};
 ghost use Rattle.modbus_ascii.specs.Frames.{frames};
-ghost use Rattle.modbus_ascii.specs.WholeReading.{IsFramed, IsFramedAsk, message_of, stream_of};
+ghost use Rattle.modbus_ascii.specs.WholeReading.{IsFramedRequest, stream_of};
 ghost use Rattle.modbus_ascii.specs.Limits.{colon, max_frame};
 ghost use Rattle.modbus_ascii.specs.Stands.{AreOnlyFrames};
 ghost use Rattle.modbus_ascii.specs.Text.{open_end};
@@ -45,8 +45,8 @@ pub fn frames_alone()
 
 /// Frames of requests that fit, one after another, each for some slave, deliver exactly these, with no `:` open at their end.
 pub fn request_frames()
-    ensures framed { (asked : ℕ × Asked) → IsFramedAsk asked → IsFramed (message_of asked) }
-    ensures alone { (asked : List (ℕ × Asked)) → AllByRecursion IsFramedAsk asked
+    ensures framed { (asked : ℕ × Asked) → IsFramedRequest asked → IsFramed (message_of asked) }
+    ensures alone { (asked : List (ℕ × Asked)) → AllByRecursion IsFramedRequest asked
         → AreOnlyFrames (stream_of (map message_of asked)) (map message_of asked) }
 {
     modbus_pdu::requests_have_sizes();

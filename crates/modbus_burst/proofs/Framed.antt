@@ -5,11 +5,11 @@ use Rattle.std.specs.List.{AllByRecursion, flat_map}
 use Rattle.std.proofs.lemmas.Grind.{common_steps}
 use Rattle.std.proofs.lemmas.List.{take_at, get_or_at}
 use Rattle.modbus_pdu.specs.Laws.{IsByte}
-use Rattle.modbus_pdu.specs.SlavePdu.{SlavePdu}
+use Rattle.modbus_pdu.specs.SlavePdu.{SlavePdu, IsFramed}
 use Rattle.modbus_pdu.specs.Message.{message}
 use Rattle.modbus_rtu.specs.Checksum.{crc}
 use Rattle.modbus_rtu.specs.Frame.{frame}
-use Rattle.modbus_burst.specs.Bursts.{bursts_from, is_frame, slave_and_pdu, frame_of, noise, message_of, messages, frames, frames_in_message, IsFramed}
+use Rattle.modbus_burst.specs.Bursts.{bursts_from, is_frame, slave_and_pdu, frame_of, noise, message_in_burst, messages, frames, frames_in_message}
 
 -- a slave address, a PDU and two bytes
 abbrev shape : ℕ → List ℕ → ℕ → ℕ → List ℕ
@@ -117,16 +117,16 @@ frames_are burst message bytes = (forth, back)
     back (e, is) = ap frame_of e ∙ is_framed message.header message.pdu is.some is.fits
 
 -- the message of a burst, by its frame
-pub heard_none : (burst : List ℕ) → [] ≡ frame_of burst → noise ≡ message_of burst
-unfolding frame_of message_of
+pub heard_none : (burst : List ℕ) → [] ≡ frame_of burst → noise ≡ message_in_burst burst
+unfolding frame_of message_in_burst
 heard_none burst e = by_frame (is_frame burst) (slave_and_pdu burst) e
   where
     by_frame : (b : Bool) (p : SlavePdu) → [] ≡ (if b then p ∷ [] else []) → noise ≡ (if b then p else noise)
     by_frame true p e = cc
     by_frame false p e = refl
 
-pub heard_one : (burst : List ℕ) (message : SlavePdu) → message ∷ [] ≡ frame_of burst → message ≡ message_of burst
-unfolding frame_of message_of
+pub heard_one : (burst : List ℕ) (message : SlavePdu) → message ∷ [] ≡ frame_of burst → message ≡ message_in_burst burst
+unfolding frame_of message_in_burst
 heard_one burst message e = by_frame (is_frame burst) (slave_and_pdu burst) e
   where
     by_frame : (b : Bool) (p : SlavePdu) → message ∷ [] ≡ (if b then p ∷ [] else []) → message ≡ (if b then p else noise)
@@ -143,20 +143,20 @@ not_empty : (xs : List ℕ) → 0 < length xs → (length xs == 0) ≡ false
 not_empty xs some = grind (arith, some)
 
 -- a message is that of a frame, or noise
-pub framed_is : (burst : List ℕ) → frames_in_message (message_of burst) ≡ frame_of burst
-unfolding frame_of message_of
+pub framed_is : (burst : List ℕ) → frames_in_message (message_in_burst burst) ≡ frame_of burst
+unfolding frame_of message_in_burst
 framed_is burst = by_frame (is_frame burst) (slave_and_pdu burst) (λ is. parts_some burst is)
   where
     by_frame : (b : Bool) (p : SlavePdu) → (b ≡ true → 0 < length p.pdu) → frames_in_message (if b then p else noise) ≡ (if b then p ∷ [] else [])
     by_frame true p some = rw (not_empty p.pdu (some refl)) refl
     by_frame false p some = refl
 
-pub noise_is : (burst : List ℕ) → (message_of burst ≡ noise) ↔ (frame_of burst ≡ [])
+pub noise_is : (burst : List ℕ) → (message_in_burst burst ≡ noise) ↔ (frame_of burst ≡ [])
 noise_is burst = ((λ e. sym (framed_is burst) ∙ ap frames_in_message e), (λ e. sym (heard_none burst (sym e))))
 
-all_framed : (bursts : List (List ℕ)) → flat_map frames_in_message (map message_of bursts) ≡ flat_map frame_of bursts
+all_framed : (bursts : List (List ℕ)) → flat_map frames_in_message (map message_in_burst bursts) ≡ flat_map frame_of bursts
 all_framed [] = refl
-all_framed (burst ∷ bursts) = ap (λ front. front ++ flat_map frames_in_message (map message_of bursts)) (framed_is burst) ∙ ap (λ rest. frame_of burst ++ rest) (all_framed bursts)
+all_framed (burst ∷ bursts) = ap (λ front. front ++ flat_map frames_in_message (map message_in_burst bursts)) (framed_is burst) ∙ ap (λ rest. frame_of burst ++ rest) (all_framed bursts)
 
 pub frames_among : (bytes cuts : List ℕ) → flat_map frames_in_message (messages bytes cuts) ≡ frames bytes cuts
 unfolding messages frames

@@ -5,7 +5,7 @@ use Rattle.std.proofs.lemmas.List.{take-append-le, take_all, drop_at, drop_all, 
 use Rattle.std.proofs.lemmas.Grind.{flat_map-append}
 use Rattle.modbus_pdu.specs.SlavePdu.{SlavePdu}
 use Rattle.modbus_link.specs.Reads.{Rise, last_cut, AreCuts}
-use Rattle.modbus_burst.specs.Bursts.{bursts_from, frame_of, frames, message_of, messages}
+use Rattle.modbus_burst.specs.Bursts.{bursts_from, frame_of, frames, message_in_burst, messages}
 use Rattle.modbus_burst.specs.Framing.{waiting_of, StandsFor, IsNextBurst, IsOneReading}
 
 rises : (total : ℕ) (cuts : List ℕ) → Rise total cuts → total ≤ last_cut total cuts
@@ -40,10 +40,10 @@ bursts-more total bytes piece (cut ∷ cuts) r e =
     ∙ ap (λ (rest : List (List ℕ)). drop total (take cut bytes) ∷ rest) (bursts-more cut bytes piece cuts r.1 e)
 
 pub messages-more : (bytes piece cuts : List ℕ) → AreCuts bytes cuts
-    → messages (bytes ++ piece) (cuts ++ length (bytes ++ piece) ∷ []) ≡ messages bytes cuts ++ message_of piece ∷ []
+    → messages (bytes ++ piece) (cuts ++ length (bytes ++ piece) ∷ []) ≡ messages bytes cuts ++ message_in_burst piece ∷ []
 unfolding messages
 messages-more bytes piece cuts c =
-    ap (map message_of) (bursts-more 0 bytes piece cuts c.rise c.all) ∙ map-append message_of (bursts_from 0 bytes cuts) (piece ∷ [])
+    ap (map message_in_burst) (bursts-more 0 bytes piece cuts c.rise c.all) ∙ map-append message_in_burst (bursts_from 0 bytes cuts) (piece ∷ [])
 
 pub frames-more : (bytes piece cuts : List ℕ) → AreCuts bytes cuts → frames (bytes ++ piece) (cuts ++ length (bytes ++ piece) ∷ []) ≡ frames bytes cuts ++ frame_of piece
 unfolding frames
@@ -53,7 +53,7 @@ frames-more bytes piece cuts c =
     ∙ ap (λ last. flat_map frame_of (bursts_from 0 bytes cuts) ++ last) (append-nil (frame_of piece))
 
 -- a burst that is held waits
-waits : (held : List ℕ) → 0 < length held → waiting_of held ≡ message_of held ∷ []
+waits : (held : List ℕ) → 0 < length held → waiting_of held ≡ message_in_burst held ∷ []
 waits [] some = absurd (omega arith)
 waits (x ∷ xs) some = refl
 
@@ -68,7 +68,7 @@ pub grown : (bytes cuts piece : List ℕ) (taken : List SlavePdu) → StandsFor 
 grown bytes cuts piece taken s some = record {
   are_cuts = cuts-more bytes piece cuts s.are_cuts some;
   next = messages-more bytes piece cuts s.are_cuts
-      ∙ ap (λ front. front ++ message_of piece ∷ []) (s.next ∙ append-nil taken)
+      ∙ ap (λ front. front ++ message_in_burst piece ∷ []) (s.next ∙ append-nil taken)
       ∙ ap (λ last. taken ++ last) (sym (waits piece some));
 }
 

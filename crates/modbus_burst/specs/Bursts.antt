@@ -1,9 +1,7 @@
 -- The bursts of a line, and the message that each of them is (MODBUS over Serial Line V1.02, section 2.5.1.1).
-use Rattle.std.specs.Prelude.{ℕ, ◌+◌, ◌-◌, ◌*◌, ◌==◌, ◌&&◌, ◌≤◌, ◌<◌, nat_le, Bool, if◌then◌else◌, List, [], ◌∷◌, length, take, drop, slice_index, map, Option, Some, None}
-use Rattle.std.specs.List.{flat_map, AllByRecursion}
+use Rattle.std.specs.Prelude.{ℕ, ◌+◌, ◌-◌, ◌*◌, ◌==◌, ◌&&◌, nat_le, Bool, if◌then◌else◌, List, [], ◌∷◌, length, take, drop, slice_index, map, Option, Some, None}
+use Rattle.std.specs.List.{flat_map}
 use Rattle.modbus_pdu.specs.SlavePdu.{SlavePdu}
-use Rattle.modbus_pdu.specs.Laws.{IsByte}
-use Rattle.modbus_pdu.specs.Limits.{max_pdu}
 use Rattle.modbus_pdu.specs.Message.{message}
 use Rattle.modbus_rtu.specs.Checksum.{crc}
 use Rattle.modbus_rtu.specs.Limits.{overhead, checksum, max_frame}
@@ -33,12 +31,12 @@ abbrev pub noise : SlavePdu
 noise = message noise_address []
 
 -- The message that a burst is: the slave address and the PDU of its frame, or noise.
-unfoldable pub message_of : List ℕ → SlavePdu
-message_of burst = if is_frame burst then slave_and_pdu burst else noise
+unfoldable pub message_in_burst : List ℕ → SlavePdu
+message_in_burst burst = if is_frame burst then slave_and_pdu burst else noise
 
 -- the messages of the bursts of bytes, in order: each burst is one, whatever it is
 unfoldable pub messages : List ℕ → List ℕ → List SlavePdu
-messages bytes cuts = map message_of (bursts_from 0 bytes cuts)
+messages bytes cuts = map message_in_burst (bursts_from 0 bytes cuts)
 
 -- the frames among them, in order
 unfoldable pub frames : List ℕ → List ℕ → List SlavePdu
@@ -52,10 +50,3 @@ frames_in_message heard = if length heard.pdu == 0 then [] else heard ∷ []
 abbrev pub found : {P : Type 0} → (P → SlavePdu) → Option P → List SlavePdu
 found parts_of None = []
 found parts_of (Some p) = parts_of p ∷ []
-
--- a slave address and a PDU that a frame has, all of bytes
-pub record IsFramed (message : SlavePdu) : Type 0 where
-  pub slave : IsByte message.header
-  pub bytes : AllByRecursion IsByte message.pdu
-  pub some : 0 < length message.pdu
-  pub fits : length message.pdu ≤ max_pdu

@@ -7,41 +7,38 @@ use Rattle.modbus_rtu.specs.Limits.{max_frame}
 use Rattle.modbus_server.specs.declared.error.ProcessError.{ProcessError}
 use Rattle.modbus_server.specs.Framing.{Framing}
 use Rattle.modbus_standard.specs.Unread.{any_request_of}
-use Rattle.modbus_burst.specs.Bursts.{message_of, messages}
+use Rattle.modbus_burst.specs.Bursts.{message_in_burst, messages}
 use Rattle.modbus_burst.specs.Limits.{most_read}
 
-abbrev Messages : Type 0
-Messages = List SlavePdu
-
 -- the message of the burst that is held, if one is: a burst that was read has a byte at least
-abbrev pub waiting_of : List ℕ → Messages
+abbrev pub waiting_of : List ℕ → List SlavePdu
 waiting_of [] = []
-waiting_of (byte ∷ rest) = message_of (byte ∷ rest) ∷ []
+waiting_of (byte ∷ rest) = message_in_burst (byte ∷ rest) ∷ []
 
 -- The messages of these bursts are those that were given away, and that of the burst which is held.
-pub record StandsFor (bytes cuts held : List ℕ) (taken : Messages) : Type 0 where
+pub record StandsFor (bytes cuts held : List ℕ) (taken : List SlavePdu) : Type 0 where
   pub are_cuts : AreCuts bytes cuts
   pub next : messages bytes cuts ≡ taken ++ waiting_of held
 
 -- this message is the next
-pub record IsNextBurst (bytes cuts : List ℕ) (taken : Messages) (message : SlavePdu) : Type 0 where
+pub record IsNextBurst (bytes cuts : List ℕ) (taken : List SlavePdu) (message : SlavePdu) : Type 0 where
   pub are_cuts : AreCuts bytes cuts
-  pub later : Messages
+  pub later : List SlavePdu
   pub next : messages bytes cuts ≡ (taken ++ message ∷ []) ++ later
 
 -- these are all messages, and nothing is left over
-abbrev pub AreAllBursts : List ℕ → List ℕ → List ℕ → Messages → Type 0
+abbrev pub AreAllBursts : List ℕ → List ℕ → List ℕ → List SlavePdu → Type 0
 AreAllBursts bytes cuts left taken = (taken ≡ messages bytes cuts) × (left ≡ [])
 
 -- bursts have no fault: one that is no frame is a message too
-abbrev pub HasFault : List ℕ → List ℕ → Messages → ProcessError → Type 0
+abbrev pub HasFault : List ℕ → List ℕ → List SlavePdu → ProcessError → Type 0
 HasFault bytes cuts taken fault = ⊥
 
 -- However these bytes are cut, the messages of a front of them are a front of these. A line with a frame in it can be cut so that the
 -- frame is none, and has no such messages. What holds of every line with its cuts is `ServesBursts`.
-abbrev pub IsOneReading : List ℕ → Messages → Type 0
+abbrev pub IsOneReading : List ℕ → List SlavePdu → Type 0
 IsOneReading bytes heard = (read rest cuts : List ℕ) → bytes ≡ read ++ rest → AreCuts read cuts
-    → (later : Messages) × (heard ≡ messages read cuts ++ later)
+    → (later : List SlavePdu) × (heard ≡ messages read cuts ++ later)
 
 abbrev pub IsEmpty : List ℕ → Type 0
 IsEmpty held = held ≡ []

@@ -1,7 +1,7 @@
 //! The frame that a burst is, and its message (MODBUS over Serial Line V1.02, section 2.5.1).
 ghost use Rattle.std.specs.Prelude.{◌≡◌};
 ghost use Rattle.modbus_pdu.specs.Message.{message};
-ghost use Rattle.modbus_burst.specs.Bursts.{frame_of, found, message_of};
+ghost use Rattle.modbus_burst.specs.Bursts.{frame_of, found, message_in_burst};
 
 use modbus_frame::SlaveId;
 use modbus_rtu::{MAX_FRAME, calc_crc};
@@ -33,7 +33,7 @@ pub fn frame_in(burst: &[u8]) -> Option<(SlaveId, &[u8])>
 
 /// The slave address and the PDU of the message that a burst is: those of its frame, or `NOISE_ADDRESS` and no byte where it is none.
 pub fn message_in(burst: &[u8]) -> (SlaveId, &[u8])
-    ensures { message result.0 result.1.now ≡ message_of burst.now }
+    ensures { message result.0 result.1.now ≡ message_in_burst burst.now }
 {
     match frame_in(burst) {
         Some(frame) => frame,

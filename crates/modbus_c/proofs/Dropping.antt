@@ -5,15 +5,12 @@ use Rattle.std.proofs.lemmas.List.Elements.{All-append, All-cons, All-nil}
 use Rattle.std.proofs.lemmas.Grind.{flat_map-append, common_steps}
 use Rattle.modbus_frame.specs.declared.fault.HeaderSeen.{HeaderSeen}
 use Rattle.modbus_frame.specs.declared.tcp.Header.{Header}
-use Rattle.modbus_tcp.specs.Adu.{adu_of, IsAdu, stream_of}
+use Rattle.modbus_tcp.specs.Adu.{Adus, adu_of, IsAdu, stream_of}
 use Rattle.modbus_frame.specs.declared.fault.TransportError.TheVariants.{InvalidProtocol}
 use Rattle.modbus_pdu.specs.Message.{Message, message}
 use Rattle.modbus_tcp.specs.Stream.{BeginsWith, foreign, IsRest}
 use Rattle.modbus_client.specs.Protocol.{reply, broken}
 use Rattle.modbus_client.specs.Tcp.{header_seen, IsOfAnother, DropsAdus, EndsOfAnother, FindsOwnAdu}
-
-abbrev Adus : Type 0
-Adus = List (Message Header)
 
 -- a slice from a place on
 pub rest_of : (bytes : List ℕ) (start : ℕ) → take (length bytes - start) (drop start bytes) ≡ drop start bytes

@@ -12,7 +12,7 @@ use Rattle.modbus_frame.specs.declared.fault.ProtocolError.TheVariants.{HeaderMi
 use Rattle.modbus_frame.specs.declared.tcp.Header.{Header}
 use Rattle.modbus_frame.specs.declared.fault.HeaderSeen.{HeaderSeen}
 use Rattle.modbus_pdu.specs.Message.{Message, message}
-use Rattle.modbus_tcp.specs.Adu.{adu_of, IsAdu, stream_of}
+use Rattle.modbus_tcp.specs.Adu.{Adus, adu_of, IsAdu, stream_of}
 use Rattle.modbus_tcp.specs.Stream.{no_length, foreign, IsRest, BeginsWith}
 use Rattle.modbus_client.specs.declared.protocol.Reply.{Reply}
 use Rattle.modbus_client.specs.declared.protocol.LookError.{LookError}
@@ -23,9 +23,6 @@ use Rattle.modbus_client.specs.Call.{LooksAs}
 use Rattle.modbus_client.specs.Calls.{CallEndsAs, Exchanged}
 use Rattle.modbus_client.specs.Tcp.{header_seen, FindsReplyAdu, tcp_protocol, IsOfAnother, DropsAdus, EndsOfAnother, IsUnder, FindsOwnAdu, adus_in, CountsOthers, matching_protocol}
 use Rattle.modbus_client.proofs.OneAdu.{OneBegins, OneRest, AreApart, not_waiting, not_broken, one_adu, adu_alone}
-
-abbrev Adus : Type 0
-Adus = List (Message Header)
 
 module _ (asked : HeaderSeen) where
   -- nothing is dropped

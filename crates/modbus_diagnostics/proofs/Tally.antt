@@ -6,22 +6,22 @@ use Rattle.modbus_diagnostics.specs.declared.counters.Counters.{Counters}
 use Rattle.modbus_diagnostics.specs.declared.counters.Ended.{Ended}
 use Rattle.modbus_diagnostics.specs.declared.heard.Heard.{Heard}
 use Rattle.modbus_diagnostics.specs.Heard.{heard_of, is_message, is_own, clears}
-use Rattle.modbus_diagnostics.specs.Counters.{last_count, next_if, zeros, outcome_counted, is_refused, is_silent, is_event, counters_after, tally, counters_of}
+use Rattle.modbus_diagnostics.specs.Counters.{greatest_count, next_if, zeros, outcome_counted, is_refused, is_silent, is_event, counters_after, tally, counters_of}
 
 -- a counter that goes on from a number
 pub on : {A : Type 0} → ℕ → (A → Bool) → List A → ℕ
-on k is xs = min (k + length (filter is xs)) last_count
+on k is xs = min (k + length (filter is xs)) greatest_count
 
 one_more : {A : Type 0} (m : ℕ) (b : Bool) (k : ℕ) (x : A) (ys : List A) → k ≤ m
     → min (k + length (cond b (x ∷ ys) ys)) m ≡ min (cond b (min (k + 1) m) k + length ys) m
 one_more m true k x ys within = omega arith
 one_more m false k x ys within = refl
 
-on_cons : {A : Type 0} (k : ℕ) (is : A → Bool) (x : A) (xs : List A) → k ≤ last_count → on k is (x ∷ xs) ≡ on (next_if (is x) k) is xs
+on_cons : {A : Type 0} (k : ℕ) (is : A → Bool) (x : A) (xs : List A) → k ≤ greatest_count → on k is (x ∷ xs) ≡ on (next_if (is x) k) is xs
 unfolding on
-on_cons k is x xs within = one_more last_count (is x) k x (filter is xs) within
+on_cons k is x xs within = one_more greatest_count (is x) k x (filter is xs) within
 
-on_nil : {A : Type 0} (k : ℕ) (is : A → Bool) → k ≤ last_count → on k is [] ≡ k
+on_nil : {A : Type 0} (k : ℕ) (is : A → Bool) → k ≤ greatest_count → on k is [] ≡ k
 unfolding on
 on_nil k is within = omega arith
 
@@ -35,12 +35,12 @@ next_within m false k within = within
 
 -- counters that are numbers of two bytes
 pub record Within (c : Counters) : Type 0 where
-  pub bus_messages : c.bus_messages ≤ last_count
-  pub checksum_errors : c.checksum_errors ≤ last_count
-  pub exceptions : c.exceptions ≤ last_count
-  pub own_messages : c.own_messages ≤ last_count
-  pub no_responses : c.no_responses ≤ last_count
-  pub events : c.events ≤ last_count
+  pub bus_messages : c.bus_messages ≤ greatest_count
+  pub checksum_errors : c.checksum_errors ≤ greatest_count
+  pub exceptions : c.exceptions ≤ greatest_count
+  pub own_messages : c.own_messages ≤ greatest_count
+  pub no_responses : c.no_responses ≤ greatest_count
+  pub events : c.events ≤ greatest_count
 
 pub zeros_within : Within zeros
 zeros_within = record {
@@ -71,12 +71,12 @@ counted_cleared c h end cleared = ap (λ b. cond b zeros (stepped c h end)) clea
 
 pub stepped_within : (c : Counters) (h : Heard) (end : Ended) → Within c → Within (stepped c h end)
 stepped_within c h end within = record {
-  bus_messages = next_within last_count (is_message h) c.bus_messages within.bus_messages;
-  checksum_errors = next_within last_count (not (is_message h)) c.checksum_errors within.checksum_errors;
-  exceptions = next_within last_count (is_refused h end) c.exceptions within.exceptions;
-  own_messages = next_within last_count (is_own h) c.own_messages within.own_messages;
-  no_responses = next_within last_count (is_silent h end) c.no_responses within.no_responses;
-  events = next_within last_count (is_event h end) c.events within.events;
+  bus_messages = next_within greatest_count (is_message h) c.bus_messages within.bus_messages;
+  checksum_errors = next_within greatest_count (not (is_message h)) c.checksum_errors within.checksum_errors;
+  exceptions = next_within greatest_count (is_refused h end) c.exceptions within.exceptions;
+  own_messages = next_within greatest_count (is_own h) c.own_messages within.own_messages;
+  no_responses = next_within greatest_count (is_silent h end) c.no_responses within.no_responses;
+  events = next_within greatest_count (is_event h end) c.events within.events;
 }
 
 abbrev made : ℕ → ℕ → ℕ → ℕ → ℕ → ℕ → Counters

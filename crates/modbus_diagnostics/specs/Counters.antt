@@ -9,12 +9,12 @@ use Rattle.modbus_diagnostics.specs.declared.heard.Heard.{Heard}
 use Rattle.modbus_diagnostics.specs.Heard.{heard_of, is_message, is_own, clears, asks_events}
 
 -- the last number of a counter
-abbrev pub last_count : ℕ
-last_count = 65535
+abbrev pub greatest_count : ℕ
+greatest_count = 65535
 
 -- one more where this happened
 abbrev pub next_if : Bool → ℕ → ℕ
-next_if happened count = if happened then min (count + 1) last_count else count
+next_if happened count = if happened then min (count + 1) greatest_count else count
 
 abbrev pub zeros : Counters
 zeros = record { bus_messages = 0; checksum_errors = 0; exceptions = 0; own_messages = 0; no_responses = 0; events = 0 }
@@ -59,7 +59,7 @@ counters_after c h end =
 
 -- how many of these are so, as a counter counts
 abbrev pub tally : {A : Type 0} → (A → Bool) → List A → ℕ
-tally is xs = min (length (filter is xs)) last_count
+tally is xs = min (length (filter is xs)) greatest_count
 
 -- The counts over exchanges of a line, for a port with these units: the messages, what is none, the exceptions sent, the messages for its
 -- units or for all, those of them that were not answered, the events.

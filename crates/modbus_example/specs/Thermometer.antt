@@ -8,11 +8,11 @@ use Rattle.modbus_service.specs.Outcome.{Outcome, reply, exception}
 use Rattle.modbus_example.specs.declared.thermometer.Thermometer.{Thermometer}
 
 -- a read of register 0 alone is answered with the temperature, and any other read of input registers is out of range
-abbrev pub outcome_of : Thermometer → Asked → Outcome
-outcome_of it (asked.ReadInputRegisters address quantity) =
+abbrev pub reading_outcome : Thermometer → Asked → Outcome
+reading_outcome it (asked.ReadInputRegisters address quantity) =
     if address == 0 && quantity == 1 then reply (response.ReadInputRegisters (it.tenths ∷ [])) else exception IllegalDataAddress
-outcome_of it _ = exception IllegalFunction
+reading_outcome it _ = exception IllegalFunction
 
 -- it measures the same for every slave, and stays as it is
 abbrev pub MeasuresAs : Thermometer → ℕ → Asked → Outcome → Thermometer → Type 0
-MeasuresAs old slave request outcome new = (outcome ≡ outcome_of old request) × (new ≡ old)
+MeasuresAs old slave request outcome new = (outcome ≡ reading_outcome old request) × (new ≡ old)

@@ -16,7 +16,7 @@ use Rattle.modbus_server.specs.Exchanges.{Exchange, Run, GivesOutcome, ReplyFits
 use Rattle.modbus_server.specs.Served.{Served, Halts, broken, too_long}
 use Rattle.modbus_server.specs.Complete.{RepliesFit}
 use Rattle.modbus_server.specs.Tcp.{tcp}
-use Rattle.modbus_gateway.specs.Answer.{LineAnswer, of_call, of_sending, outcome_of}
+use Rattle.modbus_gateway.specs.Answer.{LineAnswer, of_call, of_sending, line_outcome}
 use Rattle.modbus_gateway.specs.Forwards.{LineState, forwards}
 
 -- an outcome that fits, or none
@@ -30,7 +30,7 @@ unfolding reply_pdu
 response_fits code response true e = leb-true (length (response_pdu response)) max_pdu e
 response_fits code response false e = omega arith
 
-told_fits : (code : ℕ) (answer : LineAnswer) → FitsIfSome code (outcome_of answer)
+told_fits : (code : ℕ) (answer : LineAnswer) → FitsIfSome code (line_outcome answer)
 unfolding reply_pdu
 told_fits code (of_call (Ok (Ok response))) = response_fits code response (nat_le (length (response_pdu response)) max_pdu) refl
 told_fits code (of_call (Ok (Err refusal))) = omega arith

@@ -22,10 +22,10 @@ use Rattle.modbus_server.specs.Served.{IsEndOf, Halt, remaining, broken, refused
 use Rattle.modbus_server.specs.Step.{Ran}
 use Rattle.modbus_server.specs.Tcp.{tcp, AreAllAdus}
 use Rattle.modbus_service.specs.Outcome.{Outcome, code_of}
-use Rattle.modbus_gateway.specs.Answer.{outcome_of}
+use Rattle.modbus_gateway.specs.Answer.{line_outcome}
 use Rattle.modbus_gateway.specs.Forwards.{LineState, forwards}
 use Rattle.modbus_gateway.specs.Records.{LineView, view_of, LineRecord, AreJoined, record_told, told_in, reply_to, record_reply, replies}
-use Rattle.modbus_gateway.specs.Forwarded.{question_asked, StopsAfter, HasOutcome, last_reply, SendsAs, InRecords, Forwarded}
+use Rattle.modbus_gateway.specs.Forwarded.{question_asked, StopsAfter, HasOutcome, last_record_reply, SendsAs, InRecords, Forwarded}
 use Rattle.modbus_gateway.proofs.Fitting.{none_too_long, none_crowded}
 use Rattle.modbus_gateway.proofs.Recording.{same_reply, joined_recorded, run_in_records, want_in_record}
 use Rattle.modbus_server.specs.Moment.{moment}
@@ -50,11 +50,11 @@ all_told xs [] e = All-nil HasOutcome
 all_told [] (r ∷ rs) e = cc
 all_told (x ∷ xs) (r ∷ rs) e =
     let first : record_told r ≡ told_in x = cc in
-    let told : outcome_of r.answer ≡ Some x.outcome = ap (λ (t : Header × Asked × Option Outcome). t.2) first in
+    let told : line_outcome r.answer ≡ Some x.outcome = ap (λ (t : Header × Asked × Option Outcome). t.2) first in
     let one : HasOutcome r = λ none. cc in
     All-cons HasOutcome r rs one (all_told xs rs (cc))
 
-same_last : (xs : List (Exchange tcp)) (rs : List LineRecord) → map record_told rs ≡ map told_in xs → server.last_reply tcp xs ≡ last_reply rs
+same_last : (xs : List (Exchange tcp)) (rs : List LineRecord) → map record_told rs ≡ map told_in xs → server.last_reply tcp xs ≡ last_record_reply rs
 same_last [] [] e = refl
 same_last (x ∷ xs) [] e = cc
 same_last [] (r ∷ rs) e = cc
@@ -134,7 +134,7 @@ module _ {L : Type 0} (M : LinkMeaning L) (fed cuts : List ℕ) (old new : LineS
         let view : AreJoined old.turns (view_of M w.ends) (last.row ∷ []) (view_of M new) =
         subst (λ n. AreJoined n (view_of M w.ends) (last.row ∷ []) (view_of M new)) r.turns last.recorded.joined in
         let all = joined_more old.turns (view_of M old) (view_of M w.ends) (view_of M new) r.records last.row r.recorded.joined view in
-        let none : outcome_of last.row.answer ≡ None = ap (λ (t : Header × Asked × Option Outcome). t.2) last.told in
+        let none : line_outcome last.row.answer ≡ None = ap (λ (t : Header × Asked × Option Outcome). t.2) last.told in
         let no_reply : record_reply last.row ≡ [] = ap (reply_to last.row.header (code_of last.row.request)) none in
         let asked_last : asked_of tcp next ≡ question_asked last.row = ap (λ (request' : Result Asked Reason). (next.header, request')) is ∙ sym (ap asks_told last.told) in
         record {

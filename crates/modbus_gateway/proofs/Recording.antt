@@ -15,7 +15,7 @@ use Rattle.modbus_client.specs.Matches.{Answer}
 use Rattle.modbus_client.specs.Calls.{Called, SentAlone}
 use Rattle.modbus_client.specs.Rtu.{rtu_protocol, rtu_heading}
 use Rattle.modbus_client.specs.Sends.{WritesRequest}
-use Rattle.modbus_gateway.specs.Answer.{LineAnswer, of_call, of_sending, outcome_of}
+use Rattle.modbus_gateway.specs.Answer.{LineAnswer, of_call, of_sending, line_outcome}
 use Rattle.modbus_gateway.specs.Forwards.{LineState, to_unit, AsksLine, Exchanges, forwards}
 use Rattle.modbus_gateway.specs.Records.{LineView, view_of, LineRecord, line_frame, AsksAs, IsUnconnected, IsIdle, ExchangesAs, IsRecord, AreJoined, written_in, read_in, cuts_in, RecordWrites, WritesFrame, Stays, Recorded, record_told, told_in, reply_to, record_reply, replies, RunInRecords, WantInRecord}
 use Rattle.modbus_link.specs.declared.outside.Cut.{Cut}
@@ -113,7 +113,7 @@ module _ {L : Type 0} (M : LinkMeaning L) where
       let tail : AreJoined start.turns first.row.after later.rows (view_of M end) =
       subst (λ view. AreJoined start.turns view later.rows (view_of M end)) (sym first.ends)
       (subst (λ n. AreJoined n (view_of M next) later.rows (view_of M end)) turns later.joined) in
-      let head : record_told first.row ≡ told_in x = cc (ap outcome_of first.answer_is ∙ told, first.header_is, first.request_is) in
+      let head : record_told first.row ≡ told_in x = cc (ap line_outcome first.answer_is ∙ told, first.header_is, first.request_is) in
       record {
         rows = first.row ∷ later.rows;
         joined = (first.begins, first.is_record, tail);
@@ -242,7 +242,7 @@ want_in_record M old new header request (answer, asks, none) =
     record {
       row = row.row;
       recorded = joined_recorded old.turns (view_of M old) (row.row ∷ []) (view_of M new) (row.begins, row.is_record, sym row.ends);
-      told = cc (ap outcome_of row.answer_is ∙ none, row.header_is, row.request_is);
+      told = cc (ap line_outcome row.answer_is ∙ none, row.header_is, row.request_is);
       turns = kept.0;
       timeout = kept.1;
     }

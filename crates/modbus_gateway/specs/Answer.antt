@@ -45,9 +45,9 @@ outcome_of_sending (Err (Protocol fault)) = Some silence
 outcome_of_sending (Err (Transport fault)) = Some silence
 outcome_of_sending (Err NoMemory) = None
 
-abbrev pub outcome_of : LineAnswer → Option Outcome
-outcome_of (of_call answer) = outcome_of_call answer
-outcome_of (of_sending answer) = outcome_of_sending answer
+abbrev pub line_outcome : LineAnswer → Option Outcome
+line_outcome (of_call answer) = outcome_of_call answer
+line_outcome (of_sending answer) = outcome_of_sending answer
 
 -- an outcome, or that memory was wanting, as what answers requests gives it
 abbrev pub result_given : Option Outcome → Result (Option Response) ServiceError

@@ -8,7 +8,7 @@ use Rattle.modbus_frame.specs.declared.tcp.Header.{Header}
 use Rattle.modbus_frame.specs.declared.fault.Reason.{Reason}
 use Rattle.modbus_pdu.specs.RequestOf.{request_of}
 use Rattle.modbus_pdu.specs.Message.{Message}
-use Rattle.modbus_tcp.specs.Adu.{stream_of, IsAdu}
+use Rattle.modbus_tcp.specs.Adu.{Adus, stream_of, IsAdu}
 use Rattle.modbus_tcp.specs.Stream.{IsSplit, empty}
 use Rattle.modbus_server.specs.declared.error.ProcessError.{ProcessError}
 use Rattle.modbus_server.specs.declared.error.ProcessError.TheVariants.{ReadFault, WriteFault, TooManyRetries, BytesRemaining, InvalidRequest, ResponseTooLong, TurnLimit, InvalidLength, InvalidProtocol, NoMemory}
@@ -17,13 +17,10 @@ use Rattle.modbus_server.specs.Exchanges.{asked_of}
 use Rattle.modbus_server.specs.Served.{IsEndOf}
 use Rattle.modbus_server.specs.Step.{Ran}
 use Rattle.modbus_server.specs.Tcp.{tcp, AreAllAdus, IsNextAdu, IsFaultAfter}
-use Rattle.modbus_gateway.specs.Answer.{outcome_of}
+use Rattle.modbus_gateway.specs.Answer.{line_outcome}
 use Rattle.modbus_gateway.specs.Forwards.{LineState, forwards}
 use Rattle.modbus_gateway.specs.Records.{view_of, LineRecord, Recorded, record_reply, replies}
 use Rattle.modbus_server.specs.Moment.{Moment}
-
-abbrev Adus : Type 0
-Adus = List (Message Header)
 
 -- what was asked in a record
 abbrev pub question_asked : LineRecord → Header × Result Asked Reason
@@ -50,22 +47,22 @@ StopsAfter bytes cuts adus (Err (ResponseTooLong size)) = ⊥
 
 -- memory was not wanting in this record, and in the last of these records alone
 abbrev pub HasOutcome : LineRecord → Type 0
-HasOutcome r = outcome_of r.answer ≢ None
+HasOutcome r = line_outcome r.answer ≢ None
 
 abbrev pub LastWantsMemory : List LineRecord → Type 0
 LastWantsMemory records =
-    (earlier : List LineRecord) × (last : LineRecord) × (records ≡ earlier ++ last ∷ []) × All HasOutcome earlier × (outcome_of last.answer ≡ None)
+    (earlier : List LineRecord) × (last : LineRecord) × (records ≡ earlier ++ last ∷ []) × All HasOutcome earlier × (line_outcome last.answer ≡ None)
 
 -- the reply to the last of them
-abbrev pub last_reply : List LineRecord → List ℕ
-last_reply [] = []
-last_reply (r ∷ []) = record_reply r
-last_reply (r ∷ s ∷ rs) = last_reply (s ∷ rs)
+abbrev pub last_record_reply : List LineRecord → List ℕ
+last_record_reply [] = []
+last_record_reply (r ∷ []) = record_reply r
+last_record_reply (r ∷ s ∷ rs) = last_record_reply (s ∷ rs)
 
 -- What the TCP side was sent of the replies: all of them. Where its sink failed a rest of the last one is wanting; where memory was
 -- wanting in the last exchange that one has no reply.
 abbrev pub SendsAs : List LineRecord → List ℕ → Result (Unit {0}) ProcessError → Type 0
-SendsAs records sent (Err WriteFault) = All HasOutcome records × (waiting : List ℕ) × (sent ++ waiting ≡ replies records) × IsEndOf waiting (last_reply records)
+SendsAs records sent (Err WriteFault) = All HasOutcome records × (waiting : List ℕ) × (sent ++ waiting ≡ replies records) × IsEndOf waiting (last_record_reply records)
 SendsAs records sent (Err NoMemory) = (All HasOutcome records ⊎ LastWantsMemory records) × (sent ≡ replies records)
 SendsAs records sent _ = All HasOutcome records × (sent ≡ replies records)
 

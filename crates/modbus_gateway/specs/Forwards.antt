@@ -7,7 +7,7 @@ use Rattle.modbus_service.specs.Answering.{Answering}
 use Rattle.modbus_client.specs.State.{ClientState}
 use Rattle.modbus_client.specs.Calls.{Called, SentAlone}
 use Rattle.modbus_client.specs.Rtu.{rtu_protocol, rtu_heading}
-use Rattle.modbus_gateway.specs.Answer.{LineAnswer, of_call, of_sending, outcome_of}
+use Rattle.modbus_gateway.specs.Answer.{LineAnswer, of_call, of_sending, line_outcome}
 
 -- the state of a client of a serial line
 abbrev pub LineState : Type 0 → Type 0
@@ -25,7 +25,7 @@ AsksLine M old unit request (of_sending answer) new = (unit ≡ 0) × SentAlone 
 
 -- The exchange that a request leads to, with this answer of the line.
 abbrev pub Exchanges : {L : Type 0} → LinkMeaning L → LineState L → ℕ → Asked → Option Outcome → LineState L → Type 0
-Exchanges M old unit request told new = (answer : LineAnswer) × AsksLine M old unit request answer new × (outcome_of answer ≡ told)
+Exchanges M old unit request told new = (answer : LineAnswer) × AsksLine M old unit request answer new × (line_outcome answer ≡ told)
 
 -- A gateway answers by one exchange on its line. Where memory was wanting in it, the line stands where the exchange left it.
 abbrev pub forwards : {L : Type 0} → LinkMeaning L → Answering (LineState L)

@@ -17,7 +17,7 @@ use Rattle.modbus_server.specs.Tcp.{tcp}
 use Rattle.modbus_client.specs.Calls.{Exchanged, Sent}
 use Rattle.modbus_client.specs.Rtu.{rtu_protocol}
 use Rattle.modbus_client.specs.Sends.{WritesRequest, stays_connected}
-use Rattle.modbus_gateway.specs.Answer.{LineAnswer, of_call, of_sending, outcome_of}
+use Rattle.modbus_gateway.specs.Answer.{LineAnswer, of_call, of_sending, line_outcome}
 use Rattle.modbus_gateway.specs.Forwards.{LineState, forwards}
 
 -- the line as it is seen between two exchanges: what it gives and how often its reads failed, what it took and how often its writes
@@ -124,7 +124,7 @@ pub record Recorded (turns : ℕ) (start : LineView) (records : List LineRecord)
 
 -- what a record was asked, and what is told of it
 abbrev pub record_told : LineRecord → Header × Asked × Option Outcome
-record_told r = (r.header, r.request, outcome_of r.answer)
+record_told r = (r.header, r.request, line_outcome r.answer)
 
 abbrev pub told_in : Exchange tcp → Header × Asked × Option Outcome
 told_in x = (x.header, x.request, Some x.outcome)
@@ -135,7 +135,7 @@ reply_to header code None = []
 reply_to header code (Some outcome) = framed_outcome tcp header code outcome
 
 abbrev pub record_reply : LineRecord → List ℕ
-record_reply r = reply_to r.header (code_of r.request) (outcome_of r.answer)
+record_reply r = reply_to r.header (code_of r.request) (line_outcome r.answer)
 
 -- the ADUs that answer records, in order
 abbrev pub replies : List LineRecord → List ℕ

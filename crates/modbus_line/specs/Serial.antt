@@ -7,7 +7,7 @@ use Rattle.modbus_service.specs.Answering.{Answering}
 use Rattle.modbus_reconnect.specs.SettleState.{SettlingState, LineMeaning}
 use Rattle.modbus_reconnect.specs.OnLine.{IsStanding, CallsStanding}
 use Rattle.modbus_reconnect.specs.Tells.{SendsStanding}
-use Rattle.modbus_gateway.specs.Answer.{LineAnswer, of_call, of_sending, outcome_of}
+use Rattle.modbus_gateway.specs.Answer.{LineAnswer, of_call, of_sending, line_outcome}
 use Rattle.modbus_line.specs.Turns.{Turns}
 
 -- the state of a client of a serial line that tells silence, and what its parts mean
@@ -30,7 +30,7 @@ AsksSerial m old unit request (of_sending told) new = (unit ≡ 0) × SendsStand
 
 -- The exchange that a request leads to, with this answer of the line.
 abbrev pub ExchangesSerial : {L : Type 0} → SerialMeaning L → SerialState L → ℕ → Asked → Option Outcome → SerialState L → Type 0
-ExchangesSerial m old unit request told new = (answer : LineAnswer) × AsksSerial m old unit request answer new × (outcome_of answer ≡ told)
+ExchangesSerial m old unit request told new = (answer : LineAnswer) × AsksSerial m old unit request answer new × (line_outcome answer ≡ told)
 
 -- A line answers by one exchange. Where memory was wanting in it, it stands where the exchange left it.
 abbrev pub forwards_settled : {L : Type 0} → SerialMeaning L → Answering (SerialState L)

@@ -8,7 +8,8 @@ use Rattle.modbus_pdu.specs.Limits.{max_pdu, write_head, read_write_head}
 use Rattle.modbus_pdu.specs.Laws.{request_size}
 use Rattle.modbus_pdu.specs.RequestPdu.{request_pdu}
 use Rattle.modbus_rtu.specs.Frame.{counted_head, head, rule}
-use Rattle.modbus_rtu.specs.WholeReading.{HasHead, IsModelledAsk, IsFramedAsk, message_of}
+use Rattle.modbus_pdu.specs.SlavePdu.{message_of}
+use Rattle.modbus_rtu.specs.WholeReading.{HasHead, IsModelledAsk, IsFramedAsk}
 
 counted_fits : (code n byte : ℕ) → n + byte ≤ max_pdu → counted_head code n (Some byte) ≡ Ok (Some (n + byte))
 counted_fits code n byte fits = rw (le-ltb max_pdu (n + byte) fits) refl

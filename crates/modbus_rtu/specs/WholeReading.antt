@@ -4,7 +4,6 @@ use Rattle.modbus_pdu.specs.SlavePdu.{SlavePdu}
 use Rattle.modbus_frame.specs.Meaning.{Asked, Custom}
 use Rattle.modbus_pdu.specs.Encodes.{Fits}
 use Rattle.modbus_pdu.specs.RequestPdu.{request_pdu}
-use Rattle.modbus_pdu.specs.Message.{message}
 use Rattle.modbus_rtu.specs.Frame.{head, frame}
 use Rattle.modbus_rtu.specs.Leftmost.{IsLeftmost}
 use Rattle.modbus_rtu.specs.Stands.{frame_at}
@@ -29,7 +28,3 @@ IsModelledAsk _ = Unit {0}
 -- such a request, with a PDU that is not too long for a frame
 abbrev pub IsFramedAsk : Asked → Type 0
 IsFramedAsk asked = IsModelledAsk asked × Fits (request_pdu asked)
-
--- a request for a slave, as the slave address and the PDU of its frame
-abbrev pub message_of : ℕ × Asked → SlavePdu
-message_of asked = message asked.0 (request_pdu asked.1)

@@ -1,7 +1,7 @@
 //! Laws on the frames in a list of bytes, about definitions alone. Each is proved by its contract, and its body is empty.
 ghost use Rattle.std.specs.Prelude.{◌*◌, ◌≡◌, ◌≢◌, ◌↔◌, ℕ, ◌+◌, ◌-◌, ◌/◌, ◌%◌, ◌^◌, bit_xor, ◌<◌, ◌≤◌, All, Contains, List, [], ◌∷◌, ◌++◌, map, length, take, drop, get_or, slice_index};
 ghost use Rattle.std.specs.List.{AllByRecursion};
-ghost use Rattle.modbus_pdu.specs.SlavePdu.{SlavePdu};
+ghost use Rattle.modbus_pdu.specs.SlavePdu.{SlavePdu, message_of};
 ghost use Rattle.modbus_pdu.specs.Message.{message};
 ghost use Rattle.modbus_rtu.specs.declared.verdict.Verdict.{Verdict};
 ghost use Rattle.modbus_rtu.specs.declared.verdict.Verdict.TheVariants.{Open, Bad, Good};
@@ -17,7 +17,7 @@ ghost use Rattle.modbus_rtu.specs.Place.{frames_below};
 ghost use Rattle.modbus_rtu.specs.Stands.{StandsFor, IsTakenNext, IsUsedUp, IsFirstCrowd, HasCrowd, frame_at};
 ghost use Rattle.modbus_rtu.specs.Quiet.{IsQuietLine};
 ghost use Rattle.modbus_frame.specs.Meaning.{Asked};
-ghost use Rattle.modbus_rtu.specs.WholeReading.{HasHead, IsFramedAsk, message_of, stream_of, IsWholeReading};
+ghost use Rattle.modbus_rtu.specs.WholeReading.{HasHead, IsFramedAsk, stream_of, IsWholeReading};
 ghost use Rattle.modbus_rtu.specs.Limits.{overhead, max_retries};
 
 /// The checksum goes by whole bytes: a byte's eight bit steps move the high half of the register down, and add what eight bit steps make

@@ -14,7 +14,7 @@ use Rattle.modbus_server.specs.Exchanges.{Exchange, Run, ReplyFits, asked_of, as
 use Rattle.modbus_server.specs.declared.error.ProcessError.TheVariants.{TooManyRetries}
 use Rattle.modbus_server.specs.Rtu.{rtu}
 use Rattle.modbus_server.specs.Served.{Served, Halt, Halts, remaining, broken, refused, too_long, all_asked}
-use Rattle.modbus_server.specs.FirstFault.{HasFault, IsFirstFault}
+use Rattle.modbus_server.specs.FirstFault.{FailsAt, IsFirstFault}
 use Rattle.modbus_server.proofs.Asked.{all_fit, last_or_within}
 use Rattle.modbus_server.proofs.Standing.{run_more}
 
@@ -109,7 +109,7 @@ module _ (one : (bytes frames others : List ℕ) (stop last : ℕ) → IsLeftmos
             took : before ≡ map (frame_at bytes) frames
             took = u.took ∙ ap (map (frame_at bytes)) (one bytes u.frames frames u.stop stop u.reading l).0
 
-            no_fault : (place : ℕ) (halt : Halt) → HasFault bytes cuts frames exchanges place halt → ⊥
+            no_fault : (place : ℕ) (halt : Halt) → FailsAt bytes cuts frames exchanges place halt → ⊥
             no_fault place (remaining other) h = h
             no_fault place (broken TooManyRetries) (k, c, is) = u.calm k c
             no_fault place (broken _) h = h
@@ -117,7 +117,7 @@ module _ (one : (bytes frames others : List ℕ) (stop last : ℕ) → IsLeftmos
             no_fault place (too_long size) (c, earlier, x, later, splits, count, asks', is, long) = all_fit rtu exchanges earlier later x size fit splits is long
     by_halts (broken TooManyRetries) ((k, first), same) = (ran same, λ frames stop l. (k + 19, (k, first.crowd, refl), later frames stop l))
       where
-        later : (frames : List ℕ) (stop : ℕ) → IsLeftmost bytes frames stop → (other : ℕ) (fault : Halt) → HasFault bytes cuts frames exchanges other fault → k + 19 ≤ other
+        later : (frames : List ℕ) (stop : ℕ) → IsLeftmost bytes frames stop → (other : ℕ) (fault : Halt) → FailsAt bytes cuts frames exchanges other fault → k + 19 ≤ other
         later frames stop l other (remaining left) h = absurd h
         later frames stop l other (broken TooManyRetries) (j, c', is') = omega (arith, first.first j c')
         later frames stop l other (broken _) h = absurd h
@@ -127,7 +127,7 @@ module _ (one : (bytes frames others : List ℕ) (stop last : ℕ) → IsLeftmos
     by_halts (refused r) (message, t, bad, same) =
         (ran same, λ frames stop l. (t.offset, (t.within frames stop l, ap (λ (m : SlavePdu). request_of m.pdu) t.is ∙ bad), later frames stop l))
       where
-        later : (frames : List ℕ) (stop : ℕ) → IsLeftmost bytes frames stop → (other : ℕ) (fault : Halt) → HasFault bytes cuts frames exchanges other fault → t.offset ≤ other
+        later : (frames : List ℕ) (stop : ℕ) → IsLeftmost bytes frames stop → (other : ℕ) (fault : Halt) → FailsAt bytes cuts frames exchanges other fault → t.offset ≤ other
         later frames stop l other (remaining left) h = absurd h
         later frames stop l other (broken TooManyRetries) (j, c', is') = omega (arith, t.calm j c')
         later frames stop l other (broken _) h = absurd h
@@ -141,7 +141,7 @@ module _ (one : (bytes frames others : List ℕ) (stop last : ℕ) → IsLeftmos
         count_before : (frames : List ℕ) (stop : ℕ) → IsLeftmost bytes frames stop → length (frames_below t.offset frames) ≡ length exchanges
         count_before frames stop l = same_length (frame_at bytes) (frames_below t.offset frames) exchanges (ap (map (asked_of rtu)) (sym (t.earlier frames stop l)) ∙ asked)
 
-        later : (frames : List ℕ) (stop : ℕ) → IsLeftmost bytes frames stop → (other : ℕ) (fault : Halt) → HasFault bytes cuts frames (exchanges ++ y ∷ []) other fault → t.offset ≤ other
+        later : (frames : List ℕ) (stop : ℕ) → IsLeftmost bytes frames stop → (other : ℕ) (fault : Halt) → FailsAt bytes cuts frames (exchanges ++ y ∷ []) other fault → t.offset ≤ other
         later frames stop l other (remaining left) h = absurd h
         later frames stop l other (broken TooManyRetries) (j, c', is') = omega (arith, t.calm j c')
         later frames stop l other (broken _) h = absurd h

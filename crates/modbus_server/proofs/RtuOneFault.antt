@@ -11,7 +11,7 @@ use Rattle.modbus_server.specs.declared.error.ProcessError.TheVariants.{TooManyR
 use Rattle.modbus_server.specs.Rtu.{rtu}
 use Rattle.modbus_server.specs.Served.{Halt, remaining, broken, refused, too_long}
 use Rattle.modbus_server.proofs.Asked.{same_after, asked_well, one_first}
-use Rattle.modbus_server.specs.FirstFault.{HasFault, IsFirstFault}
+use Rattle.modbus_server.specs.FirstFault.{FailsAt, IsFirstFault}
 
 module _ (still : (bytes cuts more frames : List ℕ) (k stop : ℕ) → HasCrowd bytes cuts k → IsLeftmost (bytes ++ more) frames stop → (i : ℕ) → k ≤ i → i < k + 20
     → (verdict (bytes ++ more) i ≡ Bad) × IsUncovered (bytes ++ more) frames i)
@@ -33,7 +33,7 @@ module _ (still : (bytes cuts more frames : List ℕ) (k stop : ℕ) → HasCrow
       let clash : Bad ≡ Good good.0 = sym bad ∙ good.1 in
       cc
 
-  same_at : (place : ℕ) (f g : Halt) → HasFault bytes cuts frames all place f → HasFault bytes cuts frames all place g → f ≡ g
+  same_at : (place : ℕ) (f g : Halt) → FailsAt bytes cuts frames all place f → FailsAt bytes cuts frames all place g → f ≡ g
   same_at place (remaining left) g h k = absurd h
   same_at place (broken TooManyRetries) (remaining left) h k = absurd k
   same_at place (broken TooManyRetries) (broken TooManyRetries) a b = refl
@@ -55,6 +55,6 @@ module _ (still : (bytes cuts more frames : List ℕ) (k stop : ℕ) → HasCrow
       let e : x ≡ x' = same_after earlier earlier' x x' later later' (sym splits ∙ splits') (count ∙ sym count') in
       ap too_long (is ∙ ap (told_reply_size rtu) e ∙ sym is')
 
-  pub one_fault : (p q : ℕ) (f g : Halt) → HasFault bytes cuts frames all p f → HasFault bytes cuts frames all q g
+  pub one_fault : (p q : ℕ) (f g : Halt) → FailsAt bytes cuts frames all p f → FailsAt bytes cuts frames all q g
       → IsFirstFault bytes cuts frames all f → IsFirstFault bytes cuts frames all g → f ≡ g
-  one_fault = one_first (HasFault bytes cuts frames all) (λ place left h. h) same_at
+  one_fault = one_first (FailsAt bytes cuts frames all) (λ place left h. h) same_at

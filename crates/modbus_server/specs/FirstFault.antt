@@ -11,15 +11,15 @@ use Rattle.modbus_server.specs.First.{IsFirst}
 use Rattle.modbus_server.specs.Rtu.{rtu}
 
 -- something fails at a place, where the service was asked in all these exchanges, one for each of the first frames
-abbrev pub HasFault : List ℕ → List ℕ → List ℕ → List (Exchange rtu) → ℕ → Halt → Type 0
-HasFault bytes cuts frames all place (remaining left) = ⊥
-HasFault bytes cuts frames all place (broken TooManyRetries) = (k : ℕ) × HasCrowd bytes cuts k × (place ≡ k + 19)
-HasFault bytes cuts frames all place (broken _) = ⊥
-HasFault bytes cuts frames all place (refused reason) = Contains frames place × (request_of (frame_at bytes place).pdu ≡ Err reason)
-HasFault bytes cuts frames all place (too_long size) =
+abbrev pub FailsAt : List ℕ → List ℕ → List ℕ → List (Exchange rtu) → ℕ → Halt → Type 0
+FailsAt bytes cuts frames all place (remaining left) = ⊥
+FailsAt bytes cuts frames all place (broken TooManyRetries) = (k : ℕ) × HasCrowd bytes cuts k × (place ≡ k + 19)
+FailsAt bytes cuts frames all place (broken _) = ⊥
+FailsAt bytes cuts frames all place (refused reason) = Contains frames place × (request_of (frame_at bytes place).pdu ≡ Err reason)
+FailsAt bytes cuts frames all place (too_long size) =
     Contains frames place × (earlier : List (Exchange rtu)) × (x : Exchange rtu) × (later : List (Exchange rtu)) × (all ≡ earlier ++ x ∷ later)
     × (length earlier ≡ length (frames_below place frames)) × (asked_of rtu (frame_at bytes place) ≡ asks rtu x) × (size ≡ told_reply_size rtu x) × (max_pdu < size)
 
 -- the first place, by offset, where something fails, or that nothing does
 abbrev pub IsFirstFault : List ℕ → List ℕ → List ℕ → List (Exchange rtu) → Halt → Type 0
-IsFirstFault bytes cuts frames all halt = IsFirst (HasFault bytes cuts frames all) halt
+IsFirstFault bytes cuts frames all halt = IsFirst (FailsAt bytes cuts frames all) halt

@@ -1,7 +1,7 @@
 -- The ADUs of a TCP stream (MODBUS Messaging on TCP/IP V1.0b, section 3.1.3).
 use Rattle.std.specs.Prelude.{◌≡◌, ◌⊎◌, ℕ, ◌+◌, ◌-◌, List, [], ◌∷◌, ◌++◌, ◌<◌, length, All}
 use Rattle.modbus_frame.specs.declared.tcp.Header.{Header}
-use Rattle.modbus_tcp.specs.Adu.{adu_of, IsAdu, stream_of}
+use Rattle.modbus_tcp.specs.Adu.{Adus, adu_of, IsAdu, stream_of}
 use Rattle.modbus_tcp.specs.Limits.{longest_adu, longest_response}
 use Rattle.modbus_tcp.specs.Stream.{empty, unfinished, no_length, foreign, IsSplit}
 use Rattle.modbus_tcp.specs.declared.stream.HeaderFault.{HeaderFault}
@@ -15,9 +15,6 @@ use Rattle.modbus_server.specs.Framing.{Framing}
 -- the room of a read in bytes, which the standard doesn't tell: more than the longest ADU of a request that is answered
 abbrev pub read_room : ℕ
 read_room = 268
-
-abbrev Adus : Type 0
-Adus = List (Message Header)
 
 -- the bytes are these ADUs, one after another, and what is held
 abbrev pub Follows : List ℕ → List ℕ → List ℕ → Adus → Type 0

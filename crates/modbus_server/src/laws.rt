@@ -12,7 +12,7 @@ ghost use Rattle.modbus_server.specs.declared.error.ProcessError.{ProcessError};
 ghost use Rattle.modbus_server.specs.State.{State};
 ghost use Rattle.modbus_server.specs.Exchanges.{Exchange, Run};
 ghost use Rattle.modbus_server.specs.Served.{Served, Halt, remaining, all_asked};
-ghost use Rattle.modbus_server.specs.FirstFault.{HasFault, IsFirstFault};
+ghost use Rattle.modbus_server.specs.FirstFault.{FailsAt, IsFirstFault};
 ghost use Rattle.modbus_server.specs.FirstAdu.{HasAduFault, IsFirstAduFault};
 ghost use Rattle.modbus_server.specs.Memory.{TakesNone};
 ghost use Rattle.modbus_server.specs.Step.{Ran};
@@ -44,12 +44,12 @@ pub fn failing_place<V: Answerer>()
 pub fn one_failing_place()
     ensures one { (bytes cuts frames : List ℕ) (all : List (Exchange rtu)) (stop place at : ℕ)
         (fault other : Halt) → IsLeftmost bytes frames stop
-        → HasFault bytes cuts frames all place fault → HasFault bytes cuts frames all at other
+        → FailsAt bytes cuts frames all place fault → FailsAt bytes cuts frames all at other
         → IsFirstFault bytes cuts frames all fault → IsFirstFault bytes cuts frames all other
         → fault ≡ other }
     ensures none { (bytes cuts frames left : List ℕ) (all : List (Exchange rtu)) (place : ℕ)
         (fault : Halt) → IsFirstFault bytes cuts frames all (remaining left)
-        → HasFault bytes cuts frames all place fault → ⊥ }
+        → FailsAt bytes cuts frames all place fault → ⊥ }
 {
     modbus_rtu::laws::crowds_stay();
 }

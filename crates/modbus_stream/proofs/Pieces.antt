@@ -8,7 +8,7 @@ use Rattle.modbus_frame.specs.declared.tcp.Header.{Header}
 use Rattle.modbus_pdu.specs.Message.{Message}
 use Rattle.modbus_tcp.specs.Limits.{uncounted}
 use Rattle.modbus_tcp.specs.Stream.{told_length}
-use Rattle.modbus_stream.specs.Pieces.{IsPiece, IsPartial, stream_of, message_of, AreMessages}
+use Rattle.modbus_stream.specs.Pieces.{IsPiece, IsPartial, stream_of, message_in_piece, AreMessages}
 
 abbrev Messages : Type 0
 Messages = List (Message Header)
@@ -21,12 +21,12 @@ stream_more pieces piece rest =
 
 -- one more piece is taken off
 pub one_more : (bytes held : List ℕ) (end : ℕ) (messages : Messages) → AreMessages bytes held messages → IsPiece (take end held)
-    → AreMessages bytes (drop end held) (messages ++ message_of (take end held) ∷ [])
+    → AreMessages bytes (drop end held) (messages ++ message_in_piece (take end held) ∷ [])
 one_more bytes held end messages are piece = record {
   pieces = are.pieces ++ take end held ∷ [];
   joined = are.joined ∙ ap (λ rest. stream_of are.pieces ++ rest) (sym (take-append-drop end held)) ∙ sym (stream_more are.pieces (take end held) (drop end held));
   whole = All-append IsPiece are.pieces (take end held ∷ []) are.whole (All-cons IsPiece (take end held) [] piece (All-nil IsPiece));
-  are = ap (λ front. front ++ message_of (take end held) ∷ []) are.are ∙ sym (map-append message_of are.pieces (take end held ∷ []));
+  are = ap (λ front. front ++ message_in_piece (take end held) ∷ []) are.are ∙ sym (map-append message_in_piece are.pieces (take end held ∷ []));
 }
 
 -- bytes that follow belong to the rest
@@ -83,7 +83,7 @@ goes_on read rest others messages front clean are =
     let all : stream_of are.pieces ++ (others ++ rest) ≡ stream_of clean.pieces ++ [] =
     sym (append_assoc (stream_of are.pieces) others rest) ∙ ap (λ bytes. bytes ++ rest) (sym are.joined) ∙ clean.joined in
     let first = first_pieces are.pieces clean.pieces (others ++ rest) [] are.whole clean.whole all nothing_is_partial in
-    (map message_of first.0, clean.are ∙ ap (map message_of) first.1 ∙ map-append message_of are.pieces first.0 ∙ ap (λ m. m ++ map message_of first.0) (sym are.are))
+    (map message_in_piece first.0, clean.are ∙ ap (map message_in_piece) first.1 ∙ map-append message_in_piece are.pieces first.0 ∙ ap (λ m. m ++ map message_in_piece first.0) (sym are.are))
 
 -- the later of pieces are pieces
 whole_later : (ps later : List (List ℕ)) → All IsPiece (ps ++ later) → All IsPiece later

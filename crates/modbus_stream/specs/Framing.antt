@@ -9,27 +9,24 @@ use Rattle.modbus_tcp.specs.Adu.{adu_of}
 use Rattle.modbus_tcp.specs.Limits.{longest_adu, longest_response}
 use Rattle.modbus_stream.specs.Pieces.{IsPartial, AreMessages}
 
-abbrev Messages : Type 0
-Messages = List (Message Header)
-
 -- what is held is left of the pieces whose messages were given away
-abbrev pub StandsFor : List ℕ → List ℕ → List ℕ → Messages → Type 0
+abbrev pub StandsFor : List ℕ → List ℕ → List ℕ → List (Message Header) → Type 0
 StandsFor bytes cuts held taken = AreMessages bytes held taken
 
 -- this message is the next
-abbrev pub IsNextPiece : List ℕ → List ℕ → Messages → Message Header → Type 0
+abbrev pub IsNextPiece : List ℕ → List ℕ → List (Message Header) → Message Header → Type 0
 IsNextPiece bytes cuts taken message = (others : List ℕ) × AreMessages bytes others (taken ++ message ∷ [])
 
 -- these are all messages, and the rest is nothing or a front of a piece
-abbrev pub AreAllPieces : List ℕ → List ℕ → List ℕ → Messages → Type 0
+abbrev pub AreAllPieces : List ℕ → List ℕ → List ℕ → List (Message Header) → Type 0
 AreAllPieces bytes cuts left taken = AreMessages bytes left taken × IsPartial left
 
 -- a stream has no fault
-abbrev pub HasFault : List ℕ → List ℕ → Messages → ProcessError → Type 0
+abbrev pub HasFault : List ℕ → List ℕ → List (Message Header) → ProcessError → Type 0
 HasFault bytes cuts taken fault = ⊥
 
 -- the bytes are the pieces of these messages, with nothing left
-abbrev pub AreOnlyPieces : List ℕ → Messages → Type 0
+abbrev pub AreOnlyPieces : List ℕ → List (Message Header) → Type 0
 AreOnlyPieces bytes messages = AreMessages bytes [] messages
 
 -- what is held is shorter than the longest piece

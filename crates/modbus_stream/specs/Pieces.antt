@@ -36,8 +36,8 @@ abbrev pub header_with : List ℕ → ℕ → Header
 header_with piece unit = record { transaction_id = word_at piece 0; unit_id = unit }
 
 -- The message of a piece: its transaction, its unit identifier and its PDU; where it is no ADU of a request, no unit and no PDU.
-unfoldable pub message_of : List ℕ → Message Header
-message_of piece =
+unfoldable pub message_in_piece : List ℕ → Message Header
+message_in_piece piece =
     if may_ask piece then message (header_with piece (slice_index piece uncounted)) (drop mbap_header piece) else message (header_with piece no_unit) []
 
 -- The bytes are these pieces, one after another, and a rest; these are their messages.
@@ -45,4 +45,4 @@ pub record AreMessages (bytes rest : List ℕ) (messages : List (Message Header)
   pub pieces : List (List ℕ)
   pub joined : bytes ≡ stream_of pieces ++ rest
   pub whole : All IsPiece pieces
-  pub are : messages ≡ map message_of pieces
+  pub are : messages ≡ map message_in_piece pieces

@@ -2,7 +2,7 @@
 ghost use Rattle.std.specs.Prelude.{◌≡◌, ◌<◌, ◌≤◌, length, take, MatchOption};
 ghost use Rattle.modbus_pdu.specs.Message.{message};
 ghost use Rattle.modbus_tcp.specs.Limits.{longest_adu};
-ghost use Rattle.modbus_stream.specs.Pieces.{IsPiece, IsPartial, may_ask, message_of};
+ghost use Rattle.modbus_stream.specs.Pieces.{IsPiece, IsPartial, may_ask, message_in_piece};
 
 use modbus_frame::SlaveId;
 use modbus_frame::tcp::Header;
@@ -40,10 +40,10 @@ fn may_ask(piece: &[u8]) -> bool
 
 /// The message of a piece.
 #[inline(always)]
-#[tactic(auto, unfolding(crate::specs::Pieces::message_of))]
+#[tactic(auto, unfolding(crate::specs::Pieces::message_in_piece))]
 pub(crate) fn message_in(piece: &[u8]) -> (Header, &[u8])
     requires { IsPiece piece.now }
-    ensures { message result.0 result.1.now ≡ message_of piece.now }
+    ensures { message result.0 result.1.now ≡ message_in_piece piece.now }
 {
     let transaction_id = u16::from_be_bytes([piece[0], piece[1]]);
     if may_ask(piece) {

@@ -17,6 +17,10 @@ pub record IsAdu (message : Message Header) : Type 0 where
   pub transaction : IsWord message.header.transaction_id
   pub size : length message.pdu ≤ max_length - unit_identifier
 
--- ADUs one after another
-abbrev pub stream_of : List (Message Header) → List ℕ
+-- ADUs, each a header and a PDU
+abbrev pub Adus : Type 0
+Adus = List (Message Header)
+
+-- these one after another
+abbrev pub stream_of : Adus → List ℕ
 stream_of messages = flat_map (λ message. adu_of message.header message.pdu) messages

@@ -1,5 +1,5 @@
 use Rattle.std.proofs.Common.{sym, map}
-use Rattle.modbus_ascii.specs.WholeReading.{message_of}
+use Rattle.modbus_pdu.specs.SlavePdu.{message_of}
 use Rattle.modbus_ascii.proofs.Alone.{stream-delivers}
 use Rattle.modbus_ascii.proofs.Asking.{framed-ask, framed-all}
 use Rattle.modbus_ascii.proofs.laws.request_frames.Goals as goal

@@ -1,5 +1,5 @@
 use Rattle.std.proofs.Common.{map}
-use Rattle.modbus_rtu.specs.WholeReading.{message_of}
+use Rattle.modbus_pdu.specs.SlavePdu.{message_of}
 use Rattle.modbus_rtu.proofs.Framed.{stream_read, stream_quiet}
 use Rattle.modbus_rtu.proofs.RequestFrames.{request_has_head, requests_have_heads}
 use Rattle.modbus_rtu.proofs.laws.request_frames.Goals as goal
