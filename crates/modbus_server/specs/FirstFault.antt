@@ -1,5 +1,6 @@
 -- The failing place on a serial line, by offset.
-use Rattle.std.specs.Prelude.{◌≡◌, ℕ, ◌+◌, ◌<◌, List, ◌∷◌, ◌++◌, length, Contains, Err}
+use Rattle.std.specs.Prelude.{◌≡◌, ℕ, ◌+◌, ◌-◌, ◌<◌, List, ◌∷◌, ◌++◌, length, Contains, Err}
+use Rattle.modbus_rtu.specs.Limits.{max_retries}
 use Rattle.modbus_rtu.specs.Place.{frames_below}
 use Rattle.modbus_rtu.specs.Stands.{HasCrowd, frame_at}
 use Rattle.modbus_pdu.specs.Limits.{max_pdu}
@@ -13,7 +14,7 @@ use Rattle.modbus_server.specs.Rtu.{rtu}
 -- something fails at a place, where the service was asked in all these exchanges, one for each of the first frames
 abbrev pub FailsAt : List ℕ → List ℕ → List ℕ → List (Exchange rtu) → ℕ → Halt → Type 0
 FailsAt bytes cuts frames all place (remaining left) = ⊥
-FailsAt bytes cuts frames all place (broken TooManyRetries) = (k : ℕ) × HasCrowd bytes cuts k × (place ≡ k + 19)
+FailsAt bytes cuts frames all place (broken TooManyRetries) = (k : ℕ) × HasCrowd bytes cuts k × (place ≡ k + (max_retries - 1))
 FailsAt bytes cuts frames all place (broken _) = ⊥
 FailsAt bytes cuts frames all place (refused reason) = Contains frames place × (request_of (frame_at bytes place).pdu ≡ Err reason)
 FailsAt bytes cuts frames all place (too_long size) =
