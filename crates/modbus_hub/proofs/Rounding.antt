@@ -9,7 +9,7 @@ use Rattle.modbus_turn.specs.declared.turn.Turn.{Turn}
 use Rattle.modbus_hub.specs.Accepts.{with_given, GivesByPolls, GivesLinks}
 use Rattle.modbus_hub.specs.Events.{Event, Refusal, no_watch, no_memory, came, refused, told, turned, dropped, by_key, links_of, counted_if, counted_over}
 use Rattle.modbus_hub.specs.Seats.{SeatsState, IsTurnOf, IsDrop}
-use Rattle.modbus_hub.specs.Turns.{ServerState, ServesInTurn, Counts, Brings, ServesLeft, Comes, TakesRound}
+use Rattle.modbus_hub.specs.Turns.{ServerState, ServesInTurn, CountsDrops, Brings, ServesLeft, Comes, TakesRound}
 use Rattle.modbus_hub.proofs.Histories.{links_more, links_told, turn_after}
 
 counted_up : (a b : ℕ) → a ≤ b → next_count a ≤ next_count b
@@ -75,7 +75,7 @@ module _ {L : Type 0} where
   counted_on cause (x ∷ xs) a b h = counted_on cause xs (counted_if cause x a) (counted_if cause x b) (counts_up cause x a b h)
 
 module _ {A S L : Type 0} (faults : S → ℕ) where
-  pub counts_both : (a b c : ServerState A S L) (xs ys : List (Event L)) → Counts faults a b xs → Counts faults b c ys → Counts faults a c (xs ++ ys)
+  pub counts_both : (a b c : ServerState A S L) (xs ys : List (Event L)) → CountsDrops faults a b xs → CountsDrops faults b c ys → CountsDrops faults a c (xs ++ ys)
   counts_both a b c xs ys first second = record {
     watch = subst (λ (n : ℕ). n ≤ faults c.readiness) (sym (counted_more no_watch xs ys (faults a.readiness)))
         (le_trans (counted_on no_watch ys (counted_over no_watch xs (faults a.readiness)) (faults b.readiness) first.watch) second.watch);
@@ -83,7 +83,7 @@ module _ {A S L : Type 0} (faults : S → ℕ) where
   }
 
   -- where no link came each count is as it was, or further on
-  pub counts_none : (a b : ServerState A S L) (more : List (Event L)) → links_of more ≡ [] → faults a.readiness ≤ faults b.readiness → b.unseated ≡ a.unseated → Counts faults a b more
+  pub counts_none : (a b : ServerState A S L) (more : List (Event L)) → links_of more ≡ [] → faults a.readiness ≤ faults b.readiness → b.unseated ≡ a.unseated → CountsDrops faults a b more
   counts_none a b more none later same = record {
     watch = subst (λ (n : ℕ). n ≤ faults b.readiness) (sym (counted_none no_watch more (faults a.readiness) none)) later;
     memory = same ∙ sym (counted_none no_memory more a.unseated none);

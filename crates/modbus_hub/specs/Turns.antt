@@ -29,21 +29,21 @@ ServesLeft seats history more = (links_of more ≡ []) × TurnsLeft seats more
 
 -- Each link that was dropped at once is counted, by its cause: by the source of readiness, with its other faults, where it could not be
 -- watched; and by the server, with nothing else, where memory was refused for its connection.
-pub record Counts {A S L : Type 0} (faults : S → ℕ) (old new : ServerState A S L) (more : List (Event L)) : Type 0 where
+pub record CountsDrops {A S L : Type 0} (faults : S → ℕ) (old new : ServerState A S L) (more : List (Event L)) : Type 0 where
   pub watch : counted_over no_watch more (faults old.readiness) ≤ faults new.readiness
   pub memory : new.unseated ≡ counted_over no_memory more old.unseated
 
 -- this link came, and no other; it is a connection, or its cause is counted
 pub record Brings {A S L : Type 0} (faults : S → ℕ) (link : L) (old new : ServerState A S L) (history more : List (Event L)) : Type 0 where
   pub links : links_of more ≡ link ∷ []
-  pub counts : Counts faults old new more
+  pub counts : CountsDrops faults old new more
 
 module _ {A S L : Type 0} (accepts : A → Result (Polled L) Failed → A → Type 0) (faults : S → ℕ) where
   -- Of what happened, the links that came are just those that the acceptor gave, in order, and each is a connection then, or its cause is
   -- counted.
   pub record Comes (old new : ServerState A S L) (history more : List (Event L)) : Type 0 where
     pub gives : GivesLinks accepts old.acceptor (links_of more) new.acceptor
-    pub counts : Counts faults old new more
+    pub counts : CountsDrops faults old new more
 
   -- One round: the links that came are just those that the acceptor gave, and each connection whose reads were used up before had another
   -- turn. A round that fails is none.
