@@ -1,5 +1,5 @@
 -- A request that writes one entry takes no memory.
-use Rattle.std.proofs.Common.{ℕ, List}
+use Rattle.std.proofs.Common.{ℕ}
 use Rattle.modbus_frame.specs.Meaning.{Asked}
 use Rattle.modbus_frame.specs.Meaning.Asked.{WriteSingleCoil, WriteSingleRegister, MaskWriteRegister}
 use Rattle.modbus_pdu.specs.RequestOf.{CarriesList}

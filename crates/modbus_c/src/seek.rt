@@ -1,6 +1,7 @@
 //! The search for the reply of a call in the bytes that it holds. It takes no memory.
-ghost use Rattle.std.specs.Prelude.{◌≡◌, ◌↔◌, ◌≤◌, List, [], ℕ, length, drop, IsTrue, None};
+ghost use Rattle.std.specs.Prelude.{◌≡◌, ◌↔◌, ◌≤◌, List, [], length, drop, IsTrue, None};
 ghost use Rattle.modbus_frame.specs.declared.tcp.Header.{Header as Heading};
+ghost use Rattle.modbus_pdu.specs.Message.{Message};
 ghost use Rattle.modbus_client.specs.Tcp.{header_seen, DropsAdus, EndsOfAnother, FindsOwnAdu};
 ghost use Rattle.modbus_c.specs.Calls.{FindsMessageBy, FindsNextMessage, found_in, used_by};
 
@@ -76,7 +77,7 @@ fn end_of_another(asked: HeaderSeen, bytes: &[u8]) -> Option<usize>
 /// Where the ADUs at the front of the bytes end that are of another transaction or unit than was asked.
 fn end_of_others(asked: HeaderSeen, bytes: &[u8]) -> usize
     ensures within { result ≤ length bytes.now }
-    ensures dropped { (adus : List (Heading × List ℕ))
+    ensures dropped { (adus : List (Message Heading))
         × DropsAdus asked bytes.now adus (drop result bytes.now) }
     ensures all { EndsOfAnother asked (drop result bytes.now) None }
 {

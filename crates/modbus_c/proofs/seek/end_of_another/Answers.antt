@@ -1,4 +1,4 @@
-use Rattle.std.proofs.Common.{inl, inr, ℕ, List, ◌∙◌, drop, ap}
+use Rattle.std.proofs.Common.{inl, inr, ◌∙◌, drop, ap}
 use Rattle.modbus_frame.specs.declared.tcp.Header.{Header}
 use Rattle.modbus_pdu.specs.Message.{Message}
 use Rattle.modbus_tcp.specs.Stream.{empty, unfinished, no_length, foreign}

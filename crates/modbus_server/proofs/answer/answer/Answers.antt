@@ -1,4 +1,4 @@
-use Rattle.std.proofs.Common.{ℕ, List, ◌≡◌, ◌+◌, ◌∷◌, [], ap, sym, refl, ◌∙◌, subst, Ok, Err, inl, inr}
+use Rattle.std.proofs.Common.{◌≡◌, ◌+◌, ◌∷◌, [], ap, sym, refl, ◌∙◌, subst, Ok, Err, inl, inr}
 use Rattle.modbus_frame.specs.Codes.{function_number, exception_number}
 use Rattle.modbus_frame.specs.Meaning.{meaning}
 use Rattle.modbus_pdu.specs.RequestOf.{CarriesList}

@@ -1,4 +1,4 @@
-use Rattle.std.proofs.Common.{◌++◌, ◌∷◌, [], List, ℕ, drop, subst, sym}
+use Rattle.std.proofs.Common.{◌++◌, ◌∷◌, [], drop, subst, sym}
 use Rattle.modbus_frame.specs.declared.tcp.Header.{Header}
 use Rattle.modbus_pdu.specs.Message.{Message, message}
 use Rattle.modbus_stream.specs.Pieces.{AreMessages}
