@@ -2,12 +2,14 @@
 
 ghost use Rattle.std.specs.Prelude.{◌<◌};
 
+use crate::check::check;
 use modbus_client::tcp::OwnAdus;
 use modbus_fleet::{Device, Fleet, Told};
 use modbus_frame::{Request, Response, Slave};
 use modbus_link::{MemoryLink, MemorySink, MemorySource, PolledMemoryLink};
 use modbus_ready::{Ready, ScheduledReadiness};
 use std::alloc::{AllocError, Global};
+use std::process::Abort;
 use std::test::Fail;
 
 /// The reply of unit 1 to a read of one register: 7.
@@ -100,16 +102,24 @@ fn expires(fleet: &mut TwoDevices<'_>, key: usize, time: u64) -> bool
         && fleet.device(key).is_some_and(|device| device.is_away())
 }
 
+fn tells_each_with_its_device<R: Abort>(
+    rt: &R,
+    alloc: Global,
+    fleet: &mut TwoDevices<'_>,
+) -> Result<(), AllocError> {
+    check(rt, is_asked(alloc, fleet, 0, &FIRST_REPLY)?, true);
+    check(rt, is_asked(alloc, fleet, 1, &SECOND_REPLY)?, true);
+    check(rt, tells_nothing(fleet, 4), true);
+    check(rt, tells(fleet, 1, 9), true);
+    check(rt, expires(fleet, 0, 1100), true);
+    let is_idle = fleet.device(1).is_some_and(|device| device.is_idle());
+    check(rt, is_idle, true);
+    Ok(())
+}
+
 /// Each answer is told with its device, whose link may be used again; a device whose time is over is away, and is told once.
 #[test]
 fn answers_are_told_with_their_device(rt: HostRuntime) -> Result<(), Fail> {
-    let alloc = rt.alloc();
-    let mut fleet = devices(alloc)?;
-    assert!(rt; is_asked(alloc, &mut fleet, 0, &FIRST_REPLY)?);
-    assert!(rt; is_asked(alloc, &mut fleet, 1, &SECOND_REPLY)?);
-    assert!(rt; tells_nothing(&mut fleet, 4));
-    assert!(rt; tells(&mut fleet, 1, 9));
-    assert!(rt; expires(&mut fleet, 0, 1100));
-    assert!(rt; fleet.device(1).is_some_and(|device| device.is_idle()));
+    tells_each_with_its_device(&rt, rt.alloc(), &mut devices(rt.alloc())?)?;
     Ok(())
 }

@@ -33,7 +33,7 @@ pub fn faulty_line(
 }
 
 /// Whether there is a link, to which this was written.
-pub fn has_got(line: &rtu::Client<MemoryLink>, bytes: &[u8]) -> bool {
+fn has_got(line: &rtu::Client<MemoryLink>, bytes: &[u8]) -> bool {
     match line.link() {
         Some(link) => link.sink().bytes() == bytes,
         None => false,
@@ -52,5 +52,19 @@ pub fn replies<R: Abort>(
     let mut sink = MemorySink::new(alloc, 512, 512, &[])?;
     process(alloc, &mut source, &mut sink, line, 64)?;
     check(rt, sink.bytes(), wanted);
+    Ok(())
+}
+
+/// The same, and compares what the line got.
+pub fn forwards<R: Abort>(
+    rt: &R,
+    alloc: Global,
+    line: &mut rtu::Client<MemoryLink>,
+    input: &[u8],
+    wanted: &[u8],
+    frames: &[u8],
+) -> Result<(), Fail> {
+    replies(rt, alloc, line, input, wanted)?;
+    check(rt, has_got(line, frames), true);
     Ok(())
 }

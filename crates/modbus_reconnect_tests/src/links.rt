@@ -71,23 +71,23 @@ pub fn link(
     Ok(MemoryLink::new(source, sink, false))
 }
 
-/// Whether the answer is this fault.
-pub fn is_fault(answer: Result<Response>, fault: TransportError) -> bool {
-    match answer {
+/// Asks any client for one holding register at an address.
+fn ask<C: Client>(client: &mut C, register: u16) -> Result<Response> {
+    client.call(Request::ReadHoldingRegisters(register, 1))
+}
+
+/// Whether the answer to a read of a register is this fault.
+pub fn faults<C: Client>(client: &mut C, register: u16, fault: TransportError) -> bool {
+    match ask(client, register) {
         Err(Error::Transport(other)) => other == fault,
         _ => false,
     }
 }
 
-/// The register that the answer gives, where it gives one.
-pub fn register(answer: Result<Response>) -> Option<u16> {
-    match answer {
+/// What a read of a register gives, where it gives one.
+pub fn read<C: Client>(client: &mut C, register: u16) -> Option<u16> {
+    match ask(client, register) {
         Ok(Ok(Response::ReadHoldingRegisters(words))) => words.as_slice().first().copied(),
         _ => None,
     }
-}
-
-/// Asks any client for one holding register at an address.
-pub fn ask<C: Client>(client: &mut C, register: u16) -> Result<Response> {
-    client.call(Request::ReadHoldingRegisters(register, 1))
 }
