@@ -1,28 +1,44 @@
 //! Worked values and plans.
 
+use crate::check::check;
 use modbus_frame::Data;
 use modbus_poll::{Item, Kind, Order, PlanError, Read, Value, plan_reads, value_of};
+use std::alloc::Global;
 use std::test::Fail;
+
+/// Whether the words of an item have this value.
+fn is_value(alloc: Global, kind: Kind, words: &[u16], wanted: Value) -> bool {
+    match value_of(alloc, kind, words) {
+        Ok(value) => value == wanted,
+        Err(_) => false,
+    }
+}
 
 #[test]
 fn values_are_those_of_their_words(rt: HostRuntime) -> Result<(), Fail> {
     let alloc = rt.alloc();
-    assert_eq!(rt;
-        value_of(alloc, Kind::U32(Order::HighFirst), &[1, 2]),
-        Ok(Value::Unsigned(65538))
+    let high_first = Kind::U32(Order::HighFirst);
+    check(
+        &rt,
+        is_value(alloc, high_first, &[1, 2], Value::Unsigned(65538)),
+        true,
     );
-    assert_eq!(rt;
-        value_of(alloc, Kind::U32(Order::LowFirst), &[1, 2]),
-        Ok(Value::Unsigned(131073))
+    let low_first = Kind::U32(Order::LowFirst);
+    check(
+        &rt,
+        is_value(alloc, low_first, &[1, 2], Value::Unsigned(131073)),
+        true,
     );
-    assert_eq!(rt;
-        value_of(alloc, Kind::I16, &[0xFFFF]),
-        Ok(Value::Signed(-1))
+    check(
+        &rt,
+        is_value(alloc, Kind::I16, &[0xFFFF], Value::Signed(-1)),
+        true,
     );
-    let text = Data::new(Vec::from_slice(alloc, &[0x41, 0x42, 0x43, 0x00])?);
-    assert_eq!(rt;
-        value_of(alloc, Kind::Text(2), &[0x4142, 0x4300]),
-        Ok(Value::Text(text))
+    let text = Value::Text(Data::new(Vec::from_slice(alloc, &[0x41, 0x42, 0x43, 0x00])?));
+    check(
+        &rt,
+        is_value(alloc, Kind::Text(2), &[0x4142, 0x4300], text),
+        true,
     );
     Ok(())
 }
@@ -39,8 +55,24 @@ fn read(address: u16, count: u16) -> Read {
     Read { address, count }
 }
 
+/// Whether these items are read by these reads.
+fn is_planned(alloc: Global, items: &[Item], wanted: &[Read]) -> bool {
+    match plan_reads(alloc, items) {
+        Ok(plan) => plan.reads() == wanted && plan.covers(items),
+        Err(_) => false,
+    }
+}
+
+/// Whether the item of this index is refused.
+fn is_bad_item(alloc: Global, items: &[Item], index: usize) -> bool {
+    match plan_reads(alloc, items) {
+        Err(PlanError::BadItem(found)) => found == index,
+        _ => false,
+    }
+}
+
 #[test]
-fn reads_are_planned_by_the_rule(rt: HostRuntime) -> Result<(), Fail> {
+fn reads_are_planned_by_the_rule(rt: HostRuntime) {
     let alloc = rt.alloc();
     let items = [
         item(300, 2),
@@ -49,21 +81,9 @@ fn reads_are_planned_by_the_rule(rt: HostRuntime) -> Result<(), Fail> {
         item(124, 1),
         item(100, 2),
     ];
-    let plan = plan_reads(alloc, &items)?;
     let reads = [read(0, 125), read(124, 2), read(300, 2)];
-    assert_eq!(rt; plan.reads(), reads.as_slice());
-    assert!(rt; plan.covers(&items));
-    assert!(rt; plan_reads(alloc, &[])?.reads().is_empty());
-    let past = [
-        Item {
-            address: 0,
-            kind: Kind::U16,
-        },
-        Item {
-            address: 65535,
-            kind: Kind::U32(Order::HighFirst),
-        },
-    ];
-    assert!(rt; matches!(plan_reads(alloc, &past), Err(PlanError::BadItem(1))));
-    Ok(())
+    check(&rt, is_planned(alloc, &items, &reads), true);
+    check(&rt, is_planned(alloc, &[], &[]), true);
+    let past = [item(0, 1), item(65535, 2)];
+    check(&rt, is_bad_item(alloc, &past, 1), true);
 }
