@@ -104,6 +104,9 @@ fn open_source(alloc: Global, count: u32) -> Result<MemorySource, AllocError>
 }
 
 /// Of what a server tells, memory alone can be wanting over such a line.
+// Kept out of the loop that serves, as every error is.
+#[cold]
+#[inline(never)]
 fn want_of_memory(error: ProcessError) -> AllocError
     requires { error ≡ ProcessError.NoMemory }
 {
