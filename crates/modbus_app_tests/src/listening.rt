@@ -30,7 +30,76 @@ fn link_of(alloc: Global, input: &[u8]) -> Result<MemoryLink, AllocError> {
     Ok(MemoryLink::new(source, sink, false))
 }
 
-/// A listener over two links gives each these replies, one after the other, and ends as there is no third.
+/// The status of a listener whose links share a store.
+fn serve<R: Wait + Sync>(
+    rt: &R,
+    alloc: Global,
+    framing: Framing,
+    acceptor: &mut MemoryAcceptor<&mut MemoryLink>,
+    errors: &mut MemorySink,
+) -> Result<u8, Fail> {
+    let (table, pass) = open_shared(alloc, framing)?;
+    let mut services = StoreServices::new(rt, &table, pass);
+    Ok(run_listen(
+        rt,
+        alloc,
+        framing,
+        acceptor,
+        &mut InlineSpawner::new(),
+        &mut services,
+        |_error: ProcessError| {},
+        errors,
+    ))
+}
+
+/// The same over two links.
+fn serve_both<R: Wait + Sync>(
+    rt: &R,
+    alloc: Global,
+    framing: Framing,
+    first: &mut MemoryLink,
+    second: &mut MemoryLink,
+    errors: &mut MemorySink,
+) -> Result<u8, Fail> {
+    let address = SocketAddr::from(([127, 0, 0, 1], 502));
+    let mut links = Vec::new(alloc);
+    links.push((first, address))?;
+    links.push((second, address))?;
+    serve(rt, alloc, framing, &mut MemoryAcceptor::new(links), errors)
+}
+
+/// A listener over two links ends as there is no third, and tells it.
+fn ends<R: Wait + Abort + Sync>(
+    rt: &R,
+    alloc: Global,
+    framing: Framing,
+    first: &mut MemoryLink,
+    second: &mut MemoryLink,
+) -> Result<(), Fail> {
+    let mut errors = MemorySink::new(alloc, 64, 64, &[])?;
+    let status = serve_both(rt, alloc, framing, first, second, &mut errors)?;
+    check(rt, status, 12);
+    check(rt, errors.bytes(), b"modbus: accept fault\n".as_slice());
+    Ok(())
+}
+
+/// It gives each these replies, one after the other.
+fn replies<R: Wait + Abort + Sync>(
+    rt: &R,
+    alloc: Global,
+    framing: Framing,
+    first: &mut MemoryLink,
+    second: &mut MemoryLink,
+    near: &[u8],
+    far: &[u8],
+) -> Result<(), Fail> {
+    ends(rt, alloc, framing, first, second)?;
+    check(rt, first.sink().bytes(), near);
+    check(rt, second.sink().bytes(), far);
+    Ok(())
+}
+
+/// Over links that give the first of these, the replies are the second.
 fn expect<R: Wait + Abort + Sync>(
     rt: &R,
     alloc: Global,
@@ -38,31 +107,9 @@ fn expect<R: Wait + Abort + Sync>(
     near: (&[u8], &[u8]),
     far: (&[u8], &[u8]),
 ) -> Result<(), Fail> {
-    let (table, pass) = open_shared(alloc, framing)?;
     let mut first = link_of(alloc, near.0)?;
     let mut second = link_of(alloc, far.0)?;
-    let mut errors = MemorySink::new(alloc, 64, 64, &[])?;
-    {
-        let address = SocketAddr::from(([127, 0, 0, 1], 502));
-        let mut links = Vec::new(alloc);
-        links.push((&mut first, address))?;
-        links.push((&mut second, address))?;
-        let status = run_listen(
-            rt,
-            alloc,
-            framing,
-            &mut MemoryAcceptor::new(links),
-            &mut InlineSpawner::new(),
-            &mut StoreServices::new(rt, &table, pass),
-            |_error: ProcessError| {},
-            &mut errors,
-        );
-        check(rt, status, 12);
-    }
-    check(rt, first.sink().bytes(), near.1);
-    check(rt, second.sink().bytes(), far.1);
-    check(rt, errors.bytes(), b"modbus: accept fault\n".as_slice());
-    Ok(())
+    replies(rt, alloc, framing, &mut first, &mut second, near.1, far.1)
 }
 
 #[test]

@@ -2,63 +2,101 @@
 
 use modbus_app::{listening, run};
 use modbus_link::MemorySink;
-use modbus_table::outside::read_outside;
-use modbus_table::text::{hex, shown};
+use modbus_table::outside::{Outside, read_outside};
+use modbus_table::text::{push_hex, push_shown};
 use std::alloc::{AllocError, Global};
 
-/// The words before a colon, as they are handed over by the system, and those after it.
-fn split<'w>(
-    alloc: Global,
-    words: &'w [&'w str],
-) -> Result<(Vec<String>, &'w [&'w str]), AllocError> {
-    let mut before = Vec::new(alloc);
-    let mut count = 0usize;
-    for word in words {
-        count = count.saturating_add(1);
+/// The words before a colon, and those after it.
+fn split<'w>(words: &'w [&'w str]) -> (&'w [&'w str], &'w [&'w str]) {
+    for (at, word) in words.iter().enumerate() {
         if *word == ":" {
-            break;
+            return (&words[..at], &words[at + 1..]);
         }
-        before.push(String::from_str(alloc, word)?)?;
     }
-    Ok((before, words.get(count..).unwrap_or(&[])))
+    (words, &[])
 }
 
-/// The status, the output and the text of a run.
-fn ran(alloc: Global, words: &[&str]) -> Result<Option<String>, AllocError> {
-    let (words, pieces) = split(alloc, words)?;
-    let Some(outside) = read_outside(alloc, pieces)? else {
-        return Ok(None);
-    };
-    let mut source = outside.source;
-    let mut sink = outside.sink;
+/// Words as they are handed over by the system.
+fn handed_over(alloc: Global, words: &[&str]) -> Result<Vec<String>, AllocError> {
+    let mut handed = Vec::new(alloc);
+    for word in words {
+        handed.push(String::from_str(alloc, word)?)?;
+    }
+    Ok(handed)
+}
+
+/// The output of a run: the text of its requests, or else its bytes.
+fn push_output(text: &mut String, output: &[u8]) -> Result<(), AllocError> {
+    match std::str::from_utf8(output) {
+        Ok(found) if found.starts_with("requests ") => write!(text, "{found:?}"),
+        _ => push_hex(text, output),
+    }
+}
+
+/// What a run told.
+fn push_errors(text: &mut String, errors: &[u8]) -> Result<(), AllocError> {
+    match std::str::from_utf8(errors) {
+        Ok(found) => write!(text, "{found:?}"),
+        Err(_) => text.push_str("no text"),
+    }
+}
+
+/// The status of a run, and its output and its text where those are asked for.
+fn ran(
+    alloc: Global,
+    text: &mut String,
+    call: &str,
+    words: &[String],
+    outside: &mut Outside,
+    errors: &mut MemorySink,
+) -> Result<bool, AllocError> {
+    let status = run(alloc, words, &mut outside.source, &mut outside.sink, errors);
+    write!(text, "{status}")?;
+    if call == "run" {
+        text.push_str(" ")?;
+        push_output(text, outside.sink.bytes())?;
+        text.push_str(" ")?;
+        push_errors(text, errors.bytes())?;
+    }
+    Ok(true)
+}
+
+/// The same of the words as they are read.
+fn ran_with(
+    alloc: Global,
+    text: &mut String,
+    call: &str,
+    words: &[&str],
+    outside: &mut Outside,
+) -> Result<bool, AllocError> {
+    let words = handed_over(alloc, words)?;
     let mut errors = MemorySink::new(alloc, 256, 256, &[])?;
-    let status = run(alloc, words.as_slice(), &mut source, &mut sink, &mut errors);
-    let output = match std::str::from_utf8(sink.bytes()) {
-        Ok(text) if text.starts_with("requests ") => format!(in alloc; "{text:?}")?,
-        _ => hex(alloc, sink.bytes())?,
-    };
-    let told = match std::str::from_utf8(errors.bytes()) {
-        Ok(text) => format!(in alloc; "{text:?}")?,
-        Err(_) => String::from_str(alloc, "no text")?,
-    };
-    Ok(Some(format!(in alloc; "{status} {output} {told}")?))
+    ran(alloc, text, call, words.as_slice(), outside, &mut errors)
+}
+
+/// How the words ask to listen.
+fn asks_to_listen(alloc: Global, text: &mut String, words: &[&str]) -> Result<bool, AllocError> {
+    let words = handed_over(alloc, words)?;
+    push_shown(text, listening(words.as_slice()))?;
+    Ok(true)
 }
 
 /// `run`, the words of the program, a colon and its outside; `status` and the same, for its status alone; `listening` and the words.
-pub fn answer(alloc: Global, call: &str, words: &[&str]) -> Result<Option<String>, AllocError> {
-    match call {
-        "run" => ran(alloc, words),
-        "status" => match ran(alloc, words)? {
-            Some(text) => match text.as_str().split_whitespace().next() {
-                Some(status) => Ok(Some(String::from_str(alloc, status)?)),
-                None => Ok(None),
-            },
-            None => Ok(None),
-        },
-        "listening" => {
-            let (words, _) = split(alloc, words)?;
-            shown(alloc, &listening(words.as_slice()))
-        }
-        _ => Ok(None),
+pub fn answer(
+    alloc: Global,
+    text: &mut String,
+    call: &str,
+    words: &[&str],
+) -> Result<bool, AllocError> {
+    let (words, pieces) = split(words);
+    if call == "listening" {
+        return asks_to_listen(alloc, text, words);
+    }
+    if call != "run" && call != "status" {
+        return Ok(false);
+    }
+    match read_outside(alloc, pieces)? {
+        Some(mut outside) => ran_with(alloc, text, call, words, &mut outside),
+        None => Ok(false),
     }
 }

@@ -4,6 +4,8 @@ use crate::check::check;
 use modbus_client::Context;
 use modbus_client::prelude::*;
 use modbus_frame::{Error, Result, ShutdownFault, TransportError};
+use std::alloc::{AllocError, Global};
+use std::process::Abort;
 use std::test::Fail;
 use std::time::Duration;
 
@@ -52,22 +54,32 @@ impl Client for Silent {
     }
 }
 
-#[test]
-fn a_context_forwards_to_its_client(rt: HostRuntime) -> std::result::Result<(), Fail> {
+/// A box over a client that was told nothing yet.
+fn boxed(alloc: Global) -> std::result::Result<Box<dyn Client>, AllocError> {
     let silent = Silent {
         slave: Slave(0),
         timeout: None,
     };
-    let client: Box<dyn Client> = Box::new(rt.alloc(), silent)?;
-    let mut context = Context::from(client);
+    let client: Box<dyn Client> = Box::new(alloc, silent)?;
+    Ok(client)
+}
+
+/// What a context is told reaches its client, and what that answers comes back.
+fn forwards<R: Abort>(rt: &R, context: &mut Context) {
     context.set_timeout(Some(Duration::from_secs(2)));
-    check(&rt, context.timeout(), Some(Duration::from_secs(2)));
+    check(rt, context.timeout(), Some(Duration::from_secs(2)));
     context.reset_timeout();
-    check(&rt, context.timeout(), None);
-    check(&rt, context.disconnect(), Ok(()));
+    check(rt, context.timeout(), None);
+    check(rt, context.disconnect(), Ok(()));
     context.set_slave(Slave(9));
-    check(&rt, context.disconnect(), Err(ShutdownFault));
+    check(rt, context.disconnect(), Err(ShutdownFault));
     context.set_timeout(Some(Duration::from_secs(3)));
+}
+
+#[test]
+fn a_context_forwards_to_its_client(rt: HostRuntime) -> std::result::Result<(), Fail> {
+    let mut context = Context::from(boxed(rt.alloc())?);
+    forwards(&rt, &mut context);
     let back: Box<dyn Client> = context.into();
     check(&rt, back.timeout(), Some(Duration::from_secs(3)));
     Ok(())

@@ -2,11 +2,27 @@
 #![tactic(auto)]
 
 mod clients;
+mod left;
+mod one_call;
 mod typed;
 
 use modbus_table::{Calls, answer_table};
 use std::alloc::{AllocError, Global};
 use std::process::ExitCode;
+
+/// Appends the answer to a call. False where there is no such call, or it has no such arguments.
+fn push_answer(
+    alloc: Global,
+    text: &mut String,
+    call: &str,
+    words: &[&str],
+) -> Result<bool, AllocError> {
+    match call {
+        "rtu_call" | "tcp_call" | "matching_call" => clients::answer(alloc, text, call, words),
+        "typed" => typed::answer(alloc, text, words),
+        _ => one_call::answer(alloc, text, call, words),
+    }
+}
 
 /// The calls of clients.
 struct ClientCalls;
@@ -18,10 +34,11 @@ impl Calls for ClientCalls {
         call: &str,
         words: &[&str],
     ) -> Result<Option<String>, AllocError> {
-        if let Some(found) = clients::answer(alloc, call, words)? {
-            return Ok(Some(found));
+        let mut text = String::new(alloc);
+        match push_answer(alloc, &mut text, call, words)? {
+            true => Ok(Some(text)),
+            false => Ok(None),
         }
-        typed::answer(alloc, call, words)
     }
 }
 

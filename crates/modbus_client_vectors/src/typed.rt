@@ -1,12 +1,13 @@
 //! Typed calls of any client, and through a box over a caller's client that answers one response.
 
-use crate::clients::request_of;
 use bytes::Bytes;
 use modbus_client::Context;
 use modbus_client::prelude::*;
-use modbus_frame::{Coils, Error, Result as Answer, ShutdownFault, TransportError, Words};
-use modbus_pdu::decode_response_pdu;
-use modbus_table::text::bytes;
+use modbus_frame::{
+    Coils, Error, ResponsePdu, Result as Answer, ShutdownFault, TransportError, Words,
+};
+use modbus_pdu::{decode_request, decode_response_pdu};
+use modbus_table::text::{bytes, push_shown};
 use std::alloc::{AllocError, Global};
 use std::time::Duration;
 
@@ -101,67 +102,70 @@ fn write<C: SyncWriter>(client: &mut C, request: &Request<'_>) -> Answer<()> {
     }
 }
 
-/// The text of the answer of the typed call of a request.
-pub fn asked<C: SyncClient>(
-    alloc: Global,
+/// The answer of the typed call of a request.
+pub fn ask<C: SyncClient>(
+    text: &mut String,
     client: &mut C,
     request: &Request<'_>,
-) -> Result<String, AllocError> {
-    if matches!(
-        request.function_code().value(),
-        0x05 | 0x06 | 0x0F | 0x10 | 0x16
-    ) {
-        return format!(in alloc; "{:?}", write(client, request));
+) -> Result<bool, AllocError> {
+    match request.function_code().value() {
+        0x05 | 0x06 | 0x0F | 0x10 | 0x16 => push_shown(text, write(client, request))?,
+        _ => push_shown(text, read(client, request))?,
     }
-    format!(in alloc; "{:?}", read(client, request))
+    Ok(true)
 }
 
-/// What a client answers whose words are the PDU of a response or an exception, or `-` for a fault of its link; none where they are neither.
-fn answer_of(alloc: Global, word: &str) -> Result<Option<Answer<Response>>, AllocError> {
-    let Some(pdu) = bytes(alloc, word)? else {
-        return Ok(None);
-    };
-    if pdu.is_empty() {
-        return Ok(Some(Err(Error::Transport(TransportError::BrokenPipe))));
-    }
-    match decode_response_pdu(alloc, Bytes::copy_from_slice(alloc, pdu.as_slice())?) {
-        Err(_) => Ok(None),
-        Ok(found) => Ok(Some(Ok(match found.0 {
-            Ok(response) => Ok(response),
-            Err(refusal) => Err(refusal.exception),
-        }))),
-    }
-}
-
-/// The text of the typed call of a request of a client that answers so.
-fn asked_once(
+/// The answer of the typed call of a request of a client that answers so.
+fn ask_once(
     alloc: Global,
+    text: &mut String,
     request: &Request<'_>,
     answer: Answer<Response>,
-) -> Result<String, AllocError> {
+) -> Result<bool, AllocError> {
     let once = Once {
         answer: Some(answer),
         slave: Slave(0),
         timeout: None,
     };
     let client: Box<dyn Client> = Box::new(alloc, once)?;
-    let mut context = Context::from(client);
-    asked(alloc, &mut context, request)
+    ask(text, &mut Context::from(client), request)
+}
+
+/// The same of a client that answers the PDU of a response or an exception; an empty one stands for a fault of its link.
+fn ask_for(
+    alloc: Global,
+    text: &mut String,
+    request: &Request<'_>,
+    answer: &[u8],
+) -> Result<bool, AllocError> {
+    if answer.is_empty() {
+        let broken = Error::Transport(TransportError::BrokenPipe);
+        return ask_once(alloc, text, request, Err(broken));
+    }
+    match decode_response_pdu(alloc, Bytes::copy_from_slice(alloc, answer)?) {
+        Ok(ResponsePdu(Ok(response))) => ask_once(alloc, text, request, Ok(Ok(response))),
+        Ok(ResponsePdu(Err(refusal))) => ask_once(alloc, text, request, Ok(Err(refusal.exception))),
+        Err(_) => Ok(false),
+    }
+}
+
+/// The same of the PDU of a request.
+fn ask_of(alloc: Global, text: &mut String, pdu: &[u8], answer: &[u8]) -> Result<bool, AllocError> {
+    match decode_request(alloc, pdu) {
+        Ok(request) => ask_for(alloc, text, &request, answer),
+        Err(_) => Ok(false),
+    }
 }
 
 /// `typed`, the PDU of a request, and the PDU of what the client answers: a response or an exception; `-` for a fault of its link.
-pub fn answer(alloc: Global, call: &str, words: &[&str]) -> Result<Option<String>, AllocError> {
-    let &[request, answered] = words else {
-        return Ok(None);
+pub fn answer(alloc: Global, text: &mut String, words: &[&str]) -> Result<bool, AllocError> {
+    let &[request, answer] = words else {
+        return Ok(false);
     };
-    if call != "typed" {
-        return Ok(None);
-    }
-    let Some(answer) = answer_of(alloc, answered)? else {
-        return Ok(None);
-    };
-    match request_of(alloc, request)? {
-        Some(request) => Ok(Some(asked_once(alloc, &request, answer)?)),
-        None => Ok(None),
+    match (bytes(alloc, request)?, bytes(alloc, answer)?) {
+        (Some(request), Some(answer)) => {
+            ask_of(alloc, text, request.as_slice(), answer.as_slice())
+        }
+        _ => Ok(false),
     }
 }

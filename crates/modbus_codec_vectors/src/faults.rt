@@ -5,9 +5,10 @@ use modbus_frame::{
     ParseSlaveError, PduError, ProtocolError, Reason, Response, ShutdownFault, TransportError,
 };
 use modbus_server::ProcessError;
-use modbus_table::text::told;
+use modbus_table::text::push_told;
 use modbus_tcp::TcpError;
-use std::alloc::{AllocError, Global};
+use std::alloc::AllocError;
+use std::fmt::{Debug, Display};
 
 fn transport(name: &str) -> Option<TransportError> {
     Some(match name {
@@ -69,50 +70,54 @@ fn protocol(name: &str) -> Option<ProtocolError> {
     })
 }
 
-fn other(alloc: Global, name: &str) -> Result<Option<String>, AllocError> {
-    match name {
-        "EncodeError::TooLong" => told(alloc, &EncodeError::TooLong(254)),
-        "EncodeError::NoMemory" => told(alloc, &EncodeError::NoMemory),
-        "PduError::Refused" => told(alloc, &PduError::Refused(Reason::TooShort)),
-        "PduError::NoMemory" => told(alloc, &PduError::NoMemory),
-        "Error::NoMemory" => told(alloc, &Error::NoMemory),
-        "Error::Transport" => told(alloc, &Error::Transport(TransportError::BrokenPipe)),
-        "ShutdownFault" => told(alloc, &ShutdownFault),
-        "ConnectFault" => told(alloc, &ConnectFault),
-        "ParseSlaveError" => told(alloc, &ParseSlaveError),
-        "TcpError::InvalidLength" => told(alloc, &TcpError::InvalidLength),
-        "TcpError::InvalidProtocol" => told(alloc, &TcpError::InvalidProtocol(7)),
-        "TcpError::Invalid" => told(alloc, &TcpError::Invalid(Reason::UndecodedData)),
-        "TcpError::NoMemory" => told(alloc, &TcpError::NoMemory),
-        _ => Ok(None),
+/// The text of a fault that may not be there.
+fn told<T: Debug + Display + Drop>(
+    text: &mut String,
+    fault: Option<T>,
+) -> Result<bool, AllocError> {
+    match fault {
+        Some(fault) => push_told(text, fault)?,
+        None => return Ok(false),
     }
+    Ok(true)
+}
+
+fn other(text: &mut String, name: &str) -> Result<bool, AllocError> {
+    match name {
+        "EncodeError::TooLong" => push_told(text, EncodeError::TooLong(254))?,
+        "EncodeError::NoMemory" => push_told(text, EncodeError::NoMemory)?,
+        "PduError::Refused" => push_told(text, PduError::Refused(Reason::TooShort))?,
+        "PduError::NoMemory" => push_told(text, PduError::NoMemory)?,
+        "Error::NoMemory" => push_told(text, Error::NoMemory)?,
+        "Error::Transport" => push_told(text, Error::Transport(TransportError::BrokenPipe))?,
+        "ShutdownFault" => push_told(text, ShutdownFault)?,
+        "ConnectFault" => push_told(text, ConnectFault)?,
+        "ParseSlaveError" => push_told(text, ParseSlaveError)?,
+        "TcpError::InvalidLength" => push_told(text, TcpError::InvalidLength)?,
+        "TcpError::InvalidProtocol" => push_told(text, TcpError::InvalidProtocol(7))?,
+        "TcpError::Invalid" => push_told(text, TcpError::Invalid(Reason::UndecodedData))?,
+        "TcpError::NoMemory" => push_told(text, TcpError::NoMemory)?,
+        _ => return Ok(false),
+    }
+    Ok(true)
 }
 
 /// `text` and the name of a fault.
-pub fn answer(alloc: Global, call: &str, words: &[&str]) -> Result<Option<String>, AllocError> {
+pub fn answer(text: &mut String, call: &str, words: &[&str]) -> Result<bool, AllocError> {
     let &[name] = words else {
-        return Ok(None);
+        return Ok(false);
     };
     if call != "text" {
-        return Ok(None);
+        return Ok(false);
     }
     if let Some(name) = name.strip_prefix("TransportError::") {
-        return match transport(name) {
-            Some(fault) => told(alloc, &fault),
-            None => Ok(None),
-        };
+        return told(text, transport(name));
     }
     if let Some(name) = name.strip_prefix("ProcessError::") {
-        return match process(name) {
-            Some(fault) => told(alloc, &fault),
-            None => Ok(None),
-        };
+        return told(text, process(name));
     }
     if let Some(name) = name.strip_prefix("ProtocolError::") {
-        return match protocol(name) {
-            Some(fault) => told(alloc, &Error::Protocol(fault)),
-            None => Ok(None),
-        };
+        return told(text, protocol(name).map(Error::Protocol));
     }
-    other(alloc, name)
+    other(text, name)
 }

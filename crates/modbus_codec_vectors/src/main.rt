@@ -10,6 +10,21 @@ use modbus_table::{Calls, answer_table};
 use std::alloc::{AllocError, Global};
 use std::process::ExitCode;
 
+/// Appends the answer to a call. False where there is no such call, or it has no such arguments.
+fn push_answer(
+    alloc: Global,
+    text: &mut String,
+    call: &str,
+    words: &[&str],
+) -> Result<bool, AllocError> {
+    Ok(
+        values::answer(alloc, text, call, words)?
+            || pdus::answer(alloc, text, call, words)?
+            || codecs::answer(alloc, text, call, words)?
+            || faults::answer(text, call, words)?,
+    )
+}
+
 /// The calls of the codecs.
 struct CodecCalls;
 
@@ -20,16 +35,11 @@ impl Calls for CodecCalls {
         call: &str,
         words: &[&str],
     ) -> Result<Option<String>, AllocError> {
-        if let Some(found) = values::answer(alloc, call, words)? {
-            return Ok(Some(found));
+        let mut text = String::new(alloc);
+        match push_answer(alloc, &mut text, call, words)? {
+            true => Ok(Some(text)),
+            false => Ok(None),
         }
-        if let Some(found) = pdus::answer(alloc, call, words)? {
-            return Ok(Some(found));
-        }
-        if let Some(found) = codecs::answer(alloc, call, words)? {
-            return Ok(Some(found));
-        }
-        faults::answer(alloc, call, words)
     }
 }
 

@@ -50,16 +50,42 @@ pub fn coils(alloc: Global, word: &str) -> Result<Option<Vec<bool>>, AllocError>
     Ok(Some(found))
 }
 
+/// Appends the text of a byte string; `-` where it is empty.
+pub fn push_hex(text: &mut String, bytes: &[u8]) -> Result<(), AllocError> {
+    if bytes.is_empty() {
+        return text.push_str("-");
+    }
+    for byte in bytes {
+        write!(text, "{byte:02X}")?;
+    }
+    Ok(())
+}
+
+/// Appends the text of a value, and lets the value go.
+pub fn push_shown<T: Debug + Drop>(text: &mut String, value: T) -> Result<(), AllocError> {
+    write!(text, "{value:?}")
+}
+
+/// Appends the text of a fault: its value, and what it is told as. The fault is let go.
+pub fn push_told<T: Debug + Display + Drop>(text: &mut String, fault: T) -> Result<(), AllocError> {
+    write!(text, "Err({fault:?}): {fault}")
+}
+
+/// Appends the text of an outcome: its value, or its fault and what that is told as. The outcome is let go.
+pub fn push_outcome<T: Debug + Drop, E: Debug + Display + Drop>(
+    text: &mut String,
+    outcome: Result<T, E>,
+) -> Result<(), AllocError> {
+    match outcome {
+        Ok(value) => write!(text, "Ok({value:?})"),
+        Err(fault) => push_told(text, fault),
+    }
+}
+
 /// The text of a byte string; `-` where it is empty.
 pub fn hex(alloc: Global, bytes: &[u8]) -> Result<String, AllocError> {
-    if bytes.is_empty() {
-        return String::from_str(alloc, "-");
-    }
     let mut text = String::new(alloc);
-    for byte in bytes {
-        let digits = format!(in alloc; "{byte:02X}")?;
-        text.push_str(digits.as_str())?;
-    }
+    push_hex(&mut text, bytes)?;
     Ok(text)
 }
 

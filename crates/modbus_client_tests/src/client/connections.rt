@@ -1,6 +1,6 @@
 //! Clients that are connected to a TCP device.
 
-use super::{ask, is_fault, link};
+use super::{ends_with, link};
 use crate::check::check;
 use modbus_client::{Client, tcp};
 use modbus_frame::{ConnectFault, Slave, TransportError};
@@ -44,7 +44,40 @@ fn is_refused(
     }
 }
 
-/// Whether a client that is connected so asks this over a link with this time-out, and its connector has no second link.
+/// Whether there is a link with this time-out, to which this was written.
+fn has_sent(link: Option<&MemoryLink>, timeout: Option<Duration>, request: &[u8]) -> bool {
+    match link {
+        Some(link) => link.timeout() == timeout && link.sink().bytes() == request,
+        None => false,
+    }
+}
+
+/// Whether a client has this time-out, and asks this over a link that has it too.
+fn asks_over(
+    client: &mut tcp::Client<MemoryLink>,
+    timeout: Option<Duration>,
+    request: &[u8],
+) -> bool {
+    let is_limited = client.timeout() == timeout;
+    let is_broken = ends_with(client, TransportError::BrokenPipe);
+    is_limited && is_broken && has_sent(client.link(), timeout, request)
+}
+
+/// Whether a client that is connected so asks this over the link of its connector.
+fn is_asked(
+    alloc: Global,
+    connector: &mut MemoryConnector<MemoryLink>,
+    slave: Option<Slave>,
+    timeout: Option<Duration>,
+    request: &[u8],
+) -> bool {
+    match connected(alloc, connector, slave, timeout) {
+        Ok(mut client) => asks_over(&mut client, timeout, request),
+        Err(ConnectFault) => false,
+    }
+}
+
+/// The same, and its connector has no second link.
 fn asks(
     alloc: Global,
     slave: Option<Slave>,
@@ -52,23 +85,10 @@ fn asks(
     request: &[u8],
 ) -> Result<bool, AllocError> {
     let mut connector = MemoryConnector::new(Some(link(alloc)?));
-    let asks = match connected(alloc, &mut connector, slave, timeout) {
-        Ok(mut client) => {
-            let is_limited = client.timeout() == timeout;
-            let is_answered = !is_fault(ask(&mut client), TransportError::BrokenPipe);
-            is_limited && !is_answered && has_sent(client.link(), timeout, request)
-        }
-        Err(ConnectFault) => false,
-    };
-    Ok(asks && is_refused(alloc, &mut connector, slave, timeout))
-}
-
-/// Whether there is a link with this time-out, to which this was written.
-fn has_sent(link: Option<&MemoryLink>, timeout: Option<Duration>, request: &[u8]) -> bool {
-    match link {
-        Some(link) => link.timeout() == timeout && link.sink().bytes() == request,
-        None => false,
-    }
+    Ok(
+        is_asked(alloc, &mut connector, slave, timeout, request)
+            && is_refused(alloc, &mut connector, slave, timeout),
+    )
 }
 
 #[test]

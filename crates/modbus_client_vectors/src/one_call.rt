@@ -1,0 +1,207 @@
+//! Single calls: polled over links in memory, and of a service without a link.
+
+use modbus_client::{PolledCall, Protocol, exchange, rtu, tcp};
+use modbus_frame::{Error, Request, Slave};
+use modbus_link::{Polled, PolledMemoryLink};
+use modbus_pdu::decode_request;
+use modbus_table::SameWords;
+use modbus_table::outside::read_outside;
+use modbus_table::text::{bytes, number, push_hex, push_outcome, push_shown};
+use std::alloc::{AllocError, Global};
+use std::fmt::{Debug, Display};
+
+/// Appends an answer that is ready, and how many polls were pending before. False where it is not ready.
+fn push_ready<T: Debug + Drop, E: Debug + Display + Drop>(
+    text: &mut String,
+    pending: u32,
+    answer: Polled<Result<T, E>>,
+) -> Result<bool, AllocError> {
+    match answer {
+        Polled::Pending => Ok(false),
+        Polled::Ready(answer) => {
+            write!(text, "{pending} ")?;
+            push_outcome(text, answer)?;
+            Ok(true)
+        }
+    }
+}
+
+/// How many polls were pending, and the answer of the first that was not, among a hundred.
+fn poll<P: Protocol>(
+    text: &mut String,
+    call: &mut PolledCall<P>,
+    link: &mut PolledMemoryLink,
+) -> Result<bool, AllocError> {
+    for pending in 0..100u32 {
+        if !call.is_open() {
+            break;
+        }
+        if push_ready(text, pending, call.poll(link))? {
+            return Ok(true);
+        }
+    }
+    Ok(false)
+}
+
+/// The same, and what was written.
+fn poll_all<P: Protocol>(
+    text: &mut String,
+    call: &mut PolledCall<P>,
+    link: &mut PolledMemoryLink,
+) -> Result<bool, AllocError> {
+    if !poll(text, call, link)? {
+        return Ok(false);
+    }
+    text.push_str(" wrote ")?;
+    push_hex(text, link.link().sink().bytes())?;
+    Ok(true)
+}
+
+/// The same of a call that drops the responses of other transactions and units, and how many it dropped.
+fn poll_matching(
+    text: &mut String,
+    call: &mut tcp::MatchingCall,
+    link: &mut PolledMemoryLink,
+) -> Result<bool, AllocError> {
+    if !poll_all(text, call, link)? {
+        return Ok(false);
+    }
+    write!(text, " dropped {}", call.dropped())?;
+    Ok(true)
+}
+
+/// The text of a call that was not opened.
+fn not_opened(text: &mut String, error: Error) -> Result<bool, AllocError> {
+    push_shown(text, Err::<(), Error>(error))?;
+    Ok(true)
+}
+
+fn rtu_polled(
+    alloc: Global,
+    text: &mut String,
+    slave: u8,
+    request: Request<'_>,
+    link: &mut PolledMemoryLink,
+) -> Result<bool, AllocError> {
+    match rtu::PolledCall::new(alloc, Slave(slave), request, 2) {
+        Ok(mut opened) => poll_all(text, &mut opened, link),
+        Err(error) => not_opened(text, error),
+    }
+}
+
+/// The header of the first transaction with a unit.
+fn first_header(unit_id: u8) -> modbus_frame::tcp::Header {
+    modbus_frame::tcp::Header {
+        transaction_id: 1,
+        unit_id,
+    }
+}
+
+fn tcp_polled(
+    alloc: Global,
+    text: &mut String,
+    slave: u8,
+    request: Request<'_>,
+    link: &mut PolledMemoryLink,
+) -> Result<bool, AllocError> {
+    match tcp::PolledCall::new(alloc, first_header(slave), request, 2) {
+        Ok(mut opened) => poll_all(text, &mut opened, link),
+        Err(error) => not_opened(text, error),
+    }
+}
+
+fn matching_polled(
+    alloc: Global,
+    text: &mut String,
+    slave: u8,
+    request: Request<'_>,
+    link: &mut PolledMemoryLink,
+) -> Result<bool, AllocError> {
+    match tcp::MatchingCall::new(alloc, first_header(slave), request, 2) {
+        Ok(mut opened) => poll_matching(text, &mut opened, link),
+        Err(error) => not_opened(text, error),
+    }
+}
+
+/// The answer of a call over a link that may not be ready.
+fn polled(
+    alloc: Global,
+    text: &mut String,
+    call: &str,
+    slave: u8,
+    pdu: &[u8],
+    link: &mut PolledMemoryLink,
+) -> Result<bool, AllocError> {
+    let Ok(request) = decode_request(alloc, pdu) else {
+        return Ok(false);
+    };
+    match call {
+        "rtu_polled" => rtu_polled(alloc, text, slave, request, link),
+        "tcp_polled" => tcp_polled(alloc, text, slave, request, link),
+        "matching_polled" => matching_polled(alloc, text, slave, request, link),
+        _ => Ok(false),
+    }
+}
+
+fn polled_over(
+    alloc: Global,
+    text: &mut String,
+    call: &str,
+    slave: u8,
+    pdu: &[u8],
+    words: &[&str],
+) -> Result<bool, AllocError> {
+    match read_outside(alloc, words)? {
+        Some(outside) => {
+            let mut link = outside.into_polled_link(alloc)?;
+            polled(alloc, text, call, slave, pdu, &mut link)
+        }
+        None => Ok(false),
+    }
+}
+
+/// The answer of a service that answers so many registers, and how often it was asked.
+fn exchanged_words(
+    alloc: Global,
+    text: &mut String,
+    slave: u8,
+    pdu: &[u8],
+    words: &[&str],
+) -> Result<bool, AllocError> {
+    let [count] = words else {
+        return Ok(false);
+    };
+    let Some(count) = number(count) else {
+        return Ok(false);
+    };
+    let Ok(request) = decode_request(alloc, pdu) else {
+        return Ok(false);
+    };
+    let mut service = SameWords::new(count);
+    push_outcome(text, exchange(alloc, Slave(slave), request, &mut service))?;
+    write!(text, " asked {}", service.calls)?;
+    Ok(true)
+}
+
+/// `rtu_polled`, `tcp_polled` or `matching_polled` (of transaction 1), a slave, a PDU and the outside of the link; or `exchange_words`, a slave, a PDU and how
+/// many registers a service answers. A polled call has two turns.
+pub fn answer(
+    alloc: Global,
+    text: &mut String,
+    call: &str,
+    words: &[&str],
+) -> Result<bool, AllocError> {
+    let [slave, pdu, words @ ..] = words else {
+        return Ok(false);
+    };
+    let Ok(slave) = slave.parse::<u8>() else {
+        return Ok(false);
+    };
+    match bytes(alloc, pdu)? {
+        Some(pdu) if call == "exchange_words" => {
+            exchanged_words(alloc, text, slave, pdu.as_slice(), words)
+        }
+        Some(pdu) => polled_over(alloc, text, call, slave, pdu.as_slice(), words),
+        None => Ok(false),
+    }
+}
