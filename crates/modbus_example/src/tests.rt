@@ -1,3 +1,2 @@
 //! What no clause says: this crate's server on bytes.
 mod singles;
-mod thermometer;

@@ -26,30 +26,19 @@ fn a_writer_takes_what_fits_and_then_fails(rt: HostRuntime) {
     check(&rt, buffer, *b"abc");
 }
 
-/// What a reader or a writer does at one call.
-#[derive(Clone, Copy)]
-enum Turn {
-    /// It takes this byte from its input, or takes this many bytes.
-    Moves(u8),
-    /// It fails.
-    Fails,
-    /// A signal interrupts it.
-    Stops,
-}
+/// What a reader or a writer does at one call: it takes this byte from its input, or takes this many bytes, or it fails so.
+type Turn = Result<u8, ErrorKind>;
+
+const FAILS: Turn = Err(ErrorKind::TimedOut);
+
+/// A signal interrupts it.
+const STOPS: Turn = Err(ErrorKind::Interrupted);
 
 /// Takes the first turn off the list.
 fn take_turn(turns: &mut &[Turn]) -> Option<Turn> {
     let (first, rest) = turns.split_first()?;
     *turns = rest;
     Some(*first)
-}
-
-/// The error of a turn.
-fn error_of(turn: Turn) -> Error {
-    Error::from(match turn {
-        Turn::Stops => ErrorKind::Interrupted,
-        _ => ErrorKind::TimedOut,
-    })
 }
 
 /// A reader with these turns, and then the end of its input.
@@ -60,29 +49,23 @@ struct Reader<'a> {
 
 impl Read for Reader<'_> {
     fn read(&mut self, buf: &mut [u8]) -> IoResult<usize> {
-        match (take_turn(&mut self.turns), buf) {
-            (Some(Turn::Moves(byte)), [first, ..]) => {
+        match take_turn(&mut self.turns) {
+            None => Ok(0),
+            Some(Err(kind)) => Err(Error::from(kind)),
+            Some(Ok(byte)) => {
+                let Some(first) = buf.first_mut() else {
+                    return Ok(0);
+                };
                 *first = byte;
                 Ok(1)
             }
-            (None, _) | (Some(Turn::Moves(_)), _) => Ok(0),
-            (Some(turn), _) => Err(error_of(turn)),
         }
     }
 }
 
 #[test]
 fn a_read_that_fails_is_no_end_of_input(rt: HostRuntime) {
-    let turns = [
-        Turn::Stops,
-        Turn::Moves(7),
-        Turn::Fails,
-        Turn::Stops,
-        Turn::Stops,
-        Turn::Moves(8),
-        Turn::Fails,
-        Turn::Fails,
-    ];
+    let turns = [STOPS, Ok(7), FAILS, STOPS, STOPS, Ok(8), FAILS, FAILS];
     let mut source = ReadSource::new(Reader { turns: &turns });
     let mut room = [0u8; 2];
     for (result, first) in [
@@ -93,8 +76,8 @@ fn a_read_that_fails_is_no_end_of_input(rt: HostRuntime) {
         (Err(Failed), 8),
         (Ok(0), 8),
     ] {
-        check(&rt, source.read(&mut room), result);
-        check(&rt, room[0], first);
+        let found = source.read(&mut room);
+        check(&rt, (found, room[0]), (result, first));
     }
 }
 
@@ -109,17 +92,17 @@ struct Writer<'a> {
 impl Write for Writer<'_> {
     fn write(&mut self, buf: &[u8]) -> IoResult<usize> {
         match take_turn(&mut self.writes) {
-            Some(Turn::Moves(count)) => Ok(buf.len().min(usize::from(count))),
             None => Ok(buf.len()),
-            Some(turn) => Err(error_of(turn)),
+            Some(Ok(count)) => Ok(buf.len().min(usize::from(count))),
+            Some(Err(kind)) => Err(Error::from(kind)),
         }
     }
 
     fn flush(&mut self) -> IoResult<()> {
         self.flushed = self.flushed.saturating_add(1);
         match take_turn(&mut self.flushes) {
-            Some(Turn::Moves(_)) | None => Ok(()),
-            Some(turn) => Err(error_of(turn)),
+            None | Some(Ok(_)) => Ok(()),
+            Some(Err(kind)) => Err(Error::from(kind)),
         }
     }
 }
@@ -128,13 +111,13 @@ impl Write for Writer<'_> {
 fn each_write_is_flushed_and_each_failure_is_one(rt: HostRuntime) {
     let cases: [(&[Turn], &[Turn], Result<usize, Failed>, u32); 8] = [
         (&[], &[], Ok(3), 1),
-        (&[Turn::Moves(2)], &[], Ok(2), 1),
-        (&[Turn::Moves(0)], &[], Err(Failed), 1),
-        (&[Turn::Fails], &[], Err(Failed), 1),
-        (&[], &[Turn::Fails], Err(Failed), 1),
-        (&[Turn::Fails], &[Turn::Fails], Err(Failed), 1),
-        (&[Turn::Stops, Turn::Stops, Turn::Moves(1)], &[], Ok(1), 1),
-        (&[Turn::Moves(2)], &[Turn::Stops, Turn::Stops], Ok(2), 3),
+        (&[Ok(2)], &[], Ok(2), 1),
+        (&[Ok(0)], &[], Err(Failed), 1),
+        (&[FAILS], &[], Err(Failed), 1),
+        (&[], &[FAILS], Err(Failed), 1),
+        (&[FAILS], &[FAILS], Err(Failed), 1),
+        (&[STOPS, STOPS, Ok(1)], &[], Ok(1), 1),
+        (&[Ok(2)], &[STOPS, STOPS], Ok(2), 3),
     ];
     for (writes, flushes, result, flushed) in cases {
         let mut writer = Writer {
@@ -142,7 +125,7 @@ fn each_write_is_flushed_and_each_failure_is_one(rt: HostRuntime) {
             flushes,
             flushed: 0,
         };
-        check(&rt, WriteSink::new(&mut writer).write(b"abc"), result);
-        check(&rt, writer.flushed, flushed);
+        let found = WriteSink::new(&mut writer).write(b"abc");
+        check(&rt, (found, writer.flushed), (result, flushed));
     }
 }

@@ -7,6 +7,8 @@ mod adapters;
 #[cfg(test)]
 mod check;
 #[cfg(test)]
+mod links;
+#[cfg(test)]
 mod memory;
 #[cfg(test)]
 mod polled;

@@ -1,29 +1,22 @@
 //! Links that may not be ready.
-use modbus_link::{
-    Failed, MemoryLink, MemorySink, MemorySource, Polled, PolledLink, PolledMemoryLink,
-};
-use std::alloc::{AllocError, Global};
+use crate::links::small_link;
+use modbus_link::{Polled, PolledLink, PolledMemoryLink};
+use std::process::Abort;
 use std::test::Fail;
 
-/// A link that gives three bytes, two of them at first, and takes one byte at a write; its second read and write fail.
-fn faulty_link(alloc: Global) -> Result<MemoryLink, AllocError> {
-    let source = MemorySource::new(alloc, b"abc", &[2], &[1])?;
-    let sink = MemorySink::new(alloc, 4, 1, &[1])?;
-    Ok(MemoryLink::new(source, sink, false))
+/// Fails where a read of a link gives no two bytes at once, or a write takes no byte.
+fn check_ready<R: Abort, L: PolledLink>(rt: &R, link: &mut L) {
+    assert!(rt; link.poll_read(&mut [0u8; 3]) == Ok(Polled::Ready(2)));
+    assert!(rt; link.poll_write(b"xyz") == Ok(Polled::Ready(1)));
 }
 
-/// What a read and a write of any link give that may not be ready.
-fn polls<L: PolledLink + Drop>(
-    mut link: L,
-) -> (Result<Polled<usize>, Failed>, Result<Polled<usize>, Failed>) {
-    (link.poll_read(&mut [0u8; 3]), link.poll_write(b"xyz"))
-}
-
+/// Its second read and write would fail.
 #[test]
 fn a_link_that_blocks_is_always_ready(rt: HostRuntime) -> Result<(), Fail> {
     let alloc = rt.alloc();
-    let ready = (Ok(Polled::Ready(2)), Ok(Polled::Ready(1)));
-    assert!(rt; polls(faulty_link(alloc)?) == ready);
-    assert!(rt; polls(PolledMemoryLink::new(alloc, faulty_link(alloc)?, &[2])?) == ready);
+    let mut link = small_link(alloc, 1, &[1])?;
+    check_ready(&rt, &mut link);
+    let link = small_link(alloc, 1, &[1])?;
+    check_ready(&rt, &mut PolledMemoryLink::new(alloc, link, &[2])?);
     Ok(())
 }

@@ -1,63 +1,80 @@
 //! Links that tell silence.
 use crate::check::check;
-use crate::tcp::{Pair, open_pair};
+use crate::links::small_link;
+use crate::tcp::open_pair;
 use modbus_link::{
-    Failed, Link, MemoryLink, MemorySink, MemorySource, Polled, PolledLink, ReadSource, TcpLink,
-    TerminalLink, TimedLink, TimedMemoryLink, TimedTcpLink, WriteSink,
+    Link, Polled, PolledLink, ReadSource, TcpLink, TerminalLink, TimedLink, TimedMemoryLink,
+    TimedTcpLink, WriteSink,
 };
-use std::alloc::{AllocError, Global};
-use std::io::Write;
+use std::io::{Result as IoResult, Write};
+use std::net::TcpStream;
+use std::process::Abort;
 use std::test::Fail;
 use std::time::Duration;
 
-/// What a read of a link that tells silence gives, and the bytes of its room.
-fn hear<L: TimedLink>(link: &mut L) -> (Result<Polled<usize>, Failed>, [u8; 4]) {
+/// Fails where a read of a link that tells silence does not give this, or leaves other bytes in its room.
+fn check_heard<R: Abort, L: TimedLink>(
+    rt: &R,
+    link: &mut L,
+    wanted: Polled<usize>,
+    bytes: [u8; 4],
+) {
     let mut room = [b'.'; 4];
-    (link.poll_read(&mut room), room)
+    check(rt, link.poll_read(&mut room), Ok(wanted));
+    check(rt, room, bytes);
 }
 
-/// A link in memory that gives `ab`, is silent, and gives `c`.
-fn timed_link(alloc: Global) -> Result<TimedMemoryLink, AllocError> {
-    let source = MemorySource::new(alloc, b"abc", &[2], &[])?;
-    let sink = MemorySink::new(alloc, 4, 4, &[])?;
-    TimedMemoryLink::new(alloc, MemoryLink::new(source, sink, false), &[2, 2])
+fn check_silences<R: Abort>(rt: &R, link: &mut TimedMemoryLink) {
+    check_heard(rt, link, Polled::Ready(2), *b"ab..");
+    check_heard(rt, link, Polled::Pending, *b"....");
+    check_heard(rt, link, Polled::Pending, *b"....");
+    check_heard(rt, link, Polled::Ready(1), *b"c...");
+    check_heard(rt, link, Polled::Ready(0), *b"....");
 }
 
 #[test]
 fn a_link_in_memory_is_silent_where_that_was_said(rt: HostRuntime) -> Result<(), Fail> {
-    let mut link = timed_link(rt.alloc())?;
-    check(&rt, hear(&mut link), (Ok(Polled::Ready(2)), *b"ab.."));
-    check(&rt, hear(&mut link), (Ok(Polled::Pending), *b"...."));
-    check(&rt, hear(&mut link), (Ok(Polled::Pending), *b"...."));
-    check(&rt, hear(&mut link), (Ok(Polled::Ready(1)), *b"c..."));
-    check(&rt, hear(&mut link), (Ok(Polled::Ready(0)), *b"...."));
+    let link = small_link(rt.alloc(), 4, &[])?;
+    check_silences(&rt, &mut TimedMemoryLink::new(rt.alloc(), link, &[2, 2])?);
     Ok(())
+}
+
+fn check_terminal<R: Abort>(rt: &R, link: &mut TerminalLink<&[u8], &mut [u8]>) {
+    check_heard(rt, link, Polled::Ready(2), *b"ab..");
+    check_heard(rt, link, Polled::Pending, *b"....");
+    check(rt, link.poll_write(b"xyz"), Ok(Polled::Ready(2)));
 }
 
 #[test]
 fn a_terminal_that_gives_nothing_is_silent(rt: HostRuntime) {
     let mut buffer = [0u8; 2];
     let sink = WriteSink::new(buffer.as_mut_slice());
-    let mut link = TerminalLink::new(ReadSource::new(b"ab".as_slice()), sink);
-    check(&rt, hear(&mut link), (Ok(Polled::Ready(2)), *b"ab.."));
-    check(&rt, hear(&mut link), (Ok(Polled::Pending), *b"...."));
-    check(&rt, link.poll_write(b"xyz"), Ok(Polled::Ready(2)));
+    check_terminal(
+        &rt,
+        &mut TerminalLink::new(ReadSource::new(b"ab".as_slice()), sink),
+    );
+}
+
+fn check_peer<R: Abort>(rt: &R, link: &mut TimedTcpLink, peer: &mut TcpStream) -> IoResult<()> {
+    check_heard(rt, link, Polled::Pending, *b"....");
+    peer.write_all(b"ab")?;
+    check_heard(rt, link, Polled::Ready(2), *b"ab..");
+    Ok(())
+}
+
+/// A link over this stream that waits for a peer no longer than 20 milliseconds.
+fn impatient_link(stream: TcpStream) -> TimedTcpLink {
+    let mut link = TcpLink::new(stream);
+    link.set_timeout(Some(Duration::from_millis(20)));
+    TimedTcpLink::new(link)
 }
 
 #[test]
 fn a_peer_that_sends_nothing_in_time_is_silent(rt: HostRuntime) -> Result<(), Fail> {
-    let Pair {
-        stream,
-        mut peer,
-        ..
-    } = open_pair(&rt)?;
-    let mut link = TcpLink::new(stream);
-    link.set_timeout(Some(Duration::from_millis(20)));
-    let mut link = TimedTcpLink::new(link);
-    check(&rt, hear(&mut link), (Ok(Polled::Pending), *b"...."));
-    peer.write_all(b"ab")?;
-    check(&rt, hear(&mut link), (Ok(Polled::Ready(2)), *b"ab.."));
+    let (stream, mut peer) = open_pair(&rt)?;
+    let mut link = impatient_link(stream);
+    check_peer(&rt, &mut link, &mut peer)?;
     drop(peer);
-    check(&rt, hear(&mut link), (Ok(Polled::Ready(0)), *b"...."));
+    check_heard(&rt, &mut link, Polled::Ready(0), *b"....");
     Ok(())
 }

@@ -5,54 +5,58 @@ use modbus_link::{
     TcpConnector, TcpLink,
 };
 use std::io::{Read, Result as IoResult, Write};
-use std::net::{Net, TcpListener, TcpStream};
+use std::net::{Net, SocketAddr, TcpListener, TcpStream};
+use std::process::Abort;
 use std::test::Fail;
 use std::time::Duration;
 
-/// A stream, another handle of it, and its peer.
-#[derive(Drop)]
-pub struct Pair {
-    pub stream: TcpStream,
-    pub handle: TcpStream,
-    pub peer: TcpStream,
-}
-
-pub fn open_pair<R: Net<Listener = TcpListener, Stream = TcpStream>>(rt: &R) -> IoResult<Pair> {
+/// A stream, and its peer.
+pub fn open_pair<R: Net<Listener = TcpListener, Stream = TcpStream>>(
+    rt: &R,
+) -> IoResult<(TcpStream, TcpStream)> {
     let listener = TcpListener::bind(rt, "127.0.0.1:0")?;
     let stream = TcpStream::connect(rt, listener.local_addr()?)?;
-    let handle = stream.try_clone()?;
     let (peer, _) = listener.accept()?;
-    Ok(Pair {
-        stream,
-        handle,
-        peer,
-    })
+    Ok((stream, peer))
+}
+
+/// Fails where the peer of a link is not asked.
+fn check_asked<R: Abort>(rt: &R, link: &mut TcpLink, peer: &mut TcpStream) -> IoResult<()> {
+    check(rt, link.write(b"ask"), Ok(3));
+    let mut asked = [0u8; 3];
+    peer.read_exact(&mut asked)?;
+    check(rt, asked, *b"ask");
+    Ok(())
+}
+
+fn check_both_ways<R: Abort>(rt: &R, link: &mut TcpLink, peer: &mut TcpStream) -> IoResult<()> {
+    check_asked(rt, link, peer)?;
+    peer.write_all(b"answer")?;
+    let mut room = [0u8; 8];
+    check(rt, link.read(&mut room), Ok(6));
+    check(rt, room, *b"answer\0\0");
+    check(rt, link.write(b""), Ok(0));
+    Ok(())
+}
+
+/// Fails where a link whose peer has closed does not tell it.
+fn check_closed<R: Abort>(rt: &R, link: &mut TcpLink) {
+    check(rt, link.read(&mut [0u8; 8]), Ok(0));
+    // The second one finds nobody connected.
+    check(rt, link.shutdown(), Ok(()));
+    check(rt, link.shutdown(), Ok(()));
+    check(rt, link.write(b"ask"), Err(Failed));
 }
 
 #[test]
 fn bytes_go_both_ways_until_the_peer_closes(rt: HostRuntime) -> Result<(), Fail> {
-    let Pair {
-        stream,
-        handle,
-        mut peer,
-    } = open_pair(&rt)?;
+    let (stream, mut peer) = open_pair(&rt)?;
+    let handle = stream.try_clone()?;
     let mut link = TcpLink::new(stream);
-    assert!(rt; handle.nodelay()?);
-    check(&rt, link.write(b"ask"), Ok(3));
-    let mut asked = [0u8; 3];
-    peer.read_exact(&mut asked)?;
-    check(&rt, asked, *b"ask");
-    peer.write_all(b"answer")?;
-    let mut room = [0u8; 8];
-    check(&rt, link.read(&mut room), Ok(6));
-    check(&rt, room, *b"answer\0\0");
-    check(&rt, link.write(b""), Ok(0));
+    check(&rt, handle.nodelay()?, true);
+    check_both_ways(&rt, &mut link, &mut peer)?;
     drop(peer);
-    check(&rt, link.read(&mut room), Ok(0));
-    // The second one finds nobody connected.
-    check(&rt, link.shutdown(), Ok(()));
-    check(&rt, link.shutdown(), Ok(()));
-    check(&rt, link.write(b"ask"), Err(Failed));
+    check_closed(&rt, &mut link);
     Ok(())
 }
 
@@ -61,36 +65,30 @@ fn timeouts(stream: &TcpStream) -> IoResult<(Option<Duration>, Option<Duration>)
     Ok((stream.read_timeout()?, stream.write_timeout()?))
 }
 
-#[test]
-fn a_timeout_is_set_at_the_next_write_both_ways(rt: HostRuntime) -> Result<(), Fail> {
-    let Pair {
-        stream,
-        handle,
-        peer: _peer,
-    } = open_pair(&rt)?;
+fn check_next_write<R: Abort>(rt: &R, link: &mut TcpLink, handle: &TcpStream) -> IoResult<()> {
     let mut before = Some(Duration::from_secs(9));
     handle.set_read_timeout(before)?;
     handle.set_write_timeout(before)?;
-    let mut link = TcpLink::new(stream);
-    check(&rt, link.write(b"a"), Ok(1));
+    check(rt, link.write(b"a"), Ok(1));
     for limit in [None, Some(Duration::from_secs(2)), None] {
         link.set_timeout(limit);
-        assert!(rt; timeouts(&handle)? == (before, before));
-        check(&rt, link.write(b"a"), Ok(1));
-        assert!(rt; timeouts(&handle)? == (limit, limit));
+        check(rt, timeouts(handle)?, (before, before));
+        check(rt, link.write(b"a"), Ok(1));
+        check(rt, timeouts(handle)?, (limit, limit));
         before = limit;
     }
     Ok(())
 }
 
 #[test]
-fn a_timeout_that_expires_or_is_refused_is_a_fault(rt: HostRuntime) -> Result<(), Fail> {
-    let Pair {
-        stream,
-        handle: _handle,
-        mut peer,
-    } = open_pair(&rt)?;
-    let mut link = TcpLink::new(stream);
+fn a_timeout_is_set_at_the_next_write_both_ways(rt: HostRuntime) -> Result<(), Fail> {
+    let (stream, _peer) = open_pair(&rt)?;
+    let handle = stream.try_clone()?;
+    check_next_write(&rt, &mut TcpLink::new(stream), &handle)?;
+    Ok(())
+}
+
+fn check_timeouts<R: Abort>(rt: &R, link: &mut TcpLink, peer: &mut TcpStream) -> IoResult<()> {
     let mut room = [0u8; 8];
     let soon = Some(Duration::from_millis(50));
     let never = Some(Duration::ZERO);
@@ -102,10 +100,48 @@ fn a_timeout_that_expires_or_is_refused_is_a_fault(rt: HostRuntime) -> Result<()
     ] {
         link.set_timeout(limit);
         peer.write_all(sent)?;
-        check(&rt, link.read(&mut room), read);
-        check(&rt, link.write(b"a"), wrote);
+        check(rt, link.read(&mut room), read);
+        check(rt, link.write(b"a"), wrote);
     }
     Ok(())
+}
+
+#[test]
+fn a_timeout_that_expires_or_is_refused_is_a_fault(rt: HostRuntime) -> Result<(), Fail> {
+    let (stream, mut peer) = open_pair(&rt)?;
+    check_timeouts(&rt, &mut TcpLink::new(stream), &mut peer)?;
+    Ok(())
+}
+
+/// Fails where the peer of a link is not asked, or its echo is not read.
+fn check_echo<R: Abort>(rt: &R, link: &mut TcpLink, peer: &mut TcpStream) -> IoResult<()> {
+    check_asked(rt, link, peer)?;
+    peer.write_all(b"ask")?;
+    check(rt, link.read(&mut [0u8; 3]), Ok(3));
+    Ok(())
+}
+
+fn check_connected<R: Abort, C: Connector<Link = TcpLink>>(
+    rt: &R,
+    connector: &mut C,
+    listener: &TcpListener,
+) -> Result<(), Fail> {
+    let address = listener.local_addr()?;
+    for timeout in [None, Some(Duration::from_secs(2))] {
+        let mut link = connector.connect(address, timeout)?;
+        let (mut peer, _) = listener.accept()?;
+        check_echo(rt, &mut link, &mut peer)?;
+    }
+    Ok(())
+}
+
+fn check_refused<R: Abort, C: Connector<Link = TcpLink>>(
+    rt: &R,
+    connector: &mut C,
+    address: SocketAddr,
+    timeout: Option<Duration>,
+) {
+    check(rt, connector.connect(address, timeout).is_err(), true);
 }
 
 #[test]
@@ -113,22 +149,29 @@ fn a_connector_opens_connections_until_nobody_listens(rt: HostRuntime) -> Result
     let listener = TcpListener::bind(&rt, "127.0.0.1:0")?;
     let address = listener.local_addr()?;
     let mut connector = TcpConnector::new(&rt);
-    for timeout in [None, Some(Duration::from_secs(2))] {
-        let mut link = (&mut connector).connect(address, timeout)?;
-        let (mut peer, _) = listener.accept()?;
-        check(&rt, link.write(b"ask"), Ok(3));
-        let mut asked = [0u8; 3];
-        peer.read_exact(&mut asked)?;
-        check(&rt, asked, *b"ask");
-        peer.write_all(&asked)?;
-        check(&rt, link.read(&mut asked), Ok(3));
-    }
+    check_connected(&rt, &mut connector, &listener)?;
     // There is somebody, but no time to connect.
-    assert!(rt; connector.connect(address, Some(Duration::ZERO)).is_err());
+    check_refused(&rt, &mut connector, address, Some(Duration::ZERO));
     drop(listener);
     for timeout in [None, Some(Duration::from_secs(2))] {
-        assert!(rt; connector.connect(address, timeout).is_err());
+        check_refused(&rt, &mut connector, address, timeout);
     }
+    Ok(())
+}
+
+/// Fails where the next link is not one of this peer, or does not give what the peer has sent.
+fn check_accepted<R: Abort>(
+    rt: &R,
+    acceptor: &mut TcpAcceptor,
+    peer: &mut TcpStream,
+    text: &[u8; 3],
+) -> Result<(), Fail> {
+    peer.write_all(text)?;
+    let (mut link, from) = acceptor.accept()?;
+    check(rt, from, peer.local_addr()?);
+    let mut room = [0u8; 3];
+    check(rt, link.read(&mut room), Ok(3));
+    check(rt, room, *text);
     Ok(())
 }
 
@@ -140,15 +183,10 @@ fn an_acceptor_gives_the_links_of_peers_in_order(rt: HostRuntime) -> Result<(), 
     let mut acceptor = TcpAcceptor::new(listener);
     for text in [b"one", b"two"] {
         let mut peer = TcpStream::connect(&rt, address)?;
-        peer.write_all(text)?;
-        let (mut link, from) = (&mut acceptor).accept()?;
-        assert!(rt; from == peer.local_addr()?);
-        let mut room = [0u8; 3];
-        check(&rt, link.read(&mut room), Ok(3));
-        check(&rt, room, *text);
+        check_accepted(&rt, &mut acceptor, &mut peer, text)?;
     }
     // Nobody else has connected, and this listener does not wait.
-    assert!(rt; acceptor.accept().is_err());
+    check(&rt, acceptor.accept().is_err(), true);
     Ok(())
 }
 

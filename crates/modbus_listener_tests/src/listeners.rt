@@ -1,10 +1,12 @@
 //! Listeners and the workers of connections, over memory and over TCP, on the caller and in threads of a scope.
+//!
+//! A function that calls much is lent what it works on: the check of one that owns it takes far longer.
 
 use crate::check::check;
 use modbus_frame::{ExceptionCode, Response, SlaveRequest, Words};
 use modbus_link::{
-    Acceptor, Ends, Failed, FlagStop, Link, MemoryAcceptor, MemoryLink, MemorySink, MemorySource,
-    MemoryStop, Sink, Source, Spawner, Stop, TcpAcceptor, TcpLink, Worker,
+    Acceptor, Failed, MemoryAcceptor, MemoryLink, MemorySink, MemorySource, MemoryStop, Spawner,
+    TcpAcceptor, TcpLink, Worker,
 };
 use modbus_server::{
     ProcessError, ServeError, Service, ServiceError, Terminated, rtu_over_tcp, serve_acceptor,
@@ -16,7 +18,7 @@ use std::net::{Net, SocketAddr, TcpListener, TcpStream};
 use std::sync::Wait;
 use std::sync::atomic::{AtomicU64, Ordering};
 use std::test::Fail;
-use std::thread::{self, Threads};
+use std::thread::{self, Scope, Threads};
 use std::time::Duration;
 
 /// A read of one register from address 0 of slave 1.
@@ -39,7 +41,7 @@ const REPLY_ADU: [u8; 11] = [
 const NO_LENGTH: [u8; 7] = [0x00, 0x01, 0x00, 0x00, 0x00, 0x00, 0xFF];
 
 fn zero_in_reply(alloc: Global) -> Result<Option<Response>, ServiceError> {
-    match Vec::from_elem(alloc, 0, 1) {
+    match Vec::from_slice(alloc, &[0]) {
         Err(_) => Err(ServiceError::NoMemory),
         Ok(words) => Ok(Some(Response::ReadHoldingRegisters(Words::new(words)))),
     }
@@ -63,37 +65,45 @@ impl Service for Zero {
     }
 }
 
-fn link_of(alloc: Global, input: &[u8]) -> Result<MemoryLink, AllocError> {
-    Ok(MemoryLink::new(
-        MemorySource::new(alloc, input, &[], &[])?,
-        MemorySink::new(alloc, 64, 64, &[])?,
-        false,
-    ))
+/// A link that gives these bytes, and whose reads of these numbers fail.
+fn link_of(alloc: Global, input: &[u8], failing_reads: &[u64]) -> Result<MemoryLink, AllocError> {
+    let source = MemorySource::new(alloc, input, &[], failing_reads)?;
+    Ok(MemoryLink::new(source, MemorySink::new(alloc, 64, 64, &[])?, false))
 }
+
+/// Takes a connection from anywhere.
+fn take<L>(link: L, _address: SocketAddr) -> Result<Option<(Zero, L)>, u8> {
+    Ok(Some((Zero, link)))
+}
+
+/// Tells nobody of the error of a connection.
+fn ignore(_error: ProcessError) {}
 
 fn peer() -> SocketAddr {
     SocketAddr::from(([127, 0, 0, 1], 502))
 }
 
-/// How often a worker that is run tells its hook this error; another one counts a hundred times. And what was written to its link.
+/// How often a worker that is run tells its hook this error; another one counts a hundred times.
+fn count_told(alloc: Global, link: &mut MemoryLink, error: ProcessError) -> u64 {
+    let told = AtomicU64::new(0);
+    let count = &told;
+    let hook = |found: ProcessError| {
+        count.fetch_add(if found == error { 1 } else { 100 }, Ordering::SeqCst);
+    };
+    tcp::ConnectionWorker::new(alloc, link, Zero, hook, MemoryStop::new(u64::MAX)).run();
+    told.load(Ordering::SeqCst)
+}
+
+/// That count, and what was written to the link.
 fn told(
     alloc: Global,
     input: &[u8],
     failing_reads: &[u64],
     error: ProcessError,
 ) -> Result<(u64, usize), AllocError> {
-    let source = MemorySource::new(alloc, input, &[], failing_reads)?;
-    let mut link = MemoryLink::new(source, MemorySink::new(alloc, 64, 64, &[])?, false);
-    let told = AtomicU64::new(0);
-    {
-        let told = &told;
-        let hook = |found: ProcessError| {
-            told.fetch_add(if found == error { 1 } else { 100 }, Ordering::SeqCst);
-        };
-        let stop = MemoryStop::new(u64::MAX);
-        tcp::ConnectionWorker::new(alloc, &mut link, Zero, hook, stop).run();
-    }
-    Ok((told.load(Ordering::SeqCst), link.sink().bytes().len()))
+    let mut link = link_of(alloc, input, failing_reads)?;
+    let count = count_told(alloc, &mut link, error);
+    Ok((count, link.sink().bytes().len()))
 }
 
 /// A worker that is run serves its link once, and tells its hook the very error of that, once.
@@ -150,6 +160,41 @@ impl<W: Worker + Drop> Later<W> {
     }
 }
 
+/// How a listener ended whose workers run after it.
+fn serve_late<R: Wait>(
+    rt: &R,
+    alloc: Global,
+    acceptor: MemoryAcceptor<&mut MemoryLink>,
+    room: usize,
+    looks: u64,
+) -> Result<Terminated, ServeError<u8>> {
+    let mut later = Later::new(alloc, room);
+    let answer = rtu_over_tcp::Server::new(acceptor).serve_until(
+        rt,
+        alloc,
+        &mut take,
+        ignore,
+        &mut later,
+        &mut MemoryStop::new(looks),
+    );
+    for worker in later.workers {
+        worker.run();
+    }
+    answer
+}
+
+/// An acceptor of two links.
+fn accepting<'l>(
+    alloc: Global,
+    near: &'l mut MemoryLink,
+    far: &'l mut MemoryLink,
+) -> Result<MemoryAcceptor<&'l mut MemoryLink>, AllocError> {
+    let mut links = Vec::new(alloc);
+    links.push((near, peer()))?;
+    links.push((far, peer()))?;
+    Ok(MemoryAcceptor::new(links))
+}
+
 /// How a listener over two links ended whose workers run after it, and what these read then.
 fn served_late<R: Wait>(
     rt: &R,
@@ -157,27 +202,15 @@ fn served_late<R: Wait>(
     room: usize,
     looks: u64,
 ) -> Result<(Result<Terminated, ServeError<u8>>, usize, usize), AllocError> {
-    let mut near = link_of(alloc, &READ_ONE)?;
-    let mut far = link_of(alloc, &READ_ONE)?;
-    let answer = {
-        let mut links = Vec::new(alloc);
-        links.push((&mut near, peer()))?;
-        links.push((&mut far, peer()))?;
-        let mut server = rtu_over_tcp::Server::new(MemoryAcceptor::new(links));
-        let mut later = Later::new(alloc, room);
-        let answer = server.serve_until(
-            rt,
-            alloc,
-            &mut |link, _address| -> Result<Option<(Zero, _)>, u8> { Ok(Some((Zero, link))) },
-            |_error: ProcessError| {},
-            &mut later,
-            &mut MemoryStop::new(looks),
-        );
-        for worker in later.workers {
-            worker.run();
-        }
-        answer
-    };
+    let mut near = link_of(alloc, &READ_ONE, &[])?;
+    let mut far = link_of(alloc, &READ_ONE, &[])?;
+    let answer = serve_late(
+        rt,
+        alloc,
+        accepting(alloc, &mut near, &mut far)?,
+        room,
+        looks,
+    );
     Ok((answer, near.source().given(), far.source().given()))
 }
 
@@ -195,29 +228,40 @@ fn a_worker_that_runs_late_finds_its_flag_raised(rt: HostRuntime) -> Result<(), 
     Ok(())
 }
 
-/// How a listener without a signal ended whose one worker runs after it, how many were started, and what that one read then.
+/// How a listener without a signal ended whose one worker runs after it, and how many were started.
+fn serve_acceptor_late<R: Wait>(
+    rt: &R,
+    alloc: Global,
+    acceptor: &mut MemoryAcceptor<&mut MemoryLink>,
+) -> (Result<(), ServeError<u8>>, u64) {
+    let mut later = Later::new(alloc, 1);
+    let answer = serve_acceptor::<tcp::AduBuffer, _, _, _, _, _, _, _, _>(
+        rt, alloc, acceptor, &mut take, ignore, &mut later,
+    );
+    let started = later.started;
+    for worker in later.workers {
+        worker.run();
+    }
+    (answer, started)
+}
+
+/// An acceptor of one link.
+fn accepting_one(
+    alloc: Global,
+    link: &mut MemoryLink,
+) -> Result<MemoryAcceptor<&mut MemoryLink>, AllocError> {
+    let mut links = Vec::new(alloc);
+    links.push((link, peer()))?;
+    Ok(MemoryAcceptor::new(links))
+}
+
+/// The same over one link, and what its worker read then.
 fn served_late_by_acceptor<R: Wait>(
     rt: &R,
     alloc: Global,
 ) -> Result<(Result<(), ServeError<u8>>, u64, usize), AllocError> {
-    let mut link = link_of(alloc, &READ_ADU)?;
-    let (answer, started) = {
-        let mut links = Vec::new(alloc);
-        links.push((&mut link, peer()))?;
-        let mut later = Later::new(alloc, 1);
-        let answer = serve_acceptor::<tcp::AduBuffer, _, _, _, _, _, _, _, _>(
-            rt,
-            alloc,
-            &mut MemoryAcceptor::new(links),
-            &mut |link, _address| -> Result<Option<(Zero, _)>, u8> { Ok(Some((Zero, link))) },
-            |_error: ProcessError| {},
-            &mut later,
-        );
-        for worker in later.workers {
-            worker.run();
-        }
-        (answer, later.started)
-    };
+    let mut link = link_of(alloc, &READ_ADU, &[])?;
+    let (answer, started) = serve_acceptor_late(rt, alloc, &mut accepting_one(alloc, &mut link)?);
     Ok((answer, started, link.source().given()))
 }
 
@@ -235,24 +279,23 @@ fn a_worker_of_an_acceptor_finds_its_flag_raised(rt: HostRuntime) -> Result<(), 
 /// How often a wait looks before it gives up.
 const LOOKS: u64 = 200_000_000;
 
-/// Whether a flag was raised, within so many looks.
-fn is_seen(flag: &mut FlagStop) -> bool {
+/// Whether both connections have asked, within so many looks.
+fn is_met(asked: &AtomicU64) -> bool {
     for _ in 0..LOOKS {
-        if flag.is_set() {
+        if asked.load(Ordering::SeqCst) == 2 {
             return true;
         }
     }
     false
 }
 
-/// Answers each request with one register that is 0: one raises a flag before, and the other one waits for it.
-#[derive(Drop)]
-enum Gate {
-    Waits(FlagStop),
-    Opens(FlagStop),
+/// Answers a request with one register that is 0, once both connections have asked.
+#[derive(Clone, Copy)]
+struct Meeting<'c> {
+    asked: &'c AtomicU64,
 }
 
-impl Service for Gate {
+impl<'c> Service for Meeting<'c> {
     ghost answers = { λ old slave request outcome new. Unit {0} };
 
     ghost takes_memory = { λ it slave request. Unit {0} };
@@ -262,69 +305,22 @@ impl Service for Gate {
         alloc: Global,
         _request: SlaveRequest<'_>,
     ) -> Result<Option<Response>, ServiceError> {
-        let reply = zero_in_reply(alloc)?;
-        match self {
-            Gate::Opens(flag) => flag.raise(),
-            Gate::Waits(flag) => {
-                if !is_seen(flag) {
-                    return Err(ServiceError::Exception(ExceptionCode::ServerDeviceFailure));
-                }
-            }
+        self.asked.fetch_add(1, Ordering::SeqCst);
+        if !is_met(self.asked) {
+            return Err(ServiceError::Exception(ExceptionCode::ServerDeviceFailure));
         }
-        Ok(reply)
+        zero_in_reply(alloc)
     }
 }
 
-/// A link that raises a flag at the end of its input.
+/// An acceptor that fails only once both connections have asked, or were waited for long. What was asked is answered, also after that.
 #[derive(Drop)]
-struct Watched<L> {
-    link: L,
-    ended: FlagStop,
-}
-
-impl<L: Ends> Ends for Watched<L> {
-    ghost input = { λ it. L.input it.link };
-
-    ghost output = { λ it. L.output it.link };
-
-    ghost line = { λ it. L.line it.link };
-}
-
-impl<L: Source> Source for Watched<L> {
-    fn read(&mut self, room: &mut [u8]) -> Result<usize, Failed> {
-        let result = self.link.read(room);
-        if result == Ok(0) {
-            self.ended.raise();
-        }
-        result
-    }
-}
-
-impl<L: Sink> Sink for Watched<L> {
-    fn write(&mut self, piece: &[u8]) -> Result<usize, Failed> {
-        self.link.write(piece)
-    }
-}
-
-impl<L: Link> Link for Watched<L> {
-    fn shutdown(&mut self) -> Result<(), Failed> {
-        self.link.shutdown()
-    }
-
-    fn set_timeout(&mut self, duration: Option<Duration>) {
-        self.link.set_timeout(duration)
-    }
-}
-
-/// An acceptor that fails only once both connections have ended, or were waited for long.
-#[derive(Drop)]
-struct Patient<A> {
+struct Patient<'c, A> {
     acceptor: A,
-    first: FlagStop,
-    second: FlagStop,
+    asked: &'c AtomicU64,
 }
 
-impl<A: Acceptor> Acceptor for Patient<A> {
+impl<'c, A: Acceptor> Acceptor for Patient<'c, A> {
     type Link = A::Link;
 
     ghost faults = { λ it. A.faults it.acceptor };
@@ -334,107 +330,116 @@ impl<A: Acceptor> Acceptor for Patient<A> {
     fn accept(&mut self) -> Result<(A::Link, SocketAddr), Failed> {
         let accepted = self.acceptor.accept();
         if accepted.is_err() {
-            let _ = is_seen(&mut self.first) && is_seen(&mut self.second);
+            let _ = is_met(self.asked);
         }
         accepted
     }
 }
 
-/// What two connections serve with, the one that waits first, and the flags of their ends.
-#[derive(Drop)]
-struct Meeting {
-    services: Vec<Gate>,
-    first: FlagStop,
-    second: FlagStop,
-}
-
-fn open_meeting(alloc: Global) -> Result<Meeting, AllocError> {
-    let gate = FlagStop::new(alloc)?;
-    let mut services = Vec::new(alloc);
-    services.push(Gate::Opens(gate.share()?))?;
-    services.push(Gate::Waits(gate))?;
-    Ok(Meeting {
-        services,
-        first: FlagStop::new(alloc)?,
-        second: FlagStop::new(alloc)?,
-    })
-}
-
-/// An acceptor of two links, each of which raises a flag at its end.
-fn watching<'l>(
+/// A patient acceptor of two links.
+fn accepting_patiently<'l>(
     alloc: Global,
     near: &'l mut MemoryLink,
     far: &'l mut MemoryLink,
-    first: FlagStop,
-    second: FlagStop,
-) -> Result<Patient<MemoryAcceptor<Watched<&'l mut MemoryLink>>>, AllocError> {
-    let mut links = Vec::new(alloc);
-    let ended = first.share()?;
-    links.push((Watched { link: near, ended }, peer()))?;
-    let ended = second.share()?;
-    links.push((Watched { link: far, ended }, peer()))?;
-    Ok(Patient {
-        acceptor: MemoryAcceptor::new(links),
-        first,
-        second,
-    })
+    asked: &'l AtomicU64,
+) -> Result<Patient<'l, MemoryAcceptor<&'l mut MemoryLink>>, AllocError> {
+    let acceptor = accepting(alloc, near, far)?;
+    Ok(Patient { acceptor, asked })
 }
 
-/// The answer of a listener over two links, each with a thread, of which one waits for the other one's request.
+/// The answer of a listener over two links, each with a thread, of which each waits for the other one's request.
 fn served_at_once<R: Threads + Wait>(
     rt: &R,
     alloc: Global,
     near: &mut MemoryLink,
     far: &mut MemoryLink,
 ) -> Result<Result<(), ServeError<u8>>, AllocError> {
-    let Meeting {
-        mut services,
-        first,
-        second,
-    } = open_meeting(alloc)?;
-    let acceptor = watching(alloc, near, far, first, second)?;
+    let count = AtomicU64::new(0);
+    let asked = &count;
+    let acceptor = accepting_patiently(alloc, near, far, asked)?;
     Ok(thread::scope(
         thread::scope_env(),
         rt,
         move |scope| -> Result<(), ServeError<u8>> {
-            let mut server = rtu_over_tcp::Server::new(acceptor);
             serve_in_scope(
                 rt,
                 alloc,
-                &mut server,
-                &mut |link, _address| -> Result<Option<(Gate, _)>, u8> {
-                    Ok(services.pop().map(|service| (service, link)))
+                &mut rtu_over_tcp::Server::new(acceptor),
+                &mut |link, _address| -> Result<Option<(Meeting<'_>, _)>, u8> {
+                    Ok(Some((Meeting { asked }, link)))
                 },
-                |_error: ProcessError| {},
+                ignore,
                 scope,
             )
         },
     ))
 }
 
+/// Whether a link was sent the register.
+fn is_sent(link: &MemoryLink) -> bool {
+    link.sink().bytes() == ONE.as_slice()
+}
+
+/// That answer, and whether each link was sent the register.
+fn served_both<R: Threads + Wait>(
+    rt: &R,
+    alloc: Global,
+) -> Result<(Result<(), ServeError<u8>>, bool, bool), AllocError> {
+    let mut near = link_of(alloc, &READ_ONE, &[])?;
+    let mut far = link_of(alloc, &READ_ONE, &[])?;
+    let answer = served_at_once(rt, alloc, &mut near, &mut far)?;
+    Ok((answer, is_sent(&near), is_sent(&far)))
+}
+
 #[test]
 fn two_connections_at_once(rt: HostRuntime) -> Result<(), Fail> {
-    let alloc = rt.alloc();
-    let mut near = link_of(alloc, &READ_ONE)?;
-    let mut far = link_of(alloc, &READ_ONE)?;
-    let answer = served_at_once(&rt, alloc, &mut near, &mut far)?;
-    check(&rt, answer, Err(ServeError::AcceptFault));
-    check(&rt, near.sink().bytes(), ONE.as_slice());
-    check(&rt, far.sink().bytes(), ONE.as_slice());
+    check(
+        &rt,
+        served_both(&rt, rt.alloc())?,
+        (Err(ServeError::AcceptFault), true, true),
+    );
     Ok(())
 }
 
-/// Asks for one register over a connection of its own, and gives the reply. A second connection ends the server.
+/// Asks for one register over this connection, and gives the reply.
+fn exchange(stream: &mut TcpStream) -> IoResult<[u8; 11]> {
+    stream.set_read_timeout(Some(Duration::from_secs(9)))?;
+    stream.write_all(&READ_ADU)?;
+    let mut reply = [0u8; 11];
+    stream.read_exact(&mut reply)?;
+    Ok(reply)
+}
+
+/// Asks over a connection of its own. A second connection ends the server.
 fn ask<R: Net<Stream = TcpStream>>(rt: &R, address: SocketAddr) -> IoResult<[u8; 11]> {
     let mut stream = TcpStream::connect(rt, address)?;
-    stream.set_read_timeout(Some(Duration::from_secs(9)))?;
-    let mut reply = [0u8; 11];
-    let asked = stream.write_all(&READ_ADU);
-    let answered = stream.read_exact(&mut reply);
+    let reply = exchange(&mut stream);
     let _end = TcpStream::connect(rt, address)?;
-    asked?;
-    answered?;
-    Ok(reply)
+    reply
+}
+
+/// Serves the first connection in a thread of the scope, until there is a second one.
+fn serve_first<'s, R: Wait, Env>(
+    rt: &R,
+    alloc: Global,
+    listener: TcpListener,
+    scope: &Scope<'s, Env>,
+) {
+    let mut is_served = false;
+    let _answer = serve_in_scope(
+        rt,
+        alloc,
+        &mut tcp::Server::new(TcpAcceptor::new(listener)),
+        &mut |link, _address| -> Result<Option<(Zero, TcpLink)>, u8> {
+            if is_served {
+                return Err(7);
+            }
+            is_served = true;
+            Ok(Some((Zero, link)))
+        },
+        ignore,
+        scope,
+    );
 }
 
 #[test]
@@ -448,22 +453,7 @@ fn a_connection_over_tcp_has_a_thread(rt: HostRuntime) -> Result<(), Fail> {
         handle,
         move |scope| -> IoResult<[u8; 11]> {
             let client = scope.spawn(move || ask(handle, address))?;
-            let mut server = tcp::Server::new(TcpAcceptor::new(listener));
-            let mut is_served = false;
-            let _answer = serve_in_scope(
-                handle,
-                alloc,
-                &mut server,
-                &mut |link, _address| -> Result<Option<(Zero, TcpLink)>, u8> {
-                    if is_served {
-                        return Err(7);
-                    }
-                    is_served = true;
-                    Ok(Some((Zero, link)))
-                },
-                |_error: ProcessError| {},
-                scope,
-            );
+            serve_first(handle, alloc, listener, scope);
             client.join(handle)
         },
     )?;

@@ -21,19 +21,27 @@ const TAKES: u16 = 0;
 
 const REJECTS: u16 = 1;
 
-/// A connection as a word says: the port of its peer, and behind a colon its outside, whose words have a plus between them.
-fn read_peer(alloc: Global, word: &str) -> Result<Option<(u16, MemoryLink)>, AllocError> {
-    let Some((port, outside)) = word.split_once(":") else {
-        return Ok(None);
-    };
+/// A new link over the outside that the words tell.
+fn link_of(alloc: Global, words: &[&str]) -> Result<Option<MemoryLink>, AllocError> {
+    match read_outside(alloc, words)? {
+        Some(outside) => Ok(Some(outside.into_link())),
+        None => Ok(None),
+    }
+}
+
+/// The port of the peer of a connection, and its outside, whose words have a plus between them. A colon is between the two.
+fn port_and_outside(word: &str) -> Option<(u16, &str)> {
+    let (port, outside) = word.split_once(":")?;
+    Some((number(port)?, outside))
+}
+
+/// A new link over the outside of this text.
+fn read_link(alloc: Global, outside: &str) -> Result<Option<MemoryLink>, AllocError> {
     let mut words = Vec::new(alloc);
     for word in outside.split('+') {
         words.push(word)?;
     }
-    let (Some(port), Some(outside)) = (number(port), read_outside(alloc, words.as_slice())?) else {
-        return Ok(None);
-    };
-    Ok(Some((port, outside.into_link())))
+    link_of(alloc, words.as_slice())
 }
 
 /// The address of a peer.
@@ -57,7 +65,7 @@ type Ended = Result<Terminated, ServeError<u16>>;
 fn listen<I, R, A, H, P>(
     rt: &R,
     alloc: Global,
-    acceptor: A,
+    server: &mut Server<I, A>,
     on_process_error: H,
     spawner: &mut P,
     looks: Option<u64>,
@@ -65,14 +73,13 @@ fn listen<I, R, A, H, P>(
 where
     I: Framing,
     R: Wait,
-    A: Acceptor + Drop,
+    A: Acceptor,
     A::Link: Link + Send + Drop,
     H: Fn(ProcessError) + Copy + Send,
     P: Spawner<ConnectionWorker<I, A::Link, SameWords, H, FlagStop>>,
     requires error_hook { H.IsAlwaysCallable on_process_error }
     requires can { P.can_start spawner.old }
 {
-    let mut server = Server::<I, A>::new(acceptor);
     let mut hook = |link: A::Link, address: SocketAddr| -> Result<
         Option<(SameWords, A::Link)>,
         u16,
@@ -93,26 +100,23 @@ where
     }
 }
 
-/// The answer of a listener over an acceptor whose workers are run at once, or none of whose workers a thread is found for.
+/// The answer of a listener whose workers are run at once, or none of whose workers a thread is found for.
 fn ended<I, R, A>(
     rt: &R,
     alloc: Global,
     spawner: &str,
-    acceptor: A,
+    server: &mut Server<I, A>,
     looks: Option<u64>,
 ) -> Option<Ended>
 where
     I: Framing,
     R: Wait,
-    A: Acceptor + Drop,
+    A: Acceptor,
     A::Link: Link + Send + Drop,
 {
     let ignore = |_error: ProcessError| {};
-    let answer = match spawner {
-        "inline" => {
-            let mut spawner = InlineSpawner::new();
-            listen::<I, R, A, _, _>(rt, alloc, acceptor, ignore, &mut spawner, looks)
-        }
+    match spawner {
+        "inline" => Some(listen(rt, alloc, server, ignore, &mut InlineSpawner::new(), looks)),
         "refused" => {
             let mut spawner = ScopeSpawner::new(|_worker: ConnectionWorker<
                 I,
@@ -121,22 +125,81 @@ where
                 _,
                 FlagStop,
             >| false);
-            listen::<I, R, A, _, _>(rt, alloc, acceptor, ignore, &mut spawner, looks)
+            Some(listen(rt, alloc, server, ignore, &mut spawner, looks))
         }
-        _ => return None,
-    };
-    Some(answer)
+        _ => None,
+    }
 }
 
-/// The text of how a listener ended, and of what its two connections were sent.
-fn told(alloc: Global, ended: &Ended, near: &[u8], far: &[u8]) -> Result<String, AllocError> {
-    let near = hex(alloc, near)?;
-    let far = hex(alloc, far)?;
-    format!(in alloc; "{ended:?} {near} {far}")
+/// An acceptor of these links, from peers with these ports.
+fn accepting<'l>(
+    alloc: Global,
+    links: &'l mut [MemoryLink],
+    ports: &[u16],
+) -> Result<MemoryAcceptor<&'l mut MemoryLink>, AllocError> {
+    let mut accepted = Vec::new(alloc);
+    let mut left = links;
+    for port in ports {
+        let Some((link, others)) = left.split_first_mut() else {
+            break;
+        };
+        accepted.push((link, address(*port)))?;
+        left = others;
+    }
+    Ok(MemoryAcceptor::new(accepted))
 }
 
-/// The answer of a listener over two connections, and what each of them was sent.
+/// Appends what a connection was sent.
+fn push_sent(alloc: Global, text: &mut String, link: &MemoryLink) -> Result<(), AllocError> {
+    text.push_str(" ")?;
+    text.push_str(hex(alloc, link.sink().bytes())?.as_str())
+}
+
+/// The text of how a listener ended, and of what each of its connections was sent.
+fn told(alloc: Global, ended: Ended, links: &[MemoryLink]) -> Result<Option<String>, AllocError> {
+    let mut text = format!(in alloc; "{ended:?}")?;
+    for link in links {
+        push_sent(alloc, &mut text, link)?;
+    }
+    Ok(Some(text))
+}
+
+/// The answer of a listener over these links, from peers with these ports, and what each of them was sent.
 fn listened<I: Framing, R: Wait>(
+    rt: &R,
+    alloc: Global,
+    spawner: &str,
+    links: &mut [MemoryLink],
+    ports: &[u16],
+    looks: Option<u64>,
+) -> Result<Option<String>, AllocError> {
+    let ended = ended(
+        rt,
+        alloc,
+        spawner,
+        &mut Server::<I, _>::new(accepting(alloc, &mut *links, ports)?),
+        looks,
+    );
+    match ended {
+        Some(ended) => told(alloc, ended, links),
+        None => Ok(None),
+    }
+}
+
+/// Links over these two outsides.
+fn two_links(alloc: Global, near: &str, far: &str) -> Result<Option<Vec<MemoryLink>>, AllocError> {
+    let mut links = Vec::new(alloc);
+    for outside in [near, far] {
+        match read_link(alloc, outside)? {
+            Some(link) => links.push(link)?,
+            None => return Ok(None),
+        }
+    }
+    Ok(Some(links))
+}
+
+/// The answer of a listener over two connections, each as a word tells it.
+fn listened_to_two<I: Framing, R: Wait>(
     rt: &R,
     alloc: Global,
     spawner: &str,
@@ -146,84 +209,66 @@ fn listened<I: Framing, R: Wait>(
     let [near, far] = words else {
         return Ok(None);
     };
-    let (Some(near), Some(far)) = (read_peer(alloc, near)?, read_peer(alloc, far)?) else {
+    let Some((near_port, near)) = port_and_outside(near) else {
         return Ok(None);
     };
-    let (near_port, mut near) = near;
-    let (far_port, mut far) = far;
-    let answer = {
-        let mut links = Vec::new(alloc);
-        links.push((&mut near, address(near_port)))?;
-        links.push((&mut far, address(far_port)))?;
-        ended::<I, R, _>(rt, alloc, spawner, MemoryAcceptor::new(links), looks)
-    };
-    let Some(answer) = answer else {
+    let Some((far_port, far)) = port_and_outside(far) else {
         return Ok(None);
     };
-    Ok(Some(told(alloc, &answer, near.sink().bytes(), far.sink().bytes())?))
-}
-
-/// A new link over the outside that the words tell.
-fn link_of(alloc: Global, words: &[&str]) -> Result<Option<MemoryLink>, AllocError> {
-    match read_outside(alloc, words)? {
-        Some(outside) => Ok(Some(outside.into_link())),
+    match two_links(alloc, near, far)? {
+        Some(mut links) => listened::<I, R>(
+            rt,
+            alloc,
+            spawner,
+            links.as_mut_slice(),
+            &[near_port, far_port],
+            looks,
+        ),
         None => Ok(None),
     }
 }
 
-/// Appends what a connection was sent.
-fn push_sent(alloc: Global, text: &mut String, link: &MemoryLink) -> Result<(), AllocError> {
-    text.push_str(" ")?;
-    text.push_str(hex(alloc, link.sink().bytes())?.as_str())
+/// Eight links, each with an outside of its own that these words tell.
+fn eight_links(alloc: Global, words: &[&str]) -> Result<Option<Vec<MemoryLink>>, AllocError> {
+    let mut links = Vec::new(alloc);
+    for _ in 0..8 {
+        match link_of(alloc, words)? {
+            Some(link) => links.push(link)?,
+            None => return Ok(None),
+        }
+    }
+    Ok(Some(links))
 }
 
-/// The answer of a listener over eight connections, each with an outside of its own that these words tell, and what each of them was sent.
+/// The answer of a listener over eight connections, each with an outside of its own that these words tell.
 fn listened_to_eight<I: Framing, R: Wait>(
     rt: &R,
     alloc: Global,
     words: &[&str],
 ) -> Result<Option<String>, AllocError> {
-    let (Some(mut a), Some(mut b), Some(mut c), Some(mut d)) = (
-        link_of(alloc, words)?,
-        link_of(alloc, words)?,
-        link_of(alloc, words)?,
-        link_of(alloc, words)?,
-    ) else {
+    match eight_links(alloc, words)? {
+        Some(mut links) => {
+            listened::<I, R>(rt, alloc, "inline", links.as_mut_slice(), &[TAKES; 8], None)
+        }
+        None => Ok(None),
+    }
+}
+
+/// A framing; a spawner; and the two connections.
+fn answer_of_two<R: Wait>(
+    rt: &R,
+    alloc: Global,
+    words: &[&str],
+    looks: Option<u64>,
+) -> Result<Option<String>, AllocError> {
+    let [framing, spawner, words @ ..] = words else {
         return Ok(None);
     };
-    let (Some(mut e), Some(mut f), Some(mut g), Some(mut h)) = (
-        link_of(alloc, words)?,
-        link_of(alloc, words)?,
-        link_of(alloc, words)?,
-        link_of(alloc, words)?,
-    ) else {
-        return Ok(None);
-    };
-    let answer = {
-        let mut links = Vec::with_capacity(alloc, 8)?;
-        links.push((&mut a, address(TAKES)))?;
-        links.push((&mut b, address(TAKES)))?;
-        links.push((&mut c, address(TAKES)))?;
-        links.push((&mut d, address(TAKES)))?;
-        links.push((&mut e, address(TAKES)))?;
-        links.push((&mut f, address(TAKES)))?;
-        links.push((&mut g, address(TAKES)))?;
-        links.push((&mut h, address(TAKES)))?;
-        ended::<I, R, _>(rt, alloc, "inline", MemoryAcceptor::new(links), None)
-    };
-    let Some(answer) = answer else {
-        return Ok(None);
-    };
-    let mut text = format!(in alloc; "{answer:?}")?;
-    push_sent(alloc, &mut text, &a)?;
-    push_sent(alloc, &mut text, &b)?;
-    push_sent(alloc, &mut text, &c)?;
-    push_sent(alloc, &mut text, &d)?;
-    push_sent(alloc, &mut text, &e)?;
-    push_sent(alloc, &mut text, &f)?;
-    push_sent(alloc, &mut text, &g)?;
-    push_sent(alloc, &mut text, &h)?;
-    Ok(Some(text))
+    match *framing {
+        "rtu" => listened_to_two::<Inbox, R>(rt, alloc, spawner, words, looks),
+        "tcp" => listened_to_two::<AduBuffer, R>(rt, alloc, spawner, words, looks),
+        _ => Ok(None),
+    }
 }
 
 /// `listen`, or `listen_until` and how often the signal is looked at before it is set; a framing; a spawner; and the connections. Or
@@ -234,18 +279,18 @@ pub fn answer<R: Wait>(
     call: &str,
     words: &[&str],
 ) -> Result<Option<String>, AllocError> {
-    let (looks, words) = match (call, words) {
-        ("listen", words) => (None, words),
-        ("listen_until", [looks, words @ ..]) => match number(looks) {
-            Some(looks) => (Some(u64::from(looks)), words),
-            None => return Ok(None),
-        },
-        ("listen_to_eight", words) => return listened_to_eight::<Inbox, R>(rt, alloc, words),
-        _ => return Ok(None),
-    };
-    match words {
-        ["rtu", spawner, words @ ..] => listened::<Inbox, R>(rt, alloc, spawner, words, looks),
-        ["tcp", spawner, words @ ..] => listened::<AduBuffer, R>(rt, alloc, spawner, words, looks),
+    match call {
+        "listen" => answer_of_two(rt, alloc, words, None),
+        "listen_until" => {
+            let [looks, words @ ..] = words else {
+                return Ok(None);
+            };
+            match number(looks) {
+                Some(looks) => answer_of_two(rt, alloc, words, Some(u64::from(looks))),
+                None => Ok(None),
+            }
+        }
+        "listen_to_eight" => listened_to_eight::<Inbox, R>(rt, alloc, words),
         _ => Ok(None),
     }
 }

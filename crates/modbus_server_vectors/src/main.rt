@@ -20,10 +20,11 @@ impl<'r, R: Wait> Calls for ServerCalls<'r, R> {
         call: &str,
         words: &[&str],
     ) -> Result<Option<String>, AllocError> {
-        if let Some(found) = servers::answer(alloc, call, words)? {
-            return Ok(Some(found));
+        if call.starts_with("listen") {
+            listeners::answer(self.0, alloc, call, words)
+        } else {
+            servers::answer(alloc, call, words)
         }
-        listeners::answer(self.0, alloc, call, words)
     }
 }
 

@@ -1,12 +1,17 @@
 //! Servers over memory, with a service that answers every request with the same registers.
+//!
+//! A function that calls much is lent what it works on: the check of one that owns it takes far longer.
 
 use modbus_burst::BurstLink;
-use modbus_link::{Both, MemoryStop, Polled, PolledMemoryLink, TimedMemoryLink};
+use modbus_link::{
+    Both, MemoryLink, MemorySink, MemorySource, MemoryStop, Polled, PolledMemoryLink,
+    TimedMemoryLink,
+};
 use modbus_rtu::Inbox;
 use modbus_server::tcp::AduBuffer;
 use modbus_server::{
-    Connection, ConnectionWorker, Forward, Framing, PolledProcess, ProcessError, rtu, rtu_over_tcp,
-    tcp,
+    Connection, ConnectionWorker, Forward, Framing, PolledProcess, ProcessError, Step, rtu,
+    rtu_over_tcp, tcp,
 };
 use modbus_service::OnlyUnit;
 use modbus_standard::StandardAnswers;
@@ -14,19 +19,34 @@ use modbus_table::SameWords;
 use modbus_table::outside::{Outside, read_outside};
 use modbus_table::text::{hex, number};
 use std::alloc::{AllocError, Global};
-use std::fmt::Debug;
+use std::fmt::{Debug, Write};
 
-/// The answer of a server, its output, how many bytes the source gave, and how often the service was asked.
+/// Appends the answer of a server, its output, how many bytes the source gave, and how often the service was asked.
+fn push_told<T: Debug>(
+    text: &mut String,
+    alloc: Global,
+    ended: &T,
+    source: &MemorySource,
+    sink: &MemorySink,
+    service: &SameWords,
+) -> Result<(), AllocError> {
+    write!(text, "{ended:?} ")?;
+    text.push_str(hex(alloc, sink.bytes())?.as_str())?;
+    let given = source.given();
+    let calls = service.calls;
+    write!(text, " read {given} asked {calls}")
+}
+
 fn told<T: Debug>(
     alloc: Global,
     ended: &T,
-    output: &[u8],
-    given: usize,
+    source: &MemorySource,
+    sink: &MemorySink,
     service: &SameWords,
 ) -> Result<Option<String>, AllocError> {
-    let output = hex(alloc, output)?;
-    let calls = service.calls;
-    Ok(Some(format!(in alloc; "{ended:?} {output} read {given} asked {calls}")?))
+    let mut text = String::new(alloc);
+    push_told(&mut text, alloc, ended, source, sink, service)?;
+    Ok(Some(text))
 }
 
 fn served(
@@ -34,47 +54,17 @@ fn served(
     framing: &str,
     service: &mut SameWords,
     turns: u64,
-    outside: Outside,
+    outside: &mut Outside,
 ) -> Result<Option<String>, AllocError> {
-    let mut source = outside.source;
-    let mut sink = outside.sink;
+    let source = &mut outside.source;
+    let sink = &mut outside.sink;
     let ended = match framing {
-        "rtu" => rtu_over_tcp::process(alloc, &mut source, &mut sink, service, turns),
-        "tcp" => tcp::process(alloc, &mut source, &mut sink, service, turns),
-        "ascii" => modbus_ascii::ascii::process(alloc, &mut source, &mut sink, service, turns),
+        "rtu" => rtu_over_tcp::process(alloc, source, sink, service, turns),
+        "tcp" => tcp::process(alloc, source, sink, service, turns),
+        "ascii" => modbus_ascii::ascii::process(alloc, source, sink, service, turns),
         _ => return Ok(None),
     };
-    told(alloc, &ended, sink.bytes(), source.given(), service)
-}
-
-/// Slave 1 on a line that it shares with others.
-fn served_among_others(
-    alloc: Global,
-    service: &mut SameWords,
-    turns: u64,
-    outside: Outside,
-) -> Result<Option<String>, AllocError> {
-    let mut silences = Vec::new(alloc);
-    for total in outside.pending.as_slice() {
-        silences.push(usize::try_from(*total).unwrap_or(usize::MAX))?;
-    }
-    let link = TimedMemoryLink::new(alloc, outside.into_link(), silences.as_slice())?;
-    let mut link = BurstLink::new(link);
-    let mut device = OnlyUnit {
-        unit: 1,
-        service: StandardAnswers {
-            service: Forward(&mut *service),
-        },
-    };
-    let ended = modbus_burst::process_link(alloc, &mut link, &mut device, turns);
-    let link = link.link().link();
-    told(
-        alloc,
-        &ended,
-        link.sink().bytes(),
-        link.source().given(),
-        service,
-    )
+    told(alloc, &ended, source, sink, service)
 }
 
 /// A source and a sink that are lent as one object, and a service that is lent.
@@ -83,38 +73,55 @@ fn served_by_lent(
     framing: &str,
     service: &mut SameWords,
     turns: u64,
-    outside: Outside,
+    outside: &mut Outside,
 ) -> Result<Option<String>, AllocError> {
-    let mut source = outside.source;
-    let mut sink = outside.sink;
-    let link = &mut Both::new(&mut source, &mut sink);
+    let source = &mut outside.source;
+    let sink = &mut outside.sink;
+    let link = &mut Both::new(&mut *source, &mut *sink);
     let ended = match framing {
         "rtu" => rtu_over_tcp::process_link(alloc, link, &mut Forward(&mut *service), turns),
         "tcp" => tcp::process_link(alloc, link, &mut Forward(&mut *service), turns),
         _ => return Ok(None),
     };
-    told(alloc, &ended, sink.bytes(), source.given(), service)
+    told(alloc, &ended, source, sink, service)
 }
 
-/// What the steps of a connection answer: at 1 it may read, and at 0 it may not.
-fn stepped<I: Framing>(
+/// Appends what the steps of a connection answer: at 1 it may read, and at 0 it may not.
+fn take_steps<I: Framing>(
     alloc: Global,
+    connection: &mut Connection<I>,
     service: &mut SameWords,
     reads: &str,
-    outside: Outside,
-) -> Result<Option<String>, AllocError> {
-    let mut source = outside.source;
-    let mut sink = outside.sink;
-    let mut connection = Connection::<I>::open(alloc)?;
-    let mut steps = Vec::new(alloc);
+    outside: &mut Outside,
+    steps: &mut Vec<Result<Step, ProcessError>>,
+) -> Result<(), AllocError> {
+    let source = &mut outside.source;
+    let sink = &mut outside.sink;
     for may_read in reads.as_bytes() {
         if !connection.is_open() || !connection.to_write().is_empty() {
             break;
         }
-        let may_read = *may_read == b'1';
-        steps.push(connection.step(alloc, &mut source, &mut sink, service, may_read))?;
+        steps.push(connection.step(alloc, source, sink, service, *may_read == b'1'))?;
     }
-    told(alloc, &steps, sink.bytes(), source.given(), service)
+    Ok(())
+}
+
+fn stepped<I: Framing>(
+    alloc: Global,
+    service: &mut SameWords,
+    reads: &str,
+    outside: &mut Outside,
+) -> Result<Option<String>, AllocError> {
+    let mut steps = Vec::new(alloc);
+    take_steps(
+        alloc,
+        &mut Connection::<I>::open(alloc)?,
+        service,
+        reads,
+        outside,
+        &mut steps,
+    )?;
+    told(alloc, &steps, &outside.source, &outside.sink, service)
 }
 
 /// How many of the next polls are pending, and the answer of the first that is not, among a hundred.
@@ -141,30 +148,15 @@ fn served_by_polls(
     framing: &str,
     service: &mut SameWords,
     turns: u64,
-    outside: Outside,
+    link: &mut PolledMemoryLink,
 ) -> Result<Option<String>, AllocError> {
-    let mut link = outside.into_polled_link(alloc)?;
     let ended = match framing {
-        "rtu" => polled(
-            &mut rtu::PolledProcess::open(alloc, turns)?,
-            &mut link,
-            service,
-        ),
-        "tcp" => polled(
-            &mut tcp::PolledProcess::open(alloc, turns)?,
-            &mut link,
-            service,
-        ),
+        "rtu" => polled(&mut rtu::PolledProcess::open(alloc, turns)?, link, service),
+        "tcp" => polled(&mut tcp::PolledProcess::open(alloc, turns)?, link, service),
         _ => return Ok(None),
     };
     let link = link.link();
-    told(
-        alloc,
-        &ended,
-        link.sink().bytes(),
-        link.source().given(),
-        service,
-    )
+    told(alloc, &ended, link.source(), link.sink(), service)
 }
 
 /// An RTU server that a signal stops after so many looks.
@@ -172,43 +164,146 @@ fn served_until(
     alloc: Global,
     service: &mut SameWords,
     looks: u64,
-    outside: Outside,
+    link: &mut MemoryLink,
 ) -> Result<Option<String>, AllocError> {
-    let mut server = rtu::Server::new(outside.into_link());
-    let ended = server.serve_until(alloc, service, &mut MemoryStop::new(looks));
-    let link = server.into_link();
-    told(
+    let ended = rtu::Server::new(&mut *link).serve_until(
         alloc,
-        &ended,
-        link.sink().bytes(),
-        link.source().given(),
         service,
-    )
+        &mut MemoryStop::new(looks),
+    );
+    told(alloc, &ended, link.source(), link.sink(), service)
 }
+
+/// Tells nobody of the error of a connection.
+fn ignore(_error: ProcessError) {}
 
 /// One connection as work, which a signal stops after so many looks.
 fn worked<I: Framing>(
     alloc: Global,
     service: &mut SameWords,
     looks: u64,
-    outside: Outside,
+    link: &mut MemoryLink,
 ) -> Result<Option<String>, AllocError> {
-    let mut link = outside.into_link();
     let ended = ConnectionWorker::<I, _, _, _, _>::new(
         alloc,
-        &mut link,
-        Forward(service),
-        |_error: ProcessError| {},
+        &mut *link,
+        Forward(&mut *service),
+        ignore,
         MemoryStop::new(looks),
     )
     .work();
-    told(
+    told(alloc, &ended, link.source(), link.sink(), service)
+}
+
+/// As many bytes as each of these numbers, at most as many as there may be.
+fn sizes(alloc: Global, numbers: &[u64]) -> Result<Vec<usize>, AllocError> {
+    let mut sizes = Vec::new(alloc);
+    for number in numbers {
+        sizes.push(usize::try_from(*number).unwrap_or(usize::MAX))?;
+    }
+    Ok(sizes)
+}
+
+/// A line that is silent behind as many bytes as the words `p8` of the outside tell.
+fn burst_link(alloc: Global, outside: Outside) -> Result<BurstLink<TimedMemoryLink>, AllocError> {
+    let silences = sizes(alloc, outside.pending.as_slice())?;
+    let link = TimedMemoryLink::new(alloc, outside.into_link(), silences.as_slice())?;
+    Ok(BurstLink::new(link))
+}
+
+/// Slave 1 on a line that it shares with others.
+fn served_among_others(
+    alloc: Global,
+    service: &mut SameWords,
+    turns: u64,
+    link: &mut BurstLink<TimedMemoryLink>,
+) -> Result<Option<String>, AllocError> {
+    let ended = modbus_burst::process_link(
         alloc,
-        &ended,
-        link.sink().bytes(),
-        link.source().given(),
-        service,
-    )
+        link,
+        &mut OnlyUnit {
+            unit: 1,
+            service: StandardAnswers {
+                service: Forward(&mut *service),
+            },
+        },
+        turns,
+    );
+    let link = link.link().link();
+    told(alloc, &ended, link.source(), link.sink(), service)
+}
+
+/// The answer of the steps of a connection.
+fn answer_by_steps(
+    alloc: Global,
+    framing: &str,
+    service: &mut SameWords,
+    reads: &str,
+    outside: &mut Outside,
+) -> Result<Option<String>, AllocError> {
+    match framing {
+        "rtu" => stepped::<Inbox>(alloc, service, reads, outside),
+        "tcp" => stepped::<AduBuffer>(alloc, service, reads, outside),
+        _ => Ok(None),
+    }
+}
+
+/// The answer of a server over a source and a sink.
+fn answer_over_ends(
+    alloc: Global,
+    call: &str,
+    framing: &str,
+    service: &mut SameWords,
+    turns: u64,
+    outside: &mut Outside,
+) -> Result<Option<String>, AllocError> {
+    match call {
+        "serve" => served(alloc, framing, service, turns, outside),
+        "serve_lent" => served_by_lent(alloc, framing, service, turns, outside),
+        _ => Ok(None),
+    }
+}
+
+/// The answer of a server over a link, which a signal stops after so many looks.
+fn answer_over_link(
+    alloc: Global,
+    call: &str,
+    framing: &str,
+    service: &mut SameWords,
+    looks: u64,
+    link: &mut MemoryLink,
+) -> Result<Option<String>, AllocError> {
+    match (call, framing) {
+        ("serve_until", "rtu") => served_until(alloc, service, looks, link),
+        ("work", "rtu") => worked::<Inbox>(alloc, service, looks, link),
+        ("work", "tcp") => worked::<AduBuffer>(alloc, service, looks, link),
+        _ => Ok(None),
+    }
+}
+
+/// The answer of a server over this outside.
+fn answer_over(
+    alloc: Global,
+    call: &str,
+    framing: &str,
+    service: &mut SameWords,
+    turns: u64,
+    mut outside: Outside,
+) -> Result<Option<String>, AllocError> {
+    match call {
+        "serve" if framing == "burst" => {
+            served_among_others(alloc, service, turns, &mut burst_link(alloc, outside)?)
+        }
+        "polled_serve" => {
+            let mut link = outside.into_polled_link(alloc)?;
+            served_by_polls(alloc, framing, service, turns, &mut link)
+        }
+        "serve_until" | "work" => {
+            let mut link = outside.into_link();
+            answer_over_link(alloc, call, framing, service, turns, &mut link)
+        }
+        _ => answer_over_ends(alloc, call, framing, service, turns, &mut outside),
+    }
 }
 
 /// `serve`, `serve_lent`, `polled_serve`, `serve_until` or `work`; a framing; how many registers the service answers; how many reads may
@@ -221,29 +316,21 @@ pub fn answer(alloc: Global, call: &str, words: &[&str]) -> Result<Option<String
     let Some(count) = number(count) else {
         return Ok(None);
     };
-    let Some(outside) = read_outside(alloc, words)? else {
-        return Ok(None);
-    };
     let mut service = SameWords::new(count);
-    match (call, *framing) {
-        ("step", "rtu") => return stepped::<Inbox>(alloc, &mut service, turns, outside),
-        ("step", "tcp") => return stepped::<AduBuffer>(alloc, &mut service, turns, outside),
-        _ => {}
+    if call == "step" {
+        return match read_outside(alloc, words)? {
+            Some(mut outside) => {
+                answer_by_steps(alloc, framing, &mut service, turns, &mut outside)
+            }
+            None => Ok(None),
+        };
     }
     let Some(turns) = number(turns) else {
         return Ok(None);
     };
     let turns = u64::from(turns);
-    match call {
-        "serve" if *framing == "burst" => {
-            served_among_others(alloc, &mut service, turns, outside)
-        }
-        "serve" => served(alloc, framing, &mut service, turns, outside),
-        "serve_lent" => served_by_lent(alloc, framing, &mut service, turns, outside),
-        "polled_serve" => served_by_polls(alloc, framing, &mut service, turns, outside),
-        "serve_until" if *framing == "rtu" => served_until(alloc, &mut service, turns, outside),
-        "work" if *framing == "rtu" => worked::<Inbox>(alloc, &mut service, turns, outside),
-        "work" if *framing == "tcp" => worked::<AduBuffer>(alloc, &mut service, turns, outside),
-        _ => Ok(None),
+    match read_outside(alloc, words)? {
+        Some(outside) => answer_over(alloc, call, framing, &mut service, turns, outside),
+        None => Ok(None),
     }
 }

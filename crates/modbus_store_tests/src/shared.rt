@@ -1,11 +1,13 @@
 //! Eight passes that call a shared store at one time, each on a thread: what each is answered, and where its calls stand in the history.
+ghost use Rattle.modbus_store.specs.Passes.{IsPassOf};
 
-use modbus_frame::{Request, Response, SlaveRequest, Words};
+use modbus_frame::{Request, Response, SlaveRequest};
 use modbus_service::Service;
 use modbus_store::{
     ClosedStore, Entry, History, Outcome, RegisterStore, SharedStore, Sizes, StorePass, StoreTable,
 };
-use std::alloc::{AllocError, Global};
+use std::alloc::Global;
+use std::process::Abort;
 use std::sync::Wait;
 use std::sync::atomic::{AtomicU32, Ordering};
 use std::test::Fail;
@@ -41,13 +43,15 @@ fn asked(register: u16, n: u16) -> Request<'static> {
     }
 }
 
-/// What it is answered, where no other pass writes that register.
-fn answered(alloc: Global, register: u16, n: u16) -> Result<Response, AllocError> {
-    if n % 2 == 0 {
-        Ok(Response::WriteSingleRegister(register, n / 2))
-    } else {
-        let word = Vec::from_slice(alloc, &[n / 2])?;
-        Ok(Response::ReadHoldingRegisters(Words::new(word)))
+/// Whether that is what it is answered, where no other pass writes that register.
+fn is_answer(response: &Response, register: u16, n: u16) -> bool {
+    match response {
+        Response::WriteSingleRegister(address, word) => {
+            n % 2 == 0 && *address == register && *word == n / 2
+        }
+        Response::ReadHoldingRegisters(words) => n % 2 == 1
+            && words.as_slice() == [n / 2].as_slice(),
+        _ => false,
     }
 }
 
@@ -77,54 +81,64 @@ fn is_answered<R: Wait>(
     register: u16,
     n: u16,
 ) -> bool {
-    let Ok(wanted) = answered(alloc, register, n) else {
-        return false;
-    };
     let request = SlaveRequest {
         slave: 1,
         request: asked(register, n),
     };
     match service.call(alloc, request) {
-        Ok(Some(response)) => response == wanted,
+        Ok(Some(response)) => is_answer(&response, register, n),
         _ => false,
     }
 }
 
-/// Makes all calls of a pass, and meets the others among them. The pass comes back where each was answered so.
+/// Makes all calls of a pass, and meets the others among them. Whether each was answered so.
+fn are_answered<R: Wait + Clock>(
+    rt: &R,
+    alloc: Global,
+    service: &mut SharedStore<'_, R>,
+    register: u16,
+    met: &AtomicU32,
+) -> bool {
+    for n in 0..CALLS {
+        if n == MEETING && !meet(rt, met) {
+            return false;
+        }
+        if !is_answered(alloc, service, register, n) {
+            return false;
+        }
+    }
+    true
+}
+
+/// Makes the calls of a job. The pass comes back where each was answered so.
 fn work<R: Wait + Clock>(rt: &R, alloc: Global, job: Job<'_, R>) -> Option<StorePass> {
     let Job {
         mut service,
         register,
         met,
     } = job;
-    for n in 0..CALLS {
-        if n == MEETING && !meet(rt, met) {
-            return None;
-        }
-        if !is_answered(alloc, &mut service, register, n) {
-            return None;
-        }
+    if !are_answered(rt, alloc, &mut service, register, met) {
+        return None;
     }
     Some(service.into_pass())
 }
 
 /// Whether an entry is the n-th call of this pass.
-fn is_call(alloc: Global, entry: &Entry, register: u16, n: u16) -> bool {
-    let Ok(response) = answered(alloc, register, n) else {
-        return false;
+fn is_call(entry: &Entry, register: u16, n: u16) -> bool {
+    let is_right = match &entry.outcome {
+        Outcome::Response(response) => is_answer(response, register, n),
+        _ => false,
     };
-    entry.slave == 1
-        && entry.request == asked(register, n)
-        && entry.outcome == Outcome::Response(response)
+    is_right && entry.slave == 1 && entry.request == asked(register, n)
 }
 
 /// How many calls of a pass stand in the history, which are its calls in their order; none where one is another.
-fn calls_in_order(alloc: Global, history: &History, number: u16) -> Option<u16> {
+fn calls_in_order(history: &History, number: u16) -> Option<u16> {
     let mut made = 0u16;
     for place in 0..history.len() {
         let entry = history.entry(place)?;
         if entry.seat == u32::from(number) {
-            if made >= CALLS || !is_call(alloc, entry, number, made) {
+            if made >= CALLS || !is_call(entry, number, made) {
                 return None;
             }
             made += 1;
@@ -154,22 +168,48 @@ fn work_at_once<R: Threads + Wait + Clock + Sync>(
     })
 }
 
+/// A job for a new pass.
+fn next_job<'t, R: Wait>(
+    rt: &'t R,
+    table: &'t StoreTable,
+    first: &mut StorePass,
+    met: &'t AtomicU32,
+) -> Option<Job<'t, R>>
+    requires { IsPassOf table.now first.old }
+    ensures { IsPassOf table.now first.new }
+{
+    let own = table.split(rt, first).ok()?;
+    Some(Job {
+        register: u16::try_from(own.number()).ok()?,
+        service: SharedStore::new(rt, table, own),
+        met,
+    })
+}
+
+/// A job for each pass.
+fn open_jobs<'t, R: Wait>(
+    rt: &'t R,
+    alloc: Global,
+    table: &'t StoreTable,
+    first: &mut StorePass,
+    met: &'t AtomicU32,
+) -> Option<Vec<Job<'t, R>>>
+    requires { IsPassOf table.now first.old }
+    ensures { IsPassOf table.now first.new }
+{
+    let mut jobs = Vec::new(alloc);
+    for _ in 0..PASSES {
+        jobs.push(next_job(rt, table, first, met)?).ok()?;
+    }
+    Some(jobs)
+}
+
 /// How many calls the pass has seen that has seen the most, and the history.
 fn calls_of_all<R: Threads + Wait + Clock + Sync>(rt: &R, alloc: Global) -> Option<(u64, History)> {
     let store = RegisterStore::new(alloc, SIZES, false).ok()?;
     let (table, mut first) = StoreTable::open(alloc, store).ok()?;
     let met = AtomicU32::new(0);
-    let mut jobs = Vec::new(alloc);
-    for _ in 0..PASSES {
-        let own = table.split(rt, &mut first).ok()?;
-        let job = Job {
-            register: u16::try_from(own.number()).ok()?,
-            service: SharedStore::new(rt, &table, own),
-            met: &met,
-        };
-        jobs.push(job).ok()?;
-    }
-    let seen = work_at_once(rt, alloc, jobs)?;
+    let seen = work_at_once(rt, alloc, open_jobs(rt, alloc, &table, &mut first, &met)?)?;
     let ClosedStore {
         store: _,
         history,
@@ -178,15 +218,20 @@ fn calls_of_all<R: Threads + Wait + Clock + Sync>(rt: &R, alloc: Global) -> Opti
     Some((seen, history?))
 }
 
+/// Fails where the history is not each call of each pass, in its order.
+fn check_history<R: Abort>(rt: &R, history: &History) {
+    assert_eq!(rt; history.len(), 400);
+    for number in 1..9 {
+        assert_eq!(rt; calls_in_order(history, number), Some(CALLS));
+    }
+}
+
 #[test]
 fn eight_passes_call_at_one_time(rt: HostRuntime) -> Result<(), Fail> {
-    let alloc = rt.alloc();
-    let Some((seen, history)) = calls_of_all(&rt, alloc) else {
+    let Some((seen, history)) = calls_of_all(&rt, rt.alloc()) else {
         panic!(rt; "each call was answered, and the threads met")
     };
-    assert_eq!(rt; (seen, history.len()), (400, 400));
-    for number in 1..9 {
-        assert_eq!(rt; calls_in_order(alloc, &history, number), Some(CALLS));
-    }
+    assert_eq!(rt; seen, 400);
+    check_history(&rt, &history);
     Ok(())
 }
