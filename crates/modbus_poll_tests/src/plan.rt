@@ -1,5 +1,8 @@
 //! Worked values and plans.
 
+ghost use Rattle.std.specs.Prelude.{◌≡◌, length};
+ghost use Rattle.modbus_poll.specs.Items.{width};
+
 use crate::check::check;
 use modbus_frame::Data;
 use modbus_poll::{Item, Kind, Order, PlanError, Read, Value, plan_reads, value_of};
@@ -7,7 +10,9 @@ use std::alloc::Global;
 use std::test::Fail;
 
 /// Whether the words of an item have this value.
-fn is_value(alloc: Global, kind: Kind, words: &[u16], wanted: Value) -> bool {
+fn is_value(alloc: Global, kind: Kind, words: &[u16], wanted: Value) -> bool
+    requires { length words.now ≡ width kind }
+{
     match value_of(alloc, kind, words) {
         Ok(value) => value == wanted,
         Err(_) => false,
