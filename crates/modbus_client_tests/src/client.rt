@@ -15,7 +15,13 @@ fn link(alloc: Global) -> Result<MemoryLink, AllocError> {
     Ok(MemoryLink::new(source, sink, false))
 }
 
+/// Whether an answer is this one.
+fn is<T: PartialEq + Drop>(found: T, wanted: T) -> bool {
+    found == wanted
+}
+
 /// Whether a call of any client for a holding register ends with this fault.
 fn ends_with<C: Client>(client: &mut C, fault: TransportError) -> bool {
-    client.call(Request::ReadHoldingRegisters(0, 1)) == Err(Error::Transport(fault))
+    let answer = client.call(Request::ReadHoldingRegisters(0, 1));
+    is(answer, Err(Error::Transport(fault)))
 }

@@ -25,16 +25,16 @@ fn link(alloc: Global, input: &[u8]) -> Result<PolledMemoryLink, AllocError> {
     PolledMemoryLink::new(alloc, MemoryLink::new(source, sink, false), &[1, 3])
 }
 
-/// The words of an answer that has some.
-fn words_of(told: &Option<Told>) -> Option<(usize, &[u16])> {
+/// Whether an answer is that of the device under a key, with this one register.
+fn is_register(told: &Option<Told>, key: usize, register: u16) -> bool {
     match told {
         Some(
             Told {
-                key,
+                key: found,
                 answer: Ok(Ok(Response::ReadHoldingRegisters(words))),
             },
-        ) => Some((*key, words.as_slice())),
-        _ => None,
+        ) => *found == key && words.as_slice() == [register].as_slice(),
+        _ => false,
     }
 }
 
@@ -56,6 +56,27 @@ fn devices<'a>(alloc: Global) -> Result<TwoDevices<'a>, AllocError> {
     Ok(fleet)
 }
 
+/// Whether the device under a key takes a link.
+fn connects(fleet: &mut TwoDevices<'_>, key: usize, link: PolledMemoryLink) -> bool {
+    fleet.connect(key, link).is_ok()
+}
+
+/// Whether this was found.
+fn is<T: PartialEq + Drop>(found: T, wanted: T) -> bool {
+    found == wanted
+}
+
+/// Whether nothing was found.
+fn is_none<T: Drop>(found: Option<T>) -> bool {
+    found.is_none()
+}
+
+/// Whether the device under a key can be asked for a register.
+fn can_ask(fleet: &mut TwoDevices<'_>, key: usize) -> bool {
+    let request = Request::ReadHoldingRegisters(5, 1);
+    is(fleet.ask(key, request, 100), Some(Ok(())))
+}
+
 /// Whether the device under a key is connected by a link that gives these bytes, and asked.
 fn is_asked(
     alloc: Global,
@@ -63,30 +84,33 @@ fn is_asked(
     key: usize,
     reply: &[u8],
 ) -> Result<bool, AllocError> {
-    if fleet.connect(key, link(alloc, reply)?).is_err() {
-        return Ok(false);
-    }
-    let request = Request::ReadHoldingRegisters(5, 1);
-    Ok(matches!(fleet.ask(key, request, 100), Some(Ok(()))))
+    let link = link(alloc, reply)?;
+    Ok(connects(fleet, key, link) && can_ask(fleet, key))
+}
+
+/// Whether nothing is told.
+fn is_quiet(fleet: &mut TwoDevices<'_>) -> bool {
+    is_none(fleet.next_answer())
 }
 
 /// Whether the next rounds tell nothing.
 fn tells_nothing(fleet: &mut TwoDevices<'_>, rounds: u32) -> bool {
     for _ in 0..rounds {
-        if fleet.wait(None).is_err() || fleet.next_answer().is_some() {
+        if fleet.wait(None).is_err() || !is_quiet(fleet) {
             return false;
         }
     }
     true
 }
 
+/// Whether it is told that the device under a key read this register.
+fn tells_register(fleet: &mut TwoDevices<'_>, key: usize, register: u16) -> bool {
+    is_register(&fleet.next_answer(), key, register)
+}
+
 /// Whether the next round tells that the device under a key read this register, and nothing more.
 fn tells(fleet: &mut TwoDevices<'_>, key: usize, register: u16) -> bool {
-    if fleet.wait(None).is_err() {
-        return false;
-    }
-    let told = fleet.next_answer();
-    words_of(&told) == Some((key, [register].as_slice())) && fleet.next_answer().is_none()
+    fleet.wait(None).is_ok() && tells_register(fleet, key, register) && is_quiet(fleet)
 }
 
 /// Whether the call of the device under a key is given up at this time and not before, once, and its link is dropped.

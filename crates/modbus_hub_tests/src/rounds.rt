@@ -1,5 +1,6 @@
 //! Two connections whose requests are interleaved, by a schedule that the test sets.
 
+use crate::check::check;
 use modbus_hub::{EventServer, Limits};
 use modbus_link::{MemoryLink, MemorySink, MemorySource, MemoryStop, Polled};
 use modbus_ready::{Ready, ScheduledAcceptor, ScheduledReadiness};
@@ -8,7 +9,10 @@ use modbus_server::tcp::AduBuffer;
 use modbus_store::{RegisterStore, Sizes, StoreError};
 use modbus_turn::InTurn;
 use std::alloc::{AllocError, Global};
+use std::process::Abort;
+use std::sync::Wait;
 use std::test::Fail;
+use std::time::Clock;
 
 /// A write of 1234 hexadecimal to the register at 5, and a read of the one at 6; 12 bytes each.
 const FIRST: [u8; 24] = [
@@ -48,16 +52,17 @@ fn device(alloc: Global) -> Result<RegisterStore, StoreError> {
     RegisterStore::new(alloc, sizes, false)
 }
 
-/// Each is served by one read a turn: the second before the first, then both again, and then to their ends.
-#[test]
-fn two_connections_take_turns(rt: HostRuntime) -> Result<(), Fail> {
-    let alloc = rt.alloc();
-    let mut first = link(alloc, &FIRST)?;
-    let mut second = link(alloc, &SECOND)?;
-    let mut service = InTurn::new(device(alloc)?);
+/// Serves both by one read a turn: the second before the first, then both again, and then to their ends.
+fn serve_both<R: Wait + Clock + Abort>(
+    rt: &R,
+    alloc: Global,
+    first: &mut MemoryLink,
+    second: &mut MemoryLink,
+    service: &mut InTurn<RegisterStore>,
+) -> Result<(), Fail> {
     let mut answers = Vec::new(alloc);
-    answers.push(Ok(Polled::Ready(&mut first)))?;
-    answers.push(Ok(Polled::Ready(&mut second)))?;
+    answers.push(Ok(Polled::Ready(first)))?;
+    answers.push(Ok(Polled::Ready(second)))?;
     let schedule = [
         Ready::Peer,
         Ready::Link(1),
@@ -75,11 +80,38 @@ fn two_connections_take_turns(rt: HostRuntime) -> Result<(), Fail> {
         ScheduledReadiness::new(alloc, &schedule)?,
         limits,
     );
-    let ended = server.serve_until(&rt, &mut service, None, &mut MemoryStop::new(5));
-    assert_eq!(rt; ended, Ok(Terminated::Aborted));
-    assert!(rt; server.is_empty());
-    drop(server);
-    assert!(rt; first.sink().bytes() == FIRST_REPLIES.as_slice());
-    assert!(rt; second.sink().bytes() == SECOND_REPLIES.as_slice());
+    let ended = server.serve_until(rt, service, None, &mut MemoryStop::new(5));
+    check(
+        rt,
+        (ended, server.is_empty()),
+        (Ok(Terminated::Aborted), true),
+    );
     Ok(())
+}
+
+/// Whether this was written to a link.
+fn has_got(link: &MemoryLink, bytes: &[u8]) -> bool {
+    link.sink().bytes() == bytes
+}
+
+/// Serves both, and compares what each has got.
+fn take_turns<R: Wait + Clock + Abort>(
+    rt: &R,
+    alloc: Global,
+    first: &mut MemoryLink,
+    second: &mut MemoryLink,
+) -> Result<(), Fail> {
+    serve_both(rt, alloc, first, second, &mut InTurn::new(device(alloc)?))?;
+    let replied = (
+        has_got(first, &FIRST_REPLIES),
+        has_got(second, &SECOND_REPLIES),
+    );
+    check(rt, replied, (true, true));
+    Ok(())
+}
+
+#[test]
+fn two_connections_take_turns(rt: HostRuntime) -> Result<(), Fail> {
+    let first = &mut link(rt.alloc(), &FIRST)?;
+    take_turns(&rt, rt.alloc(), first, &mut link(rt.alloc(), &SECOND)?)
 }

@@ -76,18 +76,25 @@ fn ask<C: Client>(client: &mut C, register: u16) -> Result<Response> {
     client.call(Request::ReadHoldingRegisters(register, 1))
 }
 
+/// Whether an answer is this one.
+fn is<T: PartialEq + Drop>(found: T, wanted: T) -> bool {
+    found == wanted
+}
+
 /// Whether the answer to a read of a register is this fault.
 pub fn faults<C: Client>(client: &mut C, register: u16, fault: TransportError) -> bool {
-    match ask(client, register) {
-        Err(Error::Transport(other)) => other == fault,
-        _ => false,
+    is(ask(client, register), Err(Error::Transport(fault)))
+}
+
+/// The register that an answer gives, where it gives one.
+fn first_of(answer: &Result<Response>) -> Option<u16> {
+    match answer {
+        Ok(Ok(Response::ReadHoldingRegisters(words))) => words.as_slice().first().copied(),
+        _ => None,
     }
 }
 
 /// What a read of a register gives, where it gives one.
 pub fn read<C: Client>(client: &mut C, register: u16) -> Option<u16> {
-    match ask(client, register) {
-        Ok(Ok(Response::ReadHoldingRegisters(words))) => words.as_slice().first().copied(),
-        _ => None,
-    }
+    first_of(&ask(client, register))
 }
