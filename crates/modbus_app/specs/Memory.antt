@@ -1,5 +1,5 @@
 -- Requests for which a store takes no memory.
-use Rattle.std.specs.Prelude.{◌≡◌, ℕ, List, Ok}
+use Rattle.std.specs.Prelude.{◌≡◌, Ok}
 use Rattle.modbus_pdu.specs.SlavePdu.{SlavePdu}
 use Rattle.modbus_frame.specs.Meaning.{Asked}
 use Rattle.modbus_frame.specs.Meaning.Asked.{WriteSingleCoil, WriteSingleRegister, MaskWriteRegister}

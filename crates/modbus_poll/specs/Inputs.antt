@@ -1,5 +1,4 @@
 -- Polls of input registers (Modbus Application Protocol V1.1b3, section 6.4).
-use Rattle.std.specs.Prelude.{ℕ}
 use Rattle.modbus_frame.specs.Meaning.{Asked, ReadInputRegisters}
 use Rattle.modbus_client.specs.Matches.{Answer}
 use Rattle.modbus_client.specs.Typed.{Asks, input_registers_read}

@@ -1,5 +1,4 @@
-use Rattle.std.proofs.Common.{[], ◌-◌, None, refl, subst, arith, length-drop, length, drop, take, sym, ap}
-use Rattle.std.proofs.lemmas.List.{take_all}
+use Rattle.std.proofs.Common.{[], ◌-◌, None, refl, subst, arith, length-drop, length, drop, take, ap}
 use Rattle.modbus_client.specs.Tcp.{EndsOfAnother}
 use Rattle.modbus_c.proofs.Dropping.{drops_none, drops_next, rest_of}
 use Rattle.modbus_c.proofs.seek.end_of_others.Goals as goal

@@ -1,4 +1,4 @@
-use Rattle.std.proofs.Common.{◌≡◌, ℕ, ◌≤◌, List, [], take, drop}
+use Rattle.std.proofs.Common.{◌≡◌, ◌≤◌, [], take, drop}
 use Rattle.modbus_ascii.specs.Decoder.{DecodesText}
 use Rattle.modbus_ascii.specs.Frames.{frames}
 use Rattle.modbus_ascii.specs.Text.{open_end}
