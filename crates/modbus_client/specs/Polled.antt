@@ -23,12 +23,6 @@ use Rattle.modbus_client.specs.Call.{CallState, CallStands, IsCallFor, IsSameCal
 use Rattle.modbus_client.specs.Sends.{WritesRequest}
 use Rattle.modbus_client.specs.Calls.{HasRoom, CallEndsAs, CallEndsRead, CameLast, call_spending, Turned, Exchanged}
 
--- nothing is unwritten where the link was ready all along, and else something is
-abbrev pub IsSentWhole : {E : Type 0} → List ℕ → Result (Polled (Unit {0})) E → Type 0
-IsSentWhole unwritten (Ok (Ready done)) = unwritten ≡ []
-IsSentWhole unwritten (Ok Pending) = unwritten ≢ []
-IsSentWhole unwritten (Err error) = unwritten ≢ []
-
 -- a read found the link not ready: it gave nothing, and the call has more memory at most
 pub record ReadsNothing (from to : Outside) (old new : CallState) : Type 0 where
   pub source : Advances from.input to.input

@@ -1,44 +1,19 @@
 //! The driver of a call over a link that may not be ready. A link that blocks is always ready, so the blocking calls stand on it.
-ghost use Rattle.std.specs.Prelude.{◌≡◌, ◌<◌, ◌≤◌, [], OnErr};
+ghost use Rattle.std.specs.Prelude.{◌≡◌, ◌<◌, ◌≤◌, []};
 ghost use Rattle.modbus_link.specs.declared.polled.Polled.TheVariants.{Pending};
 ghost use Rattle.modbus_link.specs.Outside.{outside, Rose};
-ghost use Rattle.modbus_link.specs.Passes.{Sends};
 ghost use Rattle.modbus_link.specs.Polled.{Waited};
 ghost use Rattle.modbus_frame.specs.Meaning.{meaning};
 ghost use Rattle.modbus_client.specs.Call.{holding, opened_with};
 ghost use Rattle.modbus_client.specs.Calls.{Sent, Exchanged, CountsDropped};
-ghost use Rattle.modbus_client.specs.Polled.{IsSentWhole, TurnsTo, CallPolled, OpensCallState};
+ghost use Rattle.modbus_client.specs.Polled.{TurnsTo, CallPolled, OpensCallState};
 
 use crate::call::{Call, ROOM};
 use crate::protocol::Protocol;
 use bytes::BytesMut;
 use modbus_frame::{EncodeError, Error, Request, Response, Result, TransportError};
-use modbus_link::{Failed, Polled, PolledLink, Sink, Source};
+use modbus_link::{Failed, Polled, PolledLink, Sink, Source, flush};
 use std::alloc::Global;
-
-/// Writes what was not written yet of the request, as far as the link is ready.
-fn flush<P: Protocol, L: PolledLink>(
-    call: &mut Call<P>,
-    link: &mut L,
-) -> std::result::Result<Polled<()>, Failed>
-    ensures source { L.input link.new ≡ L.input link.old }
-    ensures keeps { call.new ≡ record call.old { unwritten = call.new.unwritten } }
-    ensures sends { Sends (L.output link.old) (L.output link.new) call.old.unwritten
-        call.new.unwritten }
-    ensures all { IsSentWhole call.new.unwritten result }
-    ensures cause { OnErr result (Rose (L.output link.old).faults (L.output link.new).faults) }
-    ensures waited { Waited result (L.not_ready link.old) (L.not_ready link.new) }
-    ensures later { L.not_ready link.old ≤ L.not_ready link.new }
-    ensures line { L.line link.new ≡ L.line link.old }
-{
-    while !call.to_write().is_empty() {
-        match link.poll_write(call.to_write())? {
-            Polled::Pending => return Ok(Polled::Pending),
-            Polled::Ready(count) => call.wrote(count),
-        }
-    }
-    Ok(Polled::Ready(()))
-}
 
 /// Reads once, where the link is ready, and feeds what the read gave; `None` where the call waits for more.
 fn turn<P: Protocol, L: PolledLink>(
@@ -86,7 +61,9 @@ pub(crate) fn poll<P: Protocol, L: PolledLink>(
         (L.not_ready link.new) (holding call.old held.old) (holding call.new held.new) result }
     ensures line { L.line link.new ≡ L.line link.old }
 {
-    match flush(call, link) {
+    let (count, flushed) = flush(link, call.to_write());
+    call.wrote(count);
+    match flushed {
         Err(Failed) => {
             return Polled::Ready(Err(Error::Transport(TransportError::WriteFault)));
         }
@@ -140,8 +117,8 @@ pub(crate) fn send<P: Protocol, L: Source + Sink>(
         result }
     ensures line { L.line link.new ≡ L.line link.old }
 {
-    let mut call = open::<P>(alloc, header, request, 0, held)?;
-    match flush(&mut call, link) {
+    let call = open::<P>(alloc, header, request, 0, held)?;
+    match flush(link, call.to_write()).1 {
         Ok(Polled::Ready(())) => Ok(()),
         Ok(Polled::Pending) => unreachable!(),
         Err(Failed) => Err(Error::Transport(TransportError::WriteFault)),

@@ -1,5 +1,5 @@
 -- What a link that may not be ready means, and what one in memory keeps.
-use Rattle.std.specs.Prelude.{◌≡◌, ◌↔◌, ℕ, List, Option, Some, None, Result, Ok, Err, Bool, true, false, IsTrue, if◌then◌else◌}
+use Rattle.std.specs.Prelude.{◌≡◌, ◌≢◌, ◌↔◌, ℕ, List, [], Option, Some, None, Result, Ok, Err, Bool, true, false, IsTrue, if◌then◌else◌}
 use Rattle.modbus_link.specs.declared.polled.Polled.{Polled}
 use Rattle.modbus_link.specs.declared.polled.Polled.TheVariants.{Ready, Pending}
 use Rattle.modbus_link.specs.Outside.{Rose}
@@ -21,6 +21,12 @@ abbrev pub Waited : {T E : Type 0} → Result (Polled T) E → ℕ → ℕ → T
 Waited (Ok (Ready value)) before now = Unit {0}
 Waited (Ok Pending) before now = Rose before now
 Waited (Err error) before now = Unit {0}
+
+-- nothing is left of what was to be written where the link was ready all along, and else something is
+abbrev pub IsFlushed : {E : Type 0} → List ℕ → Result (Polled (Unit {0})) E → Type 0
+IsFlushed left (Ok (Ready done)) = left ≡ []
+IsFlushed left (Ok Pending) = left ≢ []
+IsFlushed left (Err error) = left ≢ []
 
 -- a polled link in memory
 pub record PolledLinkState : Type 0 where

@@ -36,4 +36,4 @@ pub use silence::{TerminalLink, TimedLink, TimedMemoryLink, TimedTcpLink};
 pub use spawner::{InlineSpawner, ScopeSpawner, Spawner, Worker};
 pub use stop::{FlagStop, MemoryStop, Stop};
 pub use tcp::{TcpAcceptor, TcpConnector, TcpLink};
-pub use write::write_all;
+pub use write::{flush, write_all};

@@ -1,8 +1,11 @@
-//! Writing a whole piece, in as many writes as the sink makes of it.
-ghost use Rattle.std.specs.Prelude.{◌≡◌, IsTrue, OnOk, OnErr};
+//! Writing a whole piece, in as many writes as the sink makes of it, or as far as a link is ready.
+ghost use Rattle.std.specs.Prelude.{◌≡◌, ◌≤◌, length, drop, IsTrue, OnOk, OnErr};
 ghost use Rattle.modbus_link.specs.Outside.{Rose, Extends, bytes_appended, IsFront};
+ghost use Rattle.modbus_link.specs.Passes.{Sends};
+ghost use Rattle.modbus_link.specs.Polled.{IsFlushed, Waited};
 
 use crate::outside::{Failed, Sink};
+use crate::polled::{Polled, PolledLink};
 
 /// Writes all of these bytes, in as many writes as it takes.
 ///
@@ -22,4 +25,31 @@ pub fn write_all<K: Sink>(sink: &mut K, bytes: &[u8]) -> Result<(), Failed>
         at += sink.write(&bytes[at..])?;
     }
     Ok(())
+}
+
+/// Writes a front of these bytes, as far as the link is ready. It answers how many bytes it wrote, and how the last write ended: the
+/// link is not ready only where bytes are left.
+///
+/// # Errors
+/// `Failed`, only where the link's count of write faults rose; then bytes are left.
+pub fn flush<L: PolledLink>(link: &mut L, bytes: &[u8]) -> (usize, Result<Polled<()>, Failed>)
+    ensures within { result.0 ≤ length bytes.now }
+    ensures sends { Sends (L.output link.old) (L.output link.new) bytes.now
+        (drop result.0 bytes.now) }
+    ensures all { IsFlushed (drop result.0 bytes.now) result.1 }
+    ensures cause { OnErr result.1 (Rose (L.output link.old).faults (L.output link.new).faults) }
+    ensures waited { Waited result.1 (L.not_ready link.old) (L.not_ready link.new) }
+    ensures later { L.not_ready link.old ≤ L.not_ready link.new }
+    ensures source { L.input link.new ≡ L.input link.old }
+    ensures line { L.line link.new ≡ L.line link.old }
+{
+    let mut written = 0;
+    while written < bytes.len() {
+        match link.poll_write(&bytes[written..]) {
+            Err(Failed) => return (written, Err(Failed)),
+            Ok(Polled::Pending) => return (written, Ok(Polled::Pending)),
+            Ok(Polled::Ready(count)) => written += count,
+        }
+    }
+    (written, Ok(Polled::Ready(())))
 }

@@ -11,10 +11,6 @@ use Rattle.modbus_server.specs.State.{State}
 use Rattle.modbus_server.specs.Transfer.{ReadsOnce, Fills}
 use Rattle.modbus_server.specs.Polled.{ReadsNothing}
 
-pub keeps_more : (old now new : State) (w : List ℕ) → now ≡ record old { waiting = now.waiting } → new ≡ record now { waiting = w } → new ≡ record old { waiting = new.waiting }
-keeps_more old now new w e f =
-    f ∙ ap (λ (s : State). record s { waiting = w }) e ∙ ap (λ v. record old { waiting = v }) (sym (ap (λ (s : State). s.waiting) f))
-
 module _ (F : Framing) (a b : Input) (old new : State) where
   pub reads_none : b ≡ a → new.is_open ≡ false → F.ReadsTakeMemory → ReadsOnce F a b old new (Err NoMemory)
   reads_none same closed takes = record {

@@ -29,12 +29,6 @@ pub record PolledProcessState : Type 0 where
 abbrev pub polled : State → ℕ → PolledProcessState
 polled connection left = record { connection = connection; left = left }
 
--- nothing waits where the link was ready all along, and something where it was not
-abbrev pub IsFlushed : {E : Type 0} → List ℕ → Result (Polled (Unit {0})) E → Type 0
-IsFlushed waiting (Ok (Ready done)) = waiting ≡ []
-IsFlushed waiting (Ok Pending) = waiting ≢ []
-IsFlushed waiting (Err error) = Unit {0}
-
 -- all that waited was written, or some of it
 abbrev pub PollWrites : State → State → Result (Polled Step) ProcessError → Type 0
 PollWrites old new (Ok (Ready step)) = WritesOnce old new (Ok step)

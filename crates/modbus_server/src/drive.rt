@@ -1,17 +1,17 @@
 //! The driver of a connection over a link that may not be ready. A link that blocks is always ready, so the blocking step stands on it.
-ghost use Rattle.std.specs.Prelude.{◌≡◌, ◌≤◌, [], IsTrue, OnErr, Err};
+ghost use Rattle.std.specs.Prelude.{◌≡◌, ◌≤◌, [], IsTrue, Err};
 ghost use Rattle.modbus_link.specs.Outside.{Rose};
 ghost use Rattle.modbus_link.specs.Passes.{Sends};
 ghost use Rattle.modbus_link.specs.Polled.{Waited};
 ghost use Rattle.modbus_server.specs.Next.{told_next, IsToldWell};
 ghost use Rattle.modbus_server.specs.Step.{Stepped};
-ghost use Rattle.modbus_server.specs.Polled.{IsFlushed, PollWrites, PollReads, PollSteps};
+ghost use Rattle.modbus_server.specs.Polled.{PollWrites, PollReads, PollSteps};
 ghost use Rattle.modbus_server.specs.Moment.{moment};
 
 use crate::connection::Connection;
 use crate::error::{Next, NextError, ProcessError, Step};
 use crate::framing::Framing;
-use modbus_link::{Both, Failed, Polled, PolledLink, Sink, Source};
+use modbus_link::{Both, Failed, Polled, PolledLink, Sink, Source, flush};
 use modbus_service::Answerer;
 use std::alloc::Global;
 
@@ -31,29 +31,6 @@ pub(crate) fn tell_next<I: Framing>(error: NextError<I::Fault>) -> ProcessError
     }
 }
 
-/// Writes what waits, as far as the link is ready.
-fn flush<I: Framing, L: PolledLink>(
-    connection: &mut Connection<I>,
-    link: &mut L,
-) -> Result<Polled<()>, Failed>
-    ensures source { L.input link.new ≡ L.input link.old }
-    ensures keeps { connection.new ≡ record connection.old { waiting = connection.new.waiting } }
-    ensures sends { Sends (L.output link.old) (L.output link.new) connection.old.waiting
-        connection.new.waiting }
-    ensures all { IsFlushed connection.new.waiting result }
-    ensures cause { OnErr result (Rose (L.output link.old).faults (L.output link.new).faults) }
-    ensures waited { Waited result (L.not_ready link.old) (L.not_ready link.new) }
-    ensures later { L.not_ready link.old ≤ L.not_ready link.new }
-{
-    while !connection.to_write().is_empty() {
-        match link.poll_write(connection.to_write())? {
-            Polled::Pending => return Ok(Polled::Pending),
-            Polled::Ready(count) => connection.wrote(count),
-        }
-    }
-    Ok(Polled::Ready(()))
-}
-
 /// Writes what waits of the last reply, as far as the link is ready.
 pub(crate) fn send<I: Framing, L: PolledLink>(
     connection: &mut Connection<I>,
@@ -68,7 +45,9 @@ pub(crate) fn send<I: Framing, L: PolledLink>(
     ensures waited { Waited result (L.not_ready link.old) (L.not_ready link.new) }
     ensures later { L.not_ready link.old ≤ L.not_ready link.new }
 {
-    match flush(connection, link) {
+    let (count, flushed) = flush(link, connection.to_write());
+    connection.wrote(count);
+    match flushed {
         Ok(Polled::Ready(())) => Ok(Polled::Ready(Step::Answered)),
         Ok(Polled::Pending) => Ok(Polled::Pending),
         Err(Failed) => {
