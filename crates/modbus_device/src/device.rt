@@ -1,6 +1,6 @@
 //! The units of the device.
 
-use crate::{FAILED, USAGE};
+use modbus_command::{FAILED, USAGE};
 use modbus_diagnostics::Port;
 use modbus_frame::{ExceptionCode, SlaveId};
 use modbus_identity::{Identified, Identity, IdentityError};

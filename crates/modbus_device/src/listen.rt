@@ -21,6 +21,41 @@ const READS: u64 = 16;
 /// How many seconds a connection may stay that has no turn.
 const IDLE: u64 = 600;
 
+/// A server over the network of the machine.
+type NetServer = EventServer<StreamBuffer, PolledTcpAcceptor, MioReadiness>;
+
+/// A server of a listener; or what the system refuses.
+fn open_server<R: Net + AllocGlobal>(
+    rt: &R,
+    listener: TcpListener,
+) -> Result<NetServer, &'static str> {
+    let Ok(mut readiness) = MioReadiness::new(rt) else {
+        return Err("epoll fault");
+    };
+    let mut acceptor = PolledTcpAcceptor::new(listener);
+    if readiness.watch_acceptor(&mut acceptor).is_err() {
+        return Err("epoll fault");
+    }
+    let limits = Limits {
+        connections: CONNECTIONS,
+        reads: READS,
+    };
+    Ok(EventServer::new(rt.alloc(), acceptor, readiness, limits))
+}
+
+/// Serves until the system refuses something, and says what.
+fn run<R: Wait + Clock>(
+    rt: &R,
+    server: &mut NetServer,
+    device: &mut InTurn<Device>,
+    signal: &mut FlagStop,
+) -> &'static str {
+    match server.serve_until(rt, device, Some(Duration::from_secs(IDLE)), signal) {
+        Ok(_) => "stopped",
+        Err(_) => "epoll fault",
+    }
+}
+
 /// Serves the units to all who connect, until the system refuses something, and says what.
 pub fn serve<R: Net + AllocGlobal + Wait + Clock>(
     rt: &R,
@@ -30,27 +65,8 @@ pub fn serve<R: Net + AllocGlobal + Wait + Clock>(
     let Ok(mut signal) = FlagStop::new(rt.alloc()) else {
         return "no memory";
     };
-    let Ok(mut readiness) = MioReadiness::new(rt) else {
-        return "epoll fault";
-    };
-    let mut acceptor = PolledTcpAcceptor::new(listener);
-    if readiness.watch_acceptor(&mut acceptor).is_err() {
-        return "epoll fault";
-    }
-    let limits = Limits {
-        connections: CONNECTIONS,
-        reads: READS,
-    };
-    let mut server: EventServer<StreamBuffer, _, _> = EventServer::new(
-        rt.alloc(),
-        acceptor,
-        readiness,
-        limits,
-    );
-    let mut service = InTurn::new(device);
-    let idle = Some(Duration::from_secs(IDLE));
-    match server.serve_until(rt, &mut service, idle, &mut signal) {
-        Ok(_) => "stopped",
-        Err(_) => "epoll fault",
+    match open_server(rt, listener) {
+        Ok(mut server) => run(rt, &mut server, &mut InTurn::new(device), &mut signal),
+        Err(fault) => fault,
     }
 }

@@ -9,37 +9,18 @@ mod line;
 mod listen;
 mod words;
 
-use clap::error::{Error, ErrorKind};
+use clap::ArgMatches;
 use device::{Device, LineDevice, Plan, open};
 use mio::net::TcpListener;
+use modbus_command::{FAILED, say, words_of};
 use modbus_diagnostics::Port;
 use modbus_server::ProcessError;
 use std::net::SocketAddr;
 use std::process::ExitCode;
-use std::{env, io};
 use words::{Place, Task};
 
-/// The status where the device can't go on.
-pub const FAILED: u8 = 1;
-
-/// The status of words that can't be read.
-pub const USAGE: u8 = 2;
-
-/// Tells what clap has to say, and gives the status.
-fn say(rt: &HostRuntime, error: &Error) -> u8 {
-    if error.kind() == ErrorKind::OutOfMemory {
-        let _ = eprintln!(rt; "modbus_device: no memory");
-        return FAILED;
-    }
-    let is_said = error.print(rt).is_ok();
-    if error.use_stderr() {
-        USAGE
-    } else if is_said {
-        0
-    } else {
-        FAILED
-    }
-}
+/// What its messages begin with.
+const PROGRAM: &str = "modbus_device";
 
 /// The status of a line that ended so, which is told.
 fn ended(rt: &HostRuntime, end: Result<(), ProcessError>) -> u8 {
@@ -89,27 +70,27 @@ fn bind(rt: &HostRuntime, address: SocketAddr) -> Option<TcpListener> {
     Some(listener)
 }
 
-/// What the words ask for, and the units; or the status of words that ask for nothing, which is told.
-fn open_task(rt: &HostRuntime, words: &[String]) -> Result<(Task, Device), u8> {
-    let matches = match words::parse(rt.alloc(), words) {
-        Ok(matches) => matches,
-        Err(error) => return Err(say(rt, &error)),
-    };
-    let task = match words::task_of(rt.alloc(), &matches) {
-        Ok(task) => task,
+/// What the words ask for; or the status of words that ask for nothing, which is told.
+fn read_task(rt: &HostRuntime, matches: &ArgMatches<'_>) -> Result<Task, u8> {
+    match words::task_of(rt.alloc(), matches) {
+        Ok(task) => Ok(task),
         Err(wrong) => {
             let _ = eprintln!(rt; "modbus_device: {wrong}");
-            return Err(wrong.status());
+            Err(wrong.status())
         }
-    };
+    }
+}
+
+/// The units that the words ask for; or the status where there are none, which is told.
+fn open_units(rt: &HostRuntime, matches: &ArgMatches<'_>, task: &Task) -> Result<Device, u8> {
     let plan = Plan {
         units: task.units.as_slice(),
         entries: task.entries,
-        texts: words::texts_of(&matches),
+        texts: words::texts_of(matches),
         tells_absent: matches.get_flag("absent"),
     };
     match open(rt.alloc(), &plan) {
-        Ok(device) => Ok((task, device)),
+        Ok(device) => Ok(device),
         Err(error) => {
             let _ = eprintln!(rt; "modbus_device: {error}");
             Err(error.status())
@@ -117,21 +98,25 @@ fn open_task(rt: &HostRuntime, words: &[String]) -> Result<(Task, Device), u8> {
     }
 }
 
-fn words_of(rt: &HostRuntime) -> io::Result<Vec<String>> {
-    Ok(env::args(rt)?.collect(rt.alloc())?)
+/// What was asked for, and the units.
+fn open_matched(rt: &HostRuntime, matches: &ArgMatches<'_>) -> Result<(Task, Device), u8> {
+    let task = read_task(rt, matches)?;
+    let device = open_units(rt, matches, &task)?;
+    Ok((task, device))
+}
+
+/// What the words ask for, and the units; or the status, which is told.
+fn open_task(rt: &HostRuntime, words: &[String]) -> Result<(Task, Device), u8> {
+    match words::parse(rt.alloc(), words) {
+        Ok(matches) => open_matched(rt, &matches),
+        Err(error) => Err(say(rt, PROGRAM, &error)),
+    }
 }
 
 fn main(rt: HostRuntime) -> ExitCode {
-    let words = match words_of(&rt) {
+    let words = match words_of(&rt, PROGRAM) {
         Ok(words) => words,
-        Err(error) if error.kind() == io::ErrorKind::InvalidData => {
-            let _ = eprintln!(rt; "modbus_device: a word that is not in UTF-8");
-            return ExitCode::from(USAGE);
-        }
-        Err(_) => {
-            let _ = eprintln!(rt; "modbus_device: no memory");
-            return ExitCode::from(FAILED);
-        }
+        Err(status) => return ExitCode::from(status),
     };
     let (task, device) = match open_task(&rt, words.as_slice()) {
         Ok(opened) => opened,

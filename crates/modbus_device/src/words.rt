@@ -1,10 +1,10 @@
 //! The words of the command line.
 
 use crate::device::Texts;
-use crate::{FAILED, USAGE};
 use clap::{Arg, ArgAction, ArgMatches, Command, Error, value_parser};
+use modbus_command::{FAILED, USAGE};
 use modbus_frame::SlaveId;
-use std::alloc::{AllocFailed, Global};
+use std::alloc::{AllocError, AllocFailed, Global};
 use std::net::SocketAddr;
 
 /// Where the units are reached.
@@ -59,60 +59,72 @@ impl<T: Drop> From<AllocFailed<T>> for Wrong {
     }
 }
 
-/// Reads the words of the command line, the program's name first.
-///
-/// # Errors
-/// What clap has to say: the help that was asked for, or the word that can't be read.
-pub fn parse<'a>(alloc: Global, words: &'a [String]) -> Result<ArgMatches<'a>, Error> {
-    let units = Arg::new(alloc, "units")
+fn units<'a>(alloc: Global) -> Arg<'a> {
+    Arg::new(alloc, "units")
         .value_name("UNIT")
         .required(true)
         .num_args(1..)
-        .help("The address of a unit, 1 to 247, each once");
-    let entries = Arg::new(alloc, "entries")
+        .help("The address of a unit, 1 to 247, each once")
+}
+
+fn entries<'a>(alloc: Global) -> Arg<'a> {
+    Arg::new(alloc, "entries")
         .long("entries")
         .value_name("N")
         .value_parser(value_parser!(u32).range(1..=65_536))
         .default_value("1024")
-        .help("How many coils, discrete inputs, holding registers and input registers a unit has");
-    let listen = Arg::new(alloc, "listen")
+        .help("How many coils, discrete inputs, holding registers and input registers a unit has")
+}
+
+fn listen<'a>(alloc: Global) -> Arg<'a> {
+    Arg::new(alloc, "listen")
         .long("listen")
         .value_name("ADDRESS:PORT")
-        .help("Listen for Modbus TCP, in place of the line on the standard streams");
-    let line = Arg::new(alloc, "line")
+        .help("Listen for Modbus TCP, in place of the line on the standard streams")
+}
+
+fn line<'a>(alloc: Global) -> Arg<'a> {
+    Arg::new(alloc, "line")
         .long("line")
         .value_name("ADDRESS:PORT")
         .help(
             "Connect to what carries the bytes of a serial line, as socat or a device server does",
-        );
-    let silence = Arg::new(alloc, "silence")
-        .long("silence")
-        .value_name("MS")
-        .value_parser(value_parser!(u64).range(1..=60_000))
-        .default_value("5")
-        .requires_arg("line")?
-        .help("How many milliseconds without a byte end a frame of such a line");
-    let command = Command::new(alloc, "modbus_device")
-        .about("A Modbus device: units with four tables each, on a serial line or a port")
-        .arg(units)?
-        .arg(entries)?
-        .arg(listen)?
-        .arg(line)?
-        .arg(silence)?;
-    with_absent(alloc, with_identity(alloc, command)?)?.try_get_matches_from(words)
+        )
 }
 
-/// The words with which a unit that is not there is told.
-fn with_absent<'a>(alloc: Global, command: Command<'a>) -> Result<Command<'a>, Error> {
-    let absent = Arg::new(alloc, "absent")
-        .long("absent")
-        .action(ArgAction::SetTrue)
-        .requires_arg("listen")?
-        .help("Answer a request for a unit that is not there with the exception 0B");
-    Ok(command.arg(absent)?)
+fn silence<'a>(alloc: Global) -> Result<Arg<'a>, AllocError> {
+    Ok(
+        Arg::new(alloc, "silence")
+            .long("silence")
+            .value_name("MS")
+            .value_parser(value_parser!(u64).range(1..=60_000))
+            .default_value("5")
+            .help("How many milliseconds without a byte end a frame of such a line")
+            .requires_arg("line")?,
+    )
 }
 
-/// An argument that takes a text.
+fn server_id<'a>(alloc: Global) -> Arg<'a> {
+    Arg::new(alloc, "server-id")
+        .long("server-id")
+        .value_name("N")
+        .value_parser(value_parser!(u8))
+        .default_value("1")
+        .help("Its number in Report Server ID")
+}
+
+/// The word with which a unit that is not there is told.
+fn absent<'a>(alloc: Global) -> Result<Arg<'a>, AllocError> {
+    Ok(
+        Arg::new(alloc, "absent")
+            .long("absent")
+            .action(ArgAction::SetTrue)
+            .help("Answer a request for a unit that is not there with the exception 0B")
+            .requires_arg("listen")?,
+    )
+}
+
+/// A word of what the device says of itself, which takes a text.
 fn text<'a>(alloc: Global, name: &'a str, help: &'a str) -> Arg<'a> {
     Arg::new(alloc, name)
         .long(name)
@@ -120,33 +132,54 @@ fn text<'a>(alloc: Global, name: &'a str, help: &'a str) -> Arg<'a> {
         .help(help)
 }
 
-/// The words of what the device says of itself.
-fn with_identity<'a>(alloc: Global, command: Command<'a>) -> Result<Command<'a>, Error> {
-    let vendor = text(alloc, "vendor", "The name of its vendor, object 0");
-    let product = text(
+fn vendor<'a>(alloc: Global) -> Arg<'a> {
+    text(alloc, "vendor", "The name of its vendor, object 0").default_value("Mudrezzi")
+}
+
+fn product<'a>(alloc: Global) -> Arg<'a> {
+    text(
         alloc,
         "product",
         "Its product code, object 1, which Report Server ID tells too",
-    );
-    let revision = text(alloc, "revision", "Its revision, object 2");
-    let server_id = Arg::new(alloc, "server-id")
-        .long("server-id")
-        .value_name("N")
-        .value_parser(value_parser!(u8))
-        .default_value("1")
-        .help("Its number in Report Server ID");
-    let command = command
-        .arg(vendor.default_value("Mudrezzi"))?
-        .arg(product.default_value("modbus_device"))?
-        .arg(revision.default_value("1"))?
-        .arg(server_id)?;
-    Ok(
-        command
-            .arg(text(alloc, "vendor-url", "The address of its vendor, object 3"))?
-            .arg(text(alloc, "product-name", "The name of the product, object 4"))?
-            .arg(text(alloc, "model", "Its model, object 5"))?
-            .arg(text(alloc, "application", "What it is used for, object 6"))?,
     )
+    .default_value("modbus_device")
+}
+
+fn revision<'a>(alloc: Global) -> Arg<'a> {
+    text(alloc, "revision", "Its revision, object 2").default_value("1")
+}
+
+// Each word is a function of its own: a function that owns several is proved for minutes.
+fn with_identity<'a>(alloc: Global, command: Command<'a>) -> Result<Command<'a>, AllocError> {
+    command
+        .arg(vendor(alloc))?
+        .arg(product(alloc))?
+        .arg(revision(alloc))?
+        .arg(server_id(alloc))?
+        .arg(text(alloc, "vendor-url", "The address of its vendor, object 3"))?
+        .arg(text(alloc, "product-name", "The name of the product, object 4"))?
+        .arg(text(alloc, "model", "Its model, object 5"))?
+        .arg(text(alloc, "application", "What it is used for, object 6"))
+}
+
+fn command<'a>(alloc: Global) -> Result<Command<'a>, AllocError> {
+    Command::new(alloc, "modbus_device")
+        .about("A Modbus device: units with four tables each, on a serial line or a port")
+        .arg(units(alloc))?
+        .arg(entries(alloc))?
+        .arg(listen(alloc))?
+        .arg(line(alloc))?
+        .arg(silence(alloc)?)
+}
+
+/// Reads the words of the command line, the program's name first.
+///
+/// # Errors
+/// What clap has to say: the help that was asked for, or the word that can't be read.
+pub fn parse<'a>(alloc: Global, words: &'a [String]) -> Result<ArgMatches<'a>, Error> {
+    with_identity(alloc, command(alloc)?)?
+        .arg(absent(alloc)?)?
+        .try_get_matches_from(words)
 }
 
 /// The address that a word names.

@@ -5,7 +5,8 @@ use Rattle.std.proofs.lemmas.List.{drop_all}
 use denote.Ref.{Bor}
 use Rattle.json.specs.Token.{Token, key}
 use Rattle.modbus_poll.specs.declared.value.Value.{Value}
-use Rattle.modbus_poller.specs.Lines.{table_row, table_lines, json_value, json_members}
+use Rattle.modbus_command.specs.Json.{json_value}
+use Rattle.modbus_poller.specs.Lines.{table_row, table_lines, json_members}
 
 abbrev pub texts : List (Bor (List ℕ)) → List (List ℕ)
 texts names = map (λ (name : Bor (List ℕ)). name.now) names

@@ -1,14 +1,13 @@
 -- The lines of a poll.
-use Rattle.std.specs.Prelude.{ℕ, ◌-◌, List, [], ◌∷◌, ◌++◌, length, replicate, map, decimal}
-use Rattle.std.specs.Fmt.{signed_decimal}
+use Rattle.std.specs.Prelude.{ℕ, ◌-◌, List, [], ◌∷◌, ◌++◌, length, replicate, map}
 use Rattle.csv.specs.Writing.{default_writer, row_text}
-use Rattle.json.specs.Token.{Token, begin_object, end_object, key, number, string}
+use Rattle.json.specs.Token.{Token, begin_object, end_object, key}
 use Rattle.json.specs.Print.{print}
 use Rattle.modbus_poll.specs.declared.notation.Table.{Table}
 use Rattle.modbus_poll.specs.declared.notation.Table.TheVariants.{Holding, Input}
+use Rattle.modbus_command.specs.Json.{json_value}
 use Rattle.modbus_poll.specs.declared.value.Value.{Value}
-use Rattle.modbus_poll.specs.declared.value.Value.TheVariants.{Unsigned, Signed, Text}
-use Rattle.modbus_poll.specs.Text.{shown, shown_bytes, trimmed}
+use Rattle.modbus_poll.specs.Text.{shown}
 
 -- the values of items in the order of the items, from those of each table in its order
 abbrev pub in_order : List Table → List Value → List Value → List Value
@@ -37,12 +36,6 @@ csv_header names = row_text default_writer names
 
 abbrev pub csv_line : List Value → List ℕ
 csv_line values = row_text default_writer (map shown values)
-
--- a value of JSON: a number, or what is shown for a text as a string
-abbrev pub json_value : Value → Token
-json_value (Unsigned value) = number (decimal value)
-json_value (Signed value) = number (signed_decimal value)
-json_value (Text bytes) = string (shown_bytes (trimmed bytes))
 
 -- a member for each name and its value
 abbrev pub json_members : List (List ℕ) → List Value → List Token

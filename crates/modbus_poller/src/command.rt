@@ -36,50 +36,71 @@ fn timeout<'a>(alloc: Global) -> Arg<'a> {
         .help("How long a connection, a read or a write may take, in milliseconds")
 }
 
-fn poll_command<'a>(alloc: Global) -> Result<Command<'a>, AllocError> {
-    let every = Arg::new(alloc, "every")
+fn every<'a>(alloc: Global) -> Arg<'a> {
+    Arg::new(alloc, "every")
         .long("every")
         .value_name("MS")
         .value_parser(value_parser!(u64).range(1..=86_400_000))
-        .help("Poll again after so many milliseconds, and again");
-    let count = Arg::new(alloc, "count")
-        .long("count")
-        .value_name("N")
-        .value_parser(value_parser!(u64).range(1..=1_000_000_000_000))
-        .requires_arg("every")?
-        .help("End after so many polls");
-    let retries = Arg::new(alloc, "retries")
+        .help("Poll again after so many milliseconds, and again")
+}
+
+fn count<'a>(alloc: Global) -> Result<Arg<'a>, AllocError> {
+    Ok(
+        Arg::new(alloc, "count")
+            .long("count")
+            .value_name("N")
+            .value_parser(value_parser!(u64).range(1..=1_000_000_000_000))
+            .help("End after so many polls")
+            .requires_arg("every")?,
+    )
+}
+
+fn retries<'a>(alloc: Global) -> Arg<'a> {
+    Arg::new(alloc, "retries")
         .long("retries")
         .value_name("N")
         .value_parser(value_parser!(u32).range(0..=1000))
         .default_value("1")
-        .help("How often a read is sent again over a new connection");
-    let format = Arg::new(alloc, "format")
+        .help("How often a read is sent again over a new connection")
+}
+
+fn format<'a>(alloc: Global) -> Arg<'a> {
+    Arg::new(alloc, "format")
         .long("format")
         .value_name("FORMAT")
         .value_parser(FORMATS.as_slice())
         .default_value("table")
-        .help("How values are printed; csv and json have a line for each poll");
-    let plan = Arg::new(alloc, "plan")
+        .help("How values are printed; csv and json have a line for each poll")
+}
+
+fn plan<'a>(alloc: Global) -> Arg<'a> {
+    Arg::new(alloc, "plan")
         .long("plan")
         .action(ArgAction::SetTrue)
-        .help("Print the reads of a poll, and send nothing");
-    let items = Arg::new(alloc, "items")
+        .help("Print the reads of a poll, and send nothing")
+}
+
+fn items<'a>(alloc: Global) -> Arg<'a> {
+    Arg::new(alloc, "items")
         .value_name("ITEM")
         .required(true)
         .num_args(1..)
-        .help(ITEMS);
+        .help(ITEMS)
+}
+
+// Each word is a function of its own: a function that owns several is proved for minutes.
+fn poll_command<'a>(alloc: Global) -> Result<Command<'a>, AllocError> {
     Command::new(alloc, "poll")
         .about("Reads items, and prints their values")
         .arg(device(alloc))?
         .arg(unit(alloc))?
-        .arg(items)?
-        .arg(every)?
-        .arg(count)?
+        .arg(items(alloc))?
+        .arg(every(alloc))?
+        .arg(count(alloc)?)?
         .arg(timeout(alloc))?
-        .arg(retries)?
-        .arg(format)?
-        .arg(plan)
+        .arg(retries(alloc))?
+        .arg(format(alloc))?
+        .arg(plan(alloc))
 }
 
 fn first<'a>(alloc: Global) -> Arg<'a> {
@@ -90,39 +111,54 @@ fn first<'a>(alloc: Global) -> Arg<'a> {
         .help("The address of the first, 0 to 65535")
 }
 
-fn write_command<'a>(alloc: Global) -> Result<Command<'a>, AllocError> {
-    let values = Arg::new(alloc, "values")
+fn values<'a>(alloc: Global) -> Arg<'a> {
+    Arg::new(alloc, "values")
         .value_name("VALUE")
         .required(true)
         .num_args(1..)
         .value_parser(value_parser!(u16))
-        .help("What the registers are to hold, 0 to 65535 each; 1 to 123 of them");
+        .help("What the registers are to hold, 0 to 65535 each; 1 to 123 of them")
+}
+
+fn write_command<'a>(alloc: Global) -> Result<Command<'a>, AllocError> {
     Command::new(alloc, "write")
         .about("Writes holding registers, one after another")
         .arg(device(alloc))?
         .arg(unit(alloc))?
         .arg(first(alloc))?
-        .arg(values)?
+        .arg(values(alloc))?
         .arg(timeout(alloc))
 }
 
 /// The states of a coil.
 const STATES: [&str; 2] = ["0", "1"];
 
-fn write_coils_command<'a>(alloc: Global) -> Result<Command<'a>, AllocError> {
-    let states = Arg::new(alloc, "states")
+fn states<'a>(alloc: Global) -> Arg<'a> {
+    Arg::new(alloc, "states")
         .value_name("STATE")
         .required(true)
         .num_args(1..)
         .value_parser(STATES.as_slice())
-        .help("What the coils are to be, 0 for OFF and 1 for ON; 1 to 1968 of them");
+        .help("What the coils are to be, 0 for OFF and 1 for ON; 1 to 1968 of them")
+}
+
+fn write_coils_command<'a>(alloc: Global) -> Result<Command<'a>, AllocError> {
     Command::new(alloc, "write-coils")
         .about("Writes coils, one after another")
         .arg(device(alloc))?
         .arg(unit(alloc))?
         .arg(first(alloc))?
-        .arg(states)?
+        .arg(states(alloc))?
         .arg(timeout(alloc))
+}
+
+fn whole<'a>(alloc: Global) -> Result<Command<'a>, AllocError> {
+    Command::new(alloc, "modbus_poller")
+        .about("Reads and writes a Modbus TCP device")
+        .subcommand_required(true)
+        .subcommand(poll_command(alloc)?)?
+        .subcommand(write_command(alloc)?)?
+        .subcommand(write_coils_command(alloc)?)
 }
 
 /// Reads the words of the command line, the program's name first.
@@ -130,11 +166,5 @@ fn write_coils_command<'a>(alloc: Global) -> Result<Command<'a>, AllocError> {
 /// # Errors
 /// What clap has to say: the help that was asked for, or the word that cannot be read.
 pub fn parse<'a>(alloc: Global, words: &'a [String]) -> Result<ArgMatches<'a>, Error> {
-    Command::new(alloc, "modbus_poller")
-        .about("Reads and writes a Modbus TCP device")
-        .subcommand_required(true)
-        .subcommand(poll_command(alloc)?)?
-        .subcommand(write_command(alloc)?)?
-        .subcommand(write_coils_command(alloc)?)?
-        .try_get_matches_from(words)
+    whole(alloc)?.try_get_matches_from(words)
 }

@@ -4,10 +4,11 @@ ghost use Rattle.std.specs.Vec.Iter.{into_iter_items};
 ghost use Rattle.csv.specs.Records.{fields_of};
 ghost use Rattle.csv.specs.Writing.{default_writer, row_text};
 ghost use Rattle.modbus_poll.specs.declared.notation.Table.{Table};
-ghost use Rattle.modbus_poller.specs.Lines.{in_order, table_row, table_lines, csv_header, csv_line, json_value, json_line};
+ghost use Rattle.modbus_poller.specs.Lines.{in_order, table_row, table_lines, csv_header, csv_line, json_line};
 
 use csv::{ByteRecord, WriterBuilder};
 use json::Writer;
+use modbus_command::put_value;
 use modbus_poll::{Point, Table, Value, shown};
 use std::alloc::{AllocError, Global};
 use std::vec::IntoIter;
@@ -123,19 +124,6 @@ pub fn csv_line(alloc: Global, values: &[Value]) -> Result<Vec<u8>, AllocError>
         row.push_field(shown(alloc, value)?.as_bytes())?;
     }
     row_line(alloc, &row)
-}
-
-/// Writes a value of JSON.
-fn put_value(alloc: Global, writer: &mut Writer, value: &Value) -> Result<(), AllocError>
-    ensures before { OnOk result (writer.new.before ≡ writer.old.before) }
-    ensures tokens { OnOk result (writer.new.tokens
-        ≡ writer.old.tokens ++ json_value value.now ∷ []) }
-{
-    match value {
-        Value::Unsigned(number) => writer.u64(*number),
-        Value::Signed(number) => writer.i64(*number),
-        Value::Text(_) => writer.string(shown(alloc, value)?.as_str()),
-    }
 }
 
 /// The items of a poll as an object of JSON on a line (RFC 8259).

@@ -13,41 +13,32 @@ mod wanted;
 mod writing;
 
 use clap::ArgMatches;
-use clap::error::{Error, ErrorKind};
+use modbus_command::{FAILED, say, words_of};
 use std::process::ExitCode;
-use std::{env, io};
 use wanted::Refusal;
 
-/// The status where the last poll, or the write, was not good.
-const FAILED: u8 = 1;
+/// What its messages begin with.
+const PROGRAM: &str = "poller";
 
-/// The status of words that cannot be read.
-const USAGE: u8 = 2;
+fn poll<'a>(rt: &HostRuntime, given: &ArgMatches<'a>) -> Result<bool, Refusal<'a>> {
+    Ok(polling::run(rt, &wanted::poll(rt.alloc(), given)?))
+}
+
+fn write<'a>(rt: &HostRuntime, given: &ArgMatches<'a>) -> Result<bool, Refusal<'a>> {
+    Ok(writing::registers(rt, &wanted::registers(rt.alloc(), given)?))
+}
+
+fn write_coils<'a>(rt: &HostRuntime, given: &ArgMatches<'a>) -> Result<bool, Refusal<'a>> {
+    Ok(writing::coils(rt, &wanted::coils(rt.alloc(), given)?))
+}
 
 /// Does what the words ask for; whether the last poll, or the write, was good.
 fn run<'a>(rt: &HostRuntime, matches: &ArgMatches<'a>) -> Result<bool, Refusal<'a>> {
-    let alloc = rt.alloc();
     match matches.subcommand() {
-        Some(("poll", given)) => Ok(polling::run(rt, &wanted::poll(alloc, given)?)),
-        Some(("write", given)) => Ok(writing::registers(rt, &wanted::registers(alloc, given)?)),
-        Some(("write-coils", given)) => Ok(writing::coils(rt, &wanted::coils(alloc, given)?)),
+        Some(("poll", given)) => poll(rt, given),
+        Some(("write", given)) => write(rt, given),
+        Some(("write-coils", given)) => write_coils(rt, given),
         _ => Ok(false),
-    }
-}
-
-/// Tells what clap has to say, and gives the status.
-fn say(rt: &HostRuntime, error: &Error) -> u8 {
-    if error.kind() == ErrorKind::OutOfMemory {
-        let _ = eprintln!(rt; "poller: no memory");
-        return FAILED;
-    }
-    let is_said = error.print(rt).is_ok();
-    if error.use_stderr() {
-        USAGE
-    } else if is_said {
-        0
-    } else {
-        FAILED
     }
 }
 
@@ -55,7 +46,7 @@ fn say(rt: &HostRuntime, error: &Error) -> u8 {
 fn serve(rt: &HostRuntime, words: &[String]) -> u8 {
     let matches = match command::parse(rt.alloc(), words) {
         Ok(matches) => matches,
-        Err(error) => return say(rt, &error),
+        Err(error) => return say(rt, PROGRAM, &error),
     };
     match run(rt, &matches) {
         Ok(true) => 0,
@@ -67,20 +58,10 @@ fn serve(rt: &HostRuntime, words: &[String]) -> u8 {
     }
 }
 
-fn words_of(rt: &HostRuntime) -> io::Result<Vec<String>> {
-    Ok(env::args(rt)?.collect(rt.alloc())?)
-}
-
 fn main(rt: HostRuntime) -> ExitCode {
-    match words_of(&rt) {
-        Ok(words) => ExitCode::from(serve(&rt, words.as_slice())),
-        Err(error) if error.kind() == io::ErrorKind::InvalidData => {
-            let _ = eprintln!(rt; "poller: a word that is not in UTF-8");
-            ExitCode::from(USAGE)
-        }
-        Err(_) => {
-            let _ = eprintln!(rt; "poller: no memory");
-            ExitCode::from(FAILED)
-        }
-    }
+    let status = match words_of(&rt, PROGRAM) {
+        Ok(words) => serve(&rt, words.as_slice()),
+        Err(status) => status,
+    };
+    ExitCode::from(status)
 }

@@ -60,30 +60,44 @@ impl fmt::Display for ItemsOf<'_, '_> {
     }
 }
 
+/// The values of the items in holding registers.
+fn read_holding(
+    alloc: Global,
+    client: &mut DeviceClient<'_>,
+    wanted: &PollTask<'_, '_>,
+) -> Result<Vec<Value>, Trouble> {
+    match wanted.holding.poll(alloc, client) {
+        Ok(values) => Ok(values),
+        Err(error) => Err(Trouble {
+            table: Table::Holding,
+            error,
+        }),
+    }
+}
+
+/// The values of the items in input registers.
+fn read_input(
+    alloc: Global,
+    client: &mut DeviceClient<'_>,
+    wanted: &PollTask<'_, '_>,
+) -> Result<Vec<Value>, Trouble> {
+    match wanted.input.poll_inputs(alloc, client) {
+        Ok(values) => Ok(values),
+        Err(error) => Err(Trouble {
+            table: Table::Input,
+            error,
+        }),
+    }
+}
+
 /// The values of the items, in their order.
 fn read_values(
     alloc: Global,
     client: &mut DeviceClient<'_>,
     wanted: &PollTask<'_, '_>,
 ) -> Result<Vec<Value>, Trouble> {
-    let holding = match wanted.holding.poll(alloc, client) {
-        Ok(values) => values,
-        Err(error) => {
-            return Err(Trouble {
-                table: Table::Holding,
-                error,
-            });
-        }
-    };
-    let input = match wanted.input.poll_inputs(alloc, client) {
-        Ok(values) => values,
-        Err(error) => {
-            return Err(Trouble {
-                table: Table::Input,
-                error,
-            });
-        }
-    };
+    let holding = read_holding(alloc, client, wanted)?;
+    let input = read_input(alloc, client, wanted)?;
     match in_order(alloc, wanted.points.as_slice(), holding, input) {
         Ok(values) => Ok(values),
         Err(AllocError) => Err(Trouble {
@@ -243,17 +257,25 @@ fn print_plan(rt: &HostRuntime, wanted: &PollTask<'_, '_>) -> io::Result<()> {
     Ok(())
 }
 
+/// Polls by a client of the device.
+fn poll_device(
+    rt: &HostRuntime,
+    client: &mut DeviceClient<'_>,
+    wanted: &PollTask<'_, '_>,
+) -> io::Result<bool> {
+    client.set_retries(wanted.retries, Resend::Reads);
+    let is_good = poll_all(rt, client, wanted)?;
+    let _ = client.disconnect();
+    Ok(is_good)
+}
+
 /// Polls, or prints the reads that a poll makes.
 fn poll_or_plan(rt: &HostRuntime, wanted: &PollTask<'_, '_>) -> io::Result<bool> {
     if wanted.is_plan {
         print_plan(rt, wanted)?;
         return Ok(true);
     }
-    let mut client = client_of(rt, wanted.device);
-    client.set_retries(wanted.retries, Resend::Reads);
-    let is_good = poll_all(rt, &mut client, wanted)?;
-    let _ = client.disconnect();
-    Ok(is_good)
+    poll_device(rt, &mut client_of(rt, wanted.device), wanted)
 }
 
 /// Does the poll that is wanted; whether the last one gave values, and they were printed.

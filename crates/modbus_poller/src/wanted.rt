@@ -3,8 +3,9 @@
 use crate::batch::Batch;
 use crate::device::Device;
 use clap::ArgMatches;
+use modbus_command::{FAILED, USAGE, why_no_point};
 use modbus_frame::{Address, Coil, Slave, Word};
-use modbus_poll::{Item, Point, PointError, Table, parse_point};
+use modbus_poll::{Item, Point, Table, parse_point};
 use std::alloc::{AllocError, AllocFailed, Global};
 use std::fmt;
 use std::time::Duration;
@@ -28,11 +29,11 @@ pub enum Refusal<'a> {
 }
 
 impl Refusal<'_> {
-    /// The status that tells it: 2 for a word, 1 for memory.
+    /// The status that tells it.
     pub fn status(&self) -> u8 {
         match self {
-            Refusal::Word { .. } => 2,
-            Refusal::NoMemory => 1,
+            Refusal::Word { .. } => USAGE,
+            Refusal::NoMemory => FAILED,
         }
     }
 }
@@ -121,16 +122,6 @@ fn device<'a>(matches: &ArgMatches<'a>) -> Result<Device, Refusal<'a>> {
     })
 }
 
-/// Why a word names no item.
-fn why_no_point(fault: PointError) -> &'static str {
-    match fault {
-        PointError::Address => "no address from 0 to 65535 before the colon",
-        PointError::Kind =>
-            "no kind: u16 i16 u32 i32 u64 i64 u32le i32le u64le i64le, or text1 to text125",
-        PointError::End => "passes the last address, 65535",
-    }
-}
-
 /// What the words name, none of them twice.
 fn points<'a>(alloc: Global, names: &[&'a str]) -> Result<Vec<Point>, Refusal<'a>> {
     let mut points = Vec::new(alloc);
@@ -170,6 +161,13 @@ fn batch<'a>(alloc: Global, points: &[Point], table: Table) -> Result<Batch, Ref
     }
 }
 
+/// The items in holding registers, and those in input registers.
+fn batches<'a>(alloc: Global, points: &[Point]) -> Result<(Batch, Batch), Refusal<'a>> {
+    let holding = batch(alloc, points, Table::Holding)?;
+    let input = batch(alloc, points, Table::Input)?;
+    Ok((holding, input))
+}
+
 /// The poll that the words ask for.
 pub fn poll<'a, 'w>(
     alloc: Global,
@@ -181,13 +179,13 @@ pub fn poll<'a, 'w>(
             why: "no item",
         });
     };
-    let points = points(alloc, names)?;
-    let holding = batch(alloc, points.as_slice(), Table::Holding)?;
-    let input = batch(alloc, points.as_slice(), Table::Input)?;
+    let device = device(matches)?;
     let every = matches.get_one("every").map(Duration::from_millis);
     let most = if every.is_some() { u64::MAX } else { 1 };
+    let points = points(alloc, names)?;
+    let (holding, input) = batches(alloc, points.as_slice())?;
     Ok(PollTask {
-        device: device(matches)?,
+        device,
         every,
         count: matches.get_one("count").unwrap_or(most),
         retries: matches.get_one("retries").unwrap_or(0),

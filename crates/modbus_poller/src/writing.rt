@@ -51,22 +51,47 @@ fn tell(
     }
 }
 
-fn try_registers(rt: &HostRuntime, wanted: &WriteTask<Word>) -> io::Result<bool> {
-    let mut client = client_of(rt, wanted.device);
-    let began = Instant::now(rt)?;
-    let answer = write_registers(&mut client, wanted);
-    let is_done = tell(rt, &client, wanted.device, began, &answer);
+/// Tells what came of a write, and closes the connection; whether it was done.
+fn end(
+    rt: &HostRuntime,
+    client: &mut DeviceClient<'_>,
+    device: Device,
+    began: Instant,
+    answer: Result<()>,
+) -> bool {
+    let is_done = tell(rt, client, device, began, &answer);
     let _ = client.disconnect();
-    Ok(is_done)
+    is_done
+}
+
+fn registers_by(
+    rt: &HostRuntime,
+    client: &mut DeviceClient<'_>,
+    wanted: &WriteTask<Word>,
+    began: Instant,
+) -> bool {
+    let answer = write_registers(client, wanted);
+    end(rt, client, wanted.device, began, answer)
+}
+
+fn coils_by(
+    rt: &HostRuntime,
+    client: &mut DeviceClient<'_>,
+    wanted: &WriteTask<Coil>,
+    began: Instant,
+) -> bool {
+    let answer = write_coils(client, wanted);
+    end(rt, client, wanted.device, began, answer)
+}
+
+fn try_registers(rt: &HostRuntime, wanted: &WriteTask<Word>) -> io::Result<bool> {
+    let began = Instant::now(rt)?;
+    Ok(registers_by(rt, &mut client_of(rt, wanted.device), wanted, began))
 }
 
 fn try_coils(rt: &HostRuntime, wanted: &WriteTask<Coil>) -> io::Result<bool> {
-    let mut client = client_of(rt, wanted.device);
     let began = Instant::now(rt)?;
-    let answer = write_coils(&mut client, wanted);
-    let is_done = tell(rt, &client, wanted.device, began, &answer);
-    let _ = client.disconnect();
-    Ok(is_done)
+    Ok(coils_by(rt, &mut client_of(rt, wanted.device), wanted, began))
 }
 
 /// Whether it was done, after telling why it was not.

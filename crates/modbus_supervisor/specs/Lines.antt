@@ -1,11 +1,9 @@
 -- The lines that the program prints, each an object of JSON (RFC 8259) and a line feed.
 use Rattle.std.specs.Prelude.{ℕ, true, false, List, [], ◌∷◌, ◌++◌, decimal, codes}
-use Rattle.std.specs.Fmt.{signed_decimal}
 use Rattle.json.specs.Token.{Token, begin_object, end_object, key, number, string, boolean}
 use Rattle.json.specs.Print.{print}
+use Rattle.modbus_command.specs.Json.{json_value}
 use Rattle.modbus_poll.specs.declared.value.Value.{Value}
-use Rattle.modbus_poll.specs.declared.value.Value.TheVariants.{Unsigned, Signed, Text}
-use Rattle.modbus_poll.specs.Text.{shown_bytes, trimmed}
 
 -- each object begins with the device: its name in the list, and its unit identifier
 abbrev pub line_head : List ℕ → ℕ → List Token
@@ -13,12 +11,6 @@ line_head device unit = begin_object ∷ key (codes "device") ∷ string device 
 
 abbrev pub text_of_tokens : List Token → List ℕ
 text_of_tokens tokens = print (tokens ++ end_object ∷ []) ++ 10 ∷ []
-
--- a value of JSON: a number, or what is shown for a text as a string
-abbrev pub json_value : Value → Token
-json_value (Unsigned value) = number (decimal value)
-json_value (Signed value) = number (signed_decimal value)
-json_value (Text bytes) = string (shown_bytes (trimmed bytes))
 
 -- an item has this value
 abbrev pub changed_line : List ℕ → ℕ → List ℕ → Value → List ℕ

@@ -1,9 +1,10 @@
 //! The lines that the program prints, each an object of JSON (RFC 8259).
 ghost use Rattle.std.specs.Prelude.{◌≡◌, ◌++◌, ◌∷◌, [], IfOk, OnOk};
-ghost use Rattle.modbus_supervisor.specs.Lines.{line_head, text_of_tokens, json_value, changed_line, refused_line, away_line, back_line};
+ghost use Rattle.modbus_supervisor.specs.Lines.{line_head, text_of_tokens, changed_line, refused_line, away_line, back_line};
 
 use json::Writer;
-use modbus_poll::{Value, shown};
+use modbus_command::put_value;
+use modbus_poll::Value;
 use std::alloc::{AllocError, Global};
 
 /// A device, as each line names it.
@@ -39,19 +40,6 @@ fn end(mut writer: Writer) -> Result<Vec<u8>, AllocError>
     let mut line = writer.into_inner();
     line.push(b'\n')?;
     Ok(line)
-}
-
-/// Writes a value of JSON.
-fn put_value(alloc: Global, writer: &mut Writer, value: &Value) -> Result<(), AllocError>
-    ensures before { OnOk result (writer.new.before ≡ writer.old.before) }
-    ensures tokens { OnOk result (writer.new.tokens
-        ≡ writer.old.tokens ++ json_value value.now ∷ []) }
-{
-    match value {
-        Value::Unsigned(number) => writer.u64(*number),
-        Value::Signed(number) => writer.i64(*number),
-        Value::Text(_) => writer.string(shown(alloc, value)?.as_str()),
-    }
 }
 
 /// The line of an item that has another value than before.

@@ -1,7 +1,8 @@
 //! The list of devices.
 
+use modbus_command::why_no_point;
 use modbus_frame::Slave;
-use modbus_poll::{Point, PointError, parse_point};
+use modbus_poll::{Point, parse_point};
 use std::alloc::{AllocError, AllocFailed, Global};
 use std::net::SocketAddr;
 
@@ -53,16 +54,6 @@ impl<T: Drop> From<AllocFailed<T>> for ListFault<'_> {
 struct Wrong<'a> {
     word: &'a str,
     why: &'static str,
-}
-
-/// Why a word names no item.
-fn why_no_point(fault: PointError) -> &'static str {
-    match fault {
-        PointError::Address => "no address from 0 to 65535 before the colon",
-        PointError::Kind =>
-            "no kind: u16 i16 u32 i32 u64 i64 u32le i32le u64le i64le, or text1 to text125",
-        PointError::End => "passes the last address, 65535",
-    }
 }
 
 /// What stands before a comment.

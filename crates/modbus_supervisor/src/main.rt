@@ -12,35 +12,16 @@ mod turn;
 mod watched;
 mod words;
 
-use clap::error::{Error, ErrorKind};
 use list::{ListFault, parse_list};
+use modbus_command::{FAILED, USAGE, say, words_of};
 use plan::print_plan;
+use std::fs;
 use std::process::ExitCode;
-use std::{env, fs, io};
 use supervise::supervise;
 use words::Task;
 
-/// The status where the system or memory is refused.
-const FAILED: u8 = 1;
-
-/// The status of words, or of a list, that cannot be read.
-const USAGE: u8 = 2;
-
-/// Tells what clap has to say, and gives the status.
-fn say(rt: &HostRuntime, error: &Error) -> u8 {
-    if error.kind() == ErrorKind::OutOfMemory {
-        let _ = eprintln!(rt; "supervisor: no memory");
-        return FAILED;
-    }
-    let is_said = error.print(rt).is_ok();
-    if error.use_stderr() {
-        USAGE
-    } else if is_said {
-        0
-    } else {
-        FAILED
-    }
-}
+/// What its messages begin with.
+const PROGRAM: &str = "supervisor";
 
 /// Tells why a list cannot be read, and gives the status.
 fn refuse(rt: &HostRuntime, file: &str, fault: ListFault<'_>) -> u8 {
@@ -84,7 +65,7 @@ fn serve_list(rt: &HostRuntime, task: &Task<'_>, text: &str) -> u8 {
 fn serve(rt: &HostRuntime, words: &[String]) -> u8 {
     let matches = match words::parse(rt.alloc(), words) {
         Ok(matches) => matches,
-        Err(error) => return say(rt, &error),
+        Err(error) => return say(rt, PROGRAM, &error),
     };
     let task = words::task_of(&matches);
     match fs::read_to_string(rt, task.file) {
@@ -98,20 +79,10 @@ fn serve(rt: &HostRuntime, words: &[String]) -> u8 {
     }
 }
 
-fn words_of(rt: &HostRuntime) -> io::Result<Vec<String>> {
-    Ok(env::args(rt)?.collect(rt.alloc())?)
-}
-
 fn main(rt: HostRuntime) -> ExitCode {
-    match words_of(&rt) {
-        Ok(words) => ExitCode::from(serve(&rt, words.as_slice())),
-        Err(error) if error.kind() == io::ErrorKind::InvalidData => {
-            let _ = eprintln!(rt; "supervisor: a word that is not in UTF-8");
-            ExitCode::from(USAGE)
-        }
-        Err(_) => {
-            let _ = eprintln!(rt; "supervisor: no memory");
-            ExitCode::from(FAILED)
-        }
-    }
+    let status = match words_of(&rt, PROGRAM) {
+        Ok(words) => serve(&rt, words.as_slice()),
+        Err(status) => status,
+    };
+    ExitCode::from(status)
 }

@@ -280,6 +280,51 @@ impl<'l> Supervisor<'l> {
         }
     }
 
+    /// Adds a device of the list, which is not connected yet.
+    fn add(&mut self, rt: &HostRuntime, task: &Task<'_>, entry: &Entry<'l>) -> Result<(), Fault> {
+        let device = Device::new(entry.unit, TURNS, u64::from(task.timeout));
+        if self.fleet.add(device)? != self.devices.len() {
+            return Err(Fault::NoMemory);
+        }
+        let watched = watched_of(rt, entry)?;
+        self.devices.push(Supervised {
+            address: entry.address,
+            watched,
+            turn: Turn::new(task.count),
+            is_fresh: true,
+        })?;
+        Ok(())
+    }
+
+    /// Adds the devices of a list.
+    fn add_all(
+        &mut self,
+        rt: &HostRuntime,
+        task: &Task<'_>,
+        list: &[Entry<'l>],
+    ) -> Result<(), Fault> {
+        for entry in list {
+            self.add(rt, task, entry)?;
+        }
+        Ok(())
+    }
+
+    /// Polls the devices until each has had its polls.
+    fn run(&mut self, rt: &HostRuntime) -> Result<(), Fault> {
+        for _ in 0..u64::MAX {
+            let Some(wake) = self.wake else {
+                return Ok(());
+            };
+            self.wait_until(rt, wake)?;
+            let now = self.now(rt)?;
+            if wake <= now {
+                self.serve_all(rt, now)?;
+            }
+            self.print(rt)?;
+        }
+        Ok(())
+    }
+
     /// Waits until this time, or until answers may have come, and takes those.
     fn wait_until(&mut self, rt: &HostRuntime, time: u64) -> Result<(), Fault> {
         let now = self.now(rt)?;
@@ -297,36 +342,18 @@ impl<'l> Supervisor<'l> {
     }
 }
 
-/// The devices of a list, none of them connected yet.
-fn supervisor_of<'l>(
-    rt: &HostRuntime,
-    task: &Task<'_>,
-    list: &[Entry<'l>],
-) -> Result<Supervisor<'l>, Fault> {
+/// A supervisor of no device.
+fn idle<'l>(rt: &HostRuntime, task: &Task<'_>) -> Result<Supervisor<'l>, Fault> {
     let alloc = rt.alloc();
-    let Ok(readiness) = MioReadiness::new(rt) else {
-        return Err(Fault::Wait);
-    };
     let Ok(began) = Instant::now(rt) else {
         return Err(Fault::Clock);
     };
-    let mut fleet = Fleet::new(alloc, readiness);
-    let mut devices = Vec::new(alloc);
-    for entry in list {
-        let key = fleet.add(Device::new(entry.unit, TURNS, u64::from(task.timeout)))?;
-        if key != devices.len() {
-            return Err(Fault::NoMemory);
-        }
-        devices.push(Supervised {
-            address: entry.address,
-            watched: watched_of(rt, entry)?,
-            turn: Turn::new(task.count),
-            is_fresh: true,
-        })?;
-    }
+    let Ok(readiness) = MioReadiness::new(rt) else {
+        return Err(Fault::Wait);
+    };
     Ok(Supervisor {
-        fleet,
-        devices,
+        fleet: Fleet::new(alloc, readiness),
+        devices: Vec::new(alloc),
         began,
         every: task.every,
         timeout: u64::from(task.timeout),
@@ -334,6 +361,17 @@ fn supervisor_of<'l>(
         lines: Vec::new(alloc),
         is_short_of_files: false,
     })
+}
+
+/// The devices of a list, none of them connected yet.
+fn supervisor_of<'l>(
+    rt: &HostRuntime,
+    task: &Task<'_>,
+    list: &[Entry<'l>],
+) -> Result<Supervisor<'l>, Fault> {
+    let mut supervisor = idle(rt, task)?;
+    supervisor.add_all(rt, task, list)?;
+    Ok(supervisor)
 }
 
 /// A device of the list, of which nothing was seen.
@@ -350,17 +388,5 @@ fn watched_of<'l>(rt: &HostRuntime, entry: &Entry<'l>) -> Result<Watched<'l>, Al
 /// # Errors
 /// Why it ended before.
 pub fn supervise(rt: &HostRuntime, task: &Task<'_>, list: &[Entry<'_>]) -> Result<(), Fault> {
-    let mut supervisor = supervisor_of(rt, task, list)?;
-    for _ in 0..u64::MAX {
-        let Some(wake) = supervisor.wake else {
-            return Ok(());
-        };
-        supervisor.wait_until(rt, wake)?;
-        let now = supervisor.now(rt)?;
-        if wake <= now {
-            supervisor.serve_all(rt, now)?;
-        }
-        supervisor.print(rt)?;
-    }
-    Ok(())
+    supervisor_of(rt, task, list)?.run(rt)
 }

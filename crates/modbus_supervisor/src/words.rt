@@ -1,7 +1,7 @@
 //! The words of the command line.
 
 use clap::{Arg, ArgAction, ArgMatches, Command, Error, value_parser};
-use std::alloc::Global;
+use std::alloc::{AllocError, Global};
 
 /// What the words ask for.
 #[derive(Drop)]
@@ -30,44 +30,63 @@ fn millis<'a>(alloc: Global, name: &'a str, help: &'a str) -> Arg<'a> {
         .help(help)
 }
 
+fn file<'a>(alloc: Global) -> Arg<'a> {
+    Arg::new(alloc, "file")
+        .value_name("FILE")
+        .required(true)
+        .help(
+            "The list, a line for each device: a name, ADDRESS:PORT, a unit identifier and items, as pump1 192.0.2.1:502 1 level=100:u16",
+        )
+}
+
+fn every<'a>(alloc: Global) -> Arg<'a> {
+    millis(
+        alloc,
+        "every",
+        "Poll each device again after so many milliseconds",
+    )
+}
+
+fn timeout<'a>(alloc: Global) -> Arg<'a> {
+    millis(
+        alloc,
+        "timeout",
+        "How long a read may take, in milliseconds, with its connection",
+    )
+}
+
+fn count<'a>(alloc: Global) -> Arg<'a> {
+    Arg::new(alloc, "count")
+        .long("count")
+        .value_name("N")
+        .value_parser(value_parser!(u64).range(1..=1_000_000_000_000))
+        .help("End after so many polls of each device; else it goes on for ever")
+}
+
+fn plan<'a>(alloc: Global) -> Arg<'a> {
+    Arg::new(alloc, "plan")
+        .long("plan")
+        .action(ArgAction::SetTrue)
+        .help("Print the reads of each device, and send nothing")
+}
+
+// Each word is a function of its own: a function that owns several is proved for minutes.
+fn command<'a>(alloc: Global) -> Result<Command<'a>, AllocError> {
+    Command::new(alloc, "modbus_supervisor")
+        .about("Polls many Modbus TCP devices, and prints what changes")
+        .arg(file(alloc))?
+        .arg(every(alloc))?
+        .arg(timeout(alloc))?
+        .arg(count(alloc))?
+        .arg(plan(alloc))
+}
+
 /// Reads the words of the command line, the program's name first.
 ///
 /// # Errors
 /// What clap has to say: the help that was asked for, or the word that cannot be read.
 pub fn parse<'a>(alloc: Global, words: &'a [String]) -> Result<ArgMatches<'a>, Error> {
-    let file = Arg::new(alloc, "file")
-        .value_name("FILE")
-        .required(true)
-        .help(
-            "The list, a line for each device: a name, ADDRESS:PORT, a unit identifier and items, as pump1 192.0.2.1:502 1 level=100:u16",
-        );
-    let every = millis(
-        alloc,
-        "every",
-        "Poll each device again after so many milliseconds",
-    );
-    let timeout = millis(
-        alloc,
-        "timeout",
-        "How long a read may take, in milliseconds, with its connection",
-    );
-    let count = Arg::new(alloc, "count")
-        .long("count")
-        .value_name("N")
-        .value_parser(value_parser!(u64).range(1..=1_000_000_000_000))
-        .help("End after so many polls of each device; else it goes on for ever");
-    let plan = Arg::new(alloc, "plan")
-        .long("plan")
-        .action(ArgAction::SetTrue)
-        .help("Print the reads of each device, and send nothing");
-    Command::new(alloc, "modbus_supervisor")
-        .about("Polls many Modbus TCP devices, and prints what changes")
-        .arg(file)?
-        .arg(every)?
-        .arg(timeout)?
-        .arg(count)?
-        .arg(plan)?
-        .try_get_matches_from(words)
+    command(alloc)?.try_get_matches_from(words)
 }
 
 /// What the words ask for that were read.

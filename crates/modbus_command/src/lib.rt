@@ -1,0 +1,8 @@
+//! What the programs share that have a command line: their words, what clap has to say, their status, and values as JSON.
+#![tactic(auto)]
+
+mod value;
+mod words;
+
+pub use crate::value::put_value;
+pub use crate::words::{FAILED, USAGE, say, why_no_point, words_of};

@@ -1,0 +1,56 @@
+//! The words of a command line, and what a program says and tells that can't go on from them.
+
+use clap::error::{Error, ErrorKind};
+use modbus_poll::PointError;
+use std::{env, io};
+
+/// The status where the system or memory is refused, or a device.
+pub const FAILED: u8 = 1;
+
+/// The status of words that can't be read.
+pub const USAGE: u8 = 2;
+
+/// Tells what clap has to say to the user of this program, and gives the status.
+pub fn say(rt: &HostRuntime, program: &str, error: &Error) -> u8 {
+    if error.kind() == ErrorKind::OutOfMemory {
+        let _ = eprintln!(rt; "{program}: no memory");
+        return FAILED;
+    }
+    let is_said = error.print(rt).is_ok();
+    if error.use_stderr() {
+        USAGE
+    } else if is_said {
+        0
+    } else {
+        FAILED
+    }
+}
+
+fn collected(rt: &HostRuntime) -> io::Result<Vec<String>> {
+    Ok(env::args(rt)?.collect(rt.alloc())?)
+}
+
+/// The words of the command line; or the status where they are not in UTF-8 or memory is refused, which is told.
+pub fn words_of(rt: &HostRuntime, program: &str) -> Result<Vec<String>, u8> {
+    match collected(rt) {
+        Ok(words) => Ok(words),
+        Err(error) if error.kind() == io::ErrorKind::InvalidData => {
+            let _ = eprintln!(rt; "{program}: a word that is not in UTF-8");
+            Err(USAGE)
+        }
+        Err(_) => {
+            let _ = eprintln!(rt; "{program}: no memory");
+            Err(FAILED)
+        }
+    }
+}
+
+/// Why a word names no item.
+pub fn why_no_point(fault: PointError) -> &'static str {
+    match fault {
+        PointError::Address => "no address from 0 to 65535 before the colon",
+        PointError::Kind =>
+            "no kind: u16 i16 u32 i32 u64 i64 u32le i32le u64le i64le, or text1 to text125",
+        PointError::End => "passes the last address, 65535",
+    }
+}
