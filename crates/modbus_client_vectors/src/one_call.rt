@@ -43,49 +43,37 @@ fn poll<P: Protocol>(
     Ok(false)
 }
 
-/// The same, and what was written.
+/// The same, what was written, and, where it is asked for, how many responses of other transactions and units were dropped.
 fn poll_all<P: Protocol>(
     text: &mut String,
     call: &mut PolledCall<P>,
     link: &mut PolledMemoryLink,
+    tells_dropped: bool,
 ) -> Result<bool, AllocError> {
     if !poll(text, call, link)? {
         return Ok(false);
     }
     text.push_str(" wrote ")?;
     push_hex(text, link.link().sink().bytes())?;
-    Ok(true)
-}
-
-/// The same of a call that drops the responses of other transactions and units, and how many it dropped.
-fn poll_matching(
-    text: &mut String,
-    call: &mut tcp::MatchingCall,
-    link: &mut PolledMemoryLink,
-) -> Result<bool, AllocError> {
-    if !poll_all(text, call, link)? {
-        return Ok(false);
+    if tells_dropped {
+        write!(text, " dropped {}", call.dropped())?;
     }
-    write!(text, " dropped {}", call.dropped())?;
     Ok(true)
 }
 
-/// The text of a call that was not opened.
-fn not_opened(text: &mut String, error: Error) -> Result<bool, AllocError> {
-    push_shown(text, Err::<(), Error>(error))?;
-    Ok(true)
-}
-
-fn rtu_polled(
-    alloc: Global,
+/// The same of a call that was opened, or why it was not.
+fn poll_opened<P: Protocol>(
     text: &mut String,
-    slave: u8,
-    request: Request<'_>,
+    opened: Result<PolledCall<P>, Error>,
     link: &mut PolledMemoryLink,
+    tells_dropped: bool,
 ) -> Result<bool, AllocError> {
-    match rtu::PolledCall::new(alloc, Slave(slave), request, 2) {
-        Ok(mut opened) => poll_all(text, &mut opened, link),
-        Err(error) => not_opened(text, error),
+    match opened {
+        Ok(mut call) => poll_all(text, &mut call, link, tells_dropped),
+        Err(error) => {
+            push_shown(text, Err::<(), Error>(error))?;
+            Ok(true)
+        }
     }
 }
 
@@ -94,32 +82,6 @@ fn first_header(unit_id: u8) -> modbus_frame::tcp::Header {
     modbus_frame::tcp::Header {
         transaction_id: 1,
         unit_id,
-    }
-}
-
-fn tcp_polled(
-    alloc: Global,
-    text: &mut String,
-    slave: u8,
-    request: Request<'_>,
-    link: &mut PolledMemoryLink,
-) -> Result<bool, AllocError> {
-    match tcp::PolledCall::new(alloc, first_header(slave), request, 2) {
-        Ok(mut opened) => poll_all(text, &mut opened, link),
-        Err(error) => not_opened(text, error),
-    }
-}
-
-fn matching_polled(
-    alloc: Global,
-    text: &mut String,
-    slave: u8,
-    request: Request<'_>,
-    link: &mut PolledMemoryLink,
-) -> Result<bool, AllocError> {
-    match tcp::MatchingCall::new(alloc, first_header(slave), request, 2) {
-        Ok(mut opened) => poll_matching(text, &mut opened, link),
-        Err(error) => not_opened(text, error),
     }
 }
 
@@ -136,9 +98,18 @@ fn polled(
         return Ok(false);
     };
     match call {
-        "rtu_polled" => rtu_polled(alloc, text, slave, request, link),
-        "tcp_polled" => tcp_polled(alloc, text, slave, request, link),
-        "matching_polled" => matching_polled(alloc, text, slave, request, link),
+        "rtu_polled" => {
+            let opened = rtu::PolledCall::new(alloc, Slave(slave), request, 2);
+            poll_opened(text, opened, link, false)
+        }
+        "tcp_polled" => {
+            let opened = tcp::PolledCall::new(alloc, first_header(slave), request, 2);
+            poll_opened(text, opened, link, false)
+        }
+        "matching_polled" => {
+            let opened = tcp::MatchingCall::new(alloc, first_header(slave), request, 2);
+            poll_opened(text, opened, link, true)
+        }
         _ => Ok(false),
     }
 }

@@ -13,6 +13,7 @@ use modbus_table::outside::read_outside;
 use modbus_table::text::{bytes, number, push_hex, push_shown, push_told};
 use modbus_tcp::{AduDecoder, TransactionIds, front};
 use std::alloc::{AllocError, Global};
+use std::fmt::Debug;
 
 fn length(text: &mut String, found: Result<Option<usize>, NoLength>) -> Result<(), AllocError> {
     match found {
@@ -36,19 +37,27 @@ fn frame(
     Ok(true)
 }
 
-/// What a decoder of frames of requests takes off, how many bytes it leaves, and how many it recorded as dropped.
+/// Appends what a decoder took off, how many bytes it left, and how many it recorded as dropped.
+fn push_taken<T: Debug + Drop>(
+    text: &mut String,
+    found: T,
+    left: usize,
+    dropped: usize,
+) -> Result<(), AllocError> {
+    push_shown(text, found)?;
+    write!(text, " left {left} dropped {dropped}")
+}
+
 fn rtu_requests(alloc: Global, text: &mut String, buf: &mut BytesMut) -> Result<(), AllocError> {
     let mut decoder = RequestDecoder::new();
-    push_shown(text, decoder.decode(alloc, buf))?;
-    let dropped = decoder.dropped_bytes().len();
-    write!(text, " left {} dropped {dropped}", buf.len())
+    let found = decoder.decode(alloc, buf);
+    push_taken(text, found, buf.len(), decoder.dropped_bytes().len())
 }
 
 fn rtu_responses(alloc: Global, text: &mut String, buf: &mut BytesMut) -> Result<(), AllocError> {
     let mut decoder = ResponseDecoder::new();
-    push_shown(text, decoder.decode(alloc, buf))?;
-    let dropped = decoder.dropped_bytes().len();
-    write!(text, " left {} dropped {dropped}", buf.len())
+    let found = decoder.decode(alloc, buf);
+    push_taken(text, found, buf.len(), decoder.dropped_bytes().len())
 }
 
 /// What the codec of an end takes off.

@@ -70,6 +70,40 @@ fn protocol(name: &str) -> Option<ProtocolError> {
     })
 }
 
+fn encode(name: &str) -> Option<EncodeError> {
+    Some(match name {
+        "TooLong" => EncodeError::TooLong(254),
+        "NoMemory" => EncodeError::NoMemory,
+        _ => return None,
+    })
+}
+
+fn pdu(name: &str) -> Option<PduError> {
+    Some(match name {
+        "Refused" => PduError::Refused(Reason::TooShort),
+        "NoMemory" => PduError::NoMemory,
+        _ => return None,
+    })
+}
+
+fn tcp(name: &str) -> Option<TcpError> {
+    Some(match name {
+        "InvalidLength" => TcpError::InvalidLength,
+        "InvalidProtocol" => TcpError::InvalidProtocol(7),
+        "Invalid" => TcpError::Invalid(Reason::UndecodedData),
+        "NoMemory" => TcpError::NoMemory,
+        _ => return None,
+    })
+}
+
+fn error(name: &str) -> Option<Error> {
+    Some(match name {
+        "NoMemory" => Error::NoMemory,
+        "Transport" => Error::Transport(TransportError::BrokenPipe),
+        _ => return None,
+    })
+}
+
 /// The text of a fault that may not be there.
 fn told<T: Debug + Display + Drop>(
     text: &mut String,
@@ -82,24 +116,14 @@ fn told<T: Debug + Display + Drop>(
     Ok(true)
 }
 
-fn other(text: &mut String, name: &str) -> Result<bool, AllocError> {
+/// The text of a fault that has no variants.
+fn single(text: &mut String, name: &str) -> Result<bool, AllocError> {
     match name {
-        "EncodeError::TooLong" => push_told(text, EncodeError::TooLong(254))?,
-        "EncodeError::NoMemory" => push_told(text, EncodeError::NoMemory)?,
-        "PduError::Refused" => push_told(text, PduError::Refused(Reason::TooShort))?,
-        "PduError::NoMemory" => push_told(text, PduError::NoMemory)?,
-        "Error::NoMemory" => push_told(text, Error::NoMemory)?,
-        "Error::Transport" => push_told(text, Error::Transport(TransportError::BrokenPipe))?,
-        "ShutdownFault" => push_told(text, ShutdownFault)?,
-        "ConnectFault" => push_told(text, ConnectFault)?,
-        "ParseSlaveError" => push_told(text, ParseSlaveError)?,
-        "TcpError::InvalidLength" => push_told(text, TcpError::InvalidLength)?,
-        "TcpError::InvalidProtocol" => push_told(text, TcpError::InvalidProtocol(7))?,
-        "TcpError::Invalid" => push_told(text, TcpError::Invalid(Reason::UndecodedData))?,
-        "TcpError::NoMemory" => push_told(text, TcpError::NoMemory)?,
-        _ => return Ok(false),
+        "ShutdownFault" => told(text, Some(ShutdownFault)),
+        "ConnectFault" => told(text, Some(ConnectFault)),
+        "ParseSlaveError" => told(text, Some(ParseSlaveError)),
+        _ => Ok(false),
     }
-    Ok(true)
 }
 
 /// `text` and the name of a fault.
@@ -110,14 +134,17 @@ pub fn answer(text: &mut String, call: &str, words: &[&str]) -> Result<bool, All
     if call != "text" {
         return Ok(false);
     }
-    if let Some(name) = name.strip_prefix("TransportError::") {
-        return told(text, transport(name));
+    let Some((kind, name)) = name.split_once("::") else {
+        return single(text, name);
+    };
+    match kind {
+        "TransportError" => told(text, transport(name)),
+        "ProcessError" => told(text, process(name)),
+        "ProtocolError" => told(text, protocol(name).map(Error::Protocol)),
+        "EncodeError" => told(text, encode(name)),
+        "PduError" => told(text, pdu(name)),
+        "TcpError" => told(text, tcp(name)),
+        "Error" => told(text, error(name)),
+        _ => Ok(false),
     }
-    if let Some(name) = name.strip_prefix("ProcessError::") {
-        return told(text, process(name));
-    }
-    if let Some(name) = name.strip_prefix("ProtocolError::") {
-        return told(text, protocol(name).map(Error::Protocol));
-    }
-    other(text, name)
 }

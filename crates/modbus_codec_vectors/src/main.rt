@@ -10,21 +10,6 @@ use modbus_table::{Calls, answer_table};
 use std::alloc::{AllocError, Global};
 use std::process::ExitCode;
 
-/// Appends the answer to a call. False where there is no such call, or it has no such arguments.
-fn push_answer(
-    alloc: Global,
-    text: &mut String,
-    call: &str,
-    words: &[&str],
-) -> Result<bool, AllocError> {
-    Ok(
-        values::answer(alloc, text, call, words)?
-            || pdus::answer(alloc, text, call, words)?
-            || codecs::answer(alloc, text, call, words)?
-            || faults::answer(text, call, words)?,
-    )
-}
-
 /// The calls of the codecs.
 struct CodecCalls;
 
@@ -32,14 +17,16 @@ impl Calls for CodecCalls {
     fn answer(
         &self,
         alloc: Global,
+        text: &mut String,
         call: &str,
         words: &[&str],
-    ) -> Result<Option<String>, AllocError> {
-        let mut text = String::new(alloc);
-        match push_answer(alloc, &mut text, call, words)? {
-            true => Ok(Some(text)),
-            false => Ok(None),
-        }
+    ) -> Result<bool, AllocError> {
+        Ok(
+            values::answer(alloc, text, call, words)?
+                || pdus::answer(alloc, text, call, words)?
+                || codecs::answer(alloc, text, call, words)?
+                || faults::answer(text, call, words)?,
+        )
     }
 }
 

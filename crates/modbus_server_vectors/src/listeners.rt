@@ -11,7 +11,7 @@ use modbus_server::{
 };
 use modbus_table::SameWords;
 use modbus_table::outside::read_outside;
-use modbus_table::text::{hex, number};
+use modbus_table::text::{number, push_hex, push_shown};
 use std::alloc::{AllocError, Global};
 use std::net::SocketAddr;
 use std::sync::Wait;
@@ -149,30 +149,26 @@ fn accepting<'l>(
     Ok(MemoryAcceptor::new(accepted))
 }
 
-/// Appends what a connection was sent.
-fn push_sent(alloc: Global, text: &mut String, link: &MemoryLink) -> Result<(), AllocError> {
-    text.push_str(" ")?;
-    text.push_str(hex(alloc, link.sink().bytes())?.as_str())
-}
-
-/// The text of how a listener ended, and of what each of its connections was sent.
-fn told(alloc: Global, ended: Ended, links: &[MemoryLink]) -> Result<Option<String>, AllocError> {
-    let mut text = format!(in alloc; "{ended:?}")?;
+/// Appends how a listener ended, and what each of its connections was sent.
+fn push_told(text: &mut String, ended: Ended, links: &[MemoryLink]) -> Result<bool, AllocError> {
+    push_shown(text, ended)?;
     for link in links {
-        push_sent(alloc, &mut text, link)?;
+        text.push_str(" ")?;
+        push_hex(text, link.sink().bytes())?;
     }
-    Ok(Some(text))
+    Ok(true)
 }
 
 /// The answer of a listener over these links, from peers with these ports, and what each of them was sent.
 fn listened<I: Framing, R: Wait>(
     rt: &R,
     alloc: Global,
+    text: &mut String,
     spawner: &str,
     links: &mut [MemoryLink],
     ports: &[u16],
     looks: Option<u64>,
-) -> Result<Option<String>, AllocError> {
+) -> Result<bool, AllocError> {
     let ended = ended(
         rt,
         alloc,
@@ -181,8 +177,8 @@ fn listened<I: Framing, R: Wait>(
         looks,
     );
     match ended {
-        Some(ended) => told(alloc, ended, links),
-        None => Ok(None),
+        Some(ended) => push_told(text, ended, links),
+        None => Ok(false),
     }
 }
 
@@ -202,29 +198,31 @@ fn two_links(alloc: Global, near: &str, far: &str) -> Result<Option<Vec<MemoryLi
 fn listened_to_two<I: Framing, R: Wait>(
     rt: &R,
     alloc: Global,
+    text: &mut String,
     spawner: &str,
     words: &[&str],
     looks: Option<u64>,
-) -> Result<Option<String>, AllocError> {
+) -> Result<bool, AllocError> {
     let [near, far] = words else {
-        return Ok(None);
+        return Ok(false);
     };
     let Some((near_port, near)) = port_and_outside(near) else {
-        return Ok(None);
+        return Ok(false);
     };
     let Some((far_port, far)) = port_and_outside(far) else {
-        return Ok(None);
+        return Ok(false);
     };
     match two_links(alloc, near, far)? {
         Some(mut links) => listened::<I, R>(
             rt,
             alloc,
+            text,
             spawner,
             links.as_mut_slice(),
             &[near_port, far_port],
             looks,
         ),
-        None => Ok(None),
+        None => Ok(false),
     }
 }
 
@@ -244,13 +242,22 @@ fn eight_links(alloc: Global, words: &[&str]) -> Result<Option<Vec<MemoryLink>>,
 fn listened_to_eight<I: Framing, R: Wait>(
     rt: &R,
     alloc: Global,
+    text: &mut String,
     words: &[&str],
-) -> Result<Option<String>, AllocError> {
+) -> Result<bool, AllocError> {
     match eight_links(alloc, words)? {
         Some(mut links) => {
-            listened::<I, R>(rt, alloc, "inline", links.as_mut_slice(), &[TAKES; 8], None)
+            listened::<I, R>(
+                rt,
+                alloc,
+                text,
+                "inline",
+                links.as_mut_slice(),
+                &[TAKES; 8],
+                None,
+            )
         }
-        None => Ok(None),
+        None => Ok(false),
     }
 }
 
@@ -258,16 +265,17 @@ fn listened_to_eight<I: Framing, R: Wait>(
 fn answer_of_two<R: Wait>(
     rt: &R,
     alloc: Global,
+    text: &mut String,
     words: &[&str],
     looks: Option<u64>,
-) -> Result<Option<String>, AllocError> {
+) -> Result<bool, AllocError> {
     let [framing, spawner, words @ ..] = words else {
-        return Ok(None);
+        return Ok(false);
     };
     match *framing {
-        "rtu" => listened_to_two::<Inbox, R>(rt, alloc, spawner, words, looks),
-        "tcp" => listened_to_two::<AduBuffer, R>(rt, alloc, spawner, words, looks),
-        _ => Ok(None),
+        "rtu" => listened_to_two::<Inbox, R>(rt, alloc, text, spawner, words, looks),
+        "tcp" => listened_to_two::<AduBuffer, R>(rt, alloc, text, spawner, words, looks),
+        _ => Ok(false),
     }
 }
 
@@ -276,21 +284,22 @@ fn answer_of_two<R: Wait>(
 pub fn answer<R: Wait>(
     rt: &R,
     alloc: Global,
+    text: &mut String,
     call: &str,
     words: &[&str],
-) -> Result<Option<String>, AllocError> {
+) -> Result<bool, AllocError> {
     match call {
-        "listen" => answer_of_two(rt, alloc, words, None),
+        "listen" => answer_of_two(rt, alloc, text, words, None),
         "listen_until" => {
             let [looks, words @ ..] = words else {
-                return Ok(None);
+                return Ok(false);
             };
             match number(looks) {
-                Some(looks) => answer_of_two(rt, alloc, words, Some(u64::from(looks))),
-                None => Ok(None),
+                Some(looks) => answer_of_two(rt, alloc, text, words, Some(u64::from(looks))),
+                None => Ok(false),
             }
         }
-        "listen_to_eight" => listened_to_eight::<Inbox, R>(rt, alloc, words),
-        _ => Ok(None),
+        "listen_to_eight" => listened_to_eight::<Inbox, R>(rt, alloc, text, words),
+        _ => Ok(false),
     }
 }

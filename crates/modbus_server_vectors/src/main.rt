@@ -17,13 +17,14 @@ impl<'r, R: Wait> Calls for ServerCalls<'r, R> {
     fn answer(
         &self,
         alloc: Global,
+        text: &mut String,
         call: &str,
         words: &[&str],
-    ) -> Result<Option<String>, AllocError> {
+    ) -> Result<bool, AllocError> {
         if call.starts_with("listen") {
-            listeners::answer(self.0, alloc, call, words)
+            listeners::answer(self.0, alloc, text, call, words)
         } else {
-            servers::answer(alloc, call, words)
+            servers::answer(alloc, text, call, words)
         }
     }
 }

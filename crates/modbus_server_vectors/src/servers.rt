@@ -17,73 +17,63 @@ use modbus_service::OnlyUnit;
 use modbus_standard::StandardAnswers;
 use modbus_table::SameWords;
 use modbus_table::outside::{Outside, read_outside};
-use modbus_table::text::{hex, number};
+use modbus_table::text::{number, push_hex};
 use std::alloc::{AllocError, Global};
 use std::fmt::{Debug, Write};
 
 /// Appends the answer of a server, its output, how many bytes the source gave, and how often the service was asked.
-fn push_told<T: Debug>(
+fn push_told<T: Debug + Drop>(
     text: &mut String,
-    alloc: Global,
-    ended: &T,
+    ended: T,
     source: &MemorySource,
     sink: &MemorySink,
     service: &SameWords,
-) -> Result<(), AllocError> {
+) -> Result<bool, AllocError> {
     write!(text, "{ended:?} ")?;
-    text.push_str(hex(alloc, sink.bytes())?.as_str())?;
+    push_hex(text, sink.bytes())?;
     let given = source.given();
     let calls = service.calls;
-    write!(text, " read {given} asked {calls}")
-}
-
-fn told<T: Debug>(
-    alloc: Global,
-    ended: &T,
-    source: &MemorySource,
-    sink: &MemorySink,
-    service: &SameWords,
-) -> Result<Option<String>, AllocError> {
-    let mut text = String::new(alloc);
-    push_told(&mut text, alloc, ended, source, sink, service)?;
-    Ok(Some(text))
+    write!(text, " read {given} asked {calls}")?;
+    Ok(true)
 }
 
 fn served(
     alloc: Global,
+    text: &mut String,
     framing: &str,
     service: &mut SameWords,
     turns: u64,
     outside: &mut Outside,
-) -> Result<Option<String>, AllocError> {
+) -> Result<bool, AllocError> {
     let source = &mut outside.source;
     let sink = &mut outside.sink;
     let ended = match framing {
         "rtu" => rtu_over_tcp::process(alloc, source, sink, service, turns),
         "tcp" => tcp::process(alloc, source, sink, service, turns),
         "ascii" => modbus_ascii::ascii::process(alloc, source, sink, service, turns),
-        _ => return Ok(None),
+        _ => return Ok(false),
     };
-    told(alloc, &ended, source, sink, service)
+    push_told(text, ended, source, sink, service)
 }
 
 /// A source and a sink that are lent as one object, and a service that is lent.
 fn served_by_lent(
     alloc: Global,
+    text: &mut String,
     framing: &str,
     service: &mut SameWords,
     turns: u64,
     outside: &mut Outside,
-) -> Result<Option<String>, AllocError> {
+) -> Result<bool, AllocError> {
     let source = &mut outside.source;
     let sink = &mut outside.sink;
     let link = &mut Both::new(&mut *source, &mut *sink);
     let ended = match framing {
         "rtu" => rtu_over_tcp::process_link(alloc, link, &mut Forward(&mut *service), turns),
         "tcp" => tcp::process_link(alloc, link, &mut Forward(&mut *service), turns),
-        _ => return Ok(None),
+        _ => return Ok(false),
     };
-    told(alloc, &ended, source, sink, service)
+    push_told(text, ended, source, sink, service)
 }
 
 /// Appends what the steps of a connection answer: at 1 it may read, and at 0 it may not.
@@ -108,10 +98,11 @@ fn take_steps<I: Framing>(
 
 fn stepped<I: Framing>(
     alloc: Global,
+    text: &mut String,
     service: &mut SameWords,
     reads: &str,
     outside: &mut Outside,
-) -> Result<Option<String>, AllocError> {
+) -> Result<bool, AllocError> {
     let mut steps = Vec::new(alloc);
     take_steps(
         alloc,
@@ -121,7 +112,7 @@ fn stepped<I: Framing>(
         outside,
         &mut steps,
     )?;
-    told(alloc, &steps, &outside.source, &outside.sink, service)
+    push_told(text, steps, &outside.source, &outside.sink, service)
 }
 
 /// How many of the next polls are pending, and the answer of the first that is not, among a hundred.
@@ -145,33 +136,35 @@ fn polled<I: Framing>(
 
 fn served_by_polls(
     alloc: Global,
+    text: &mut String,
     framing: &str,
     service: &mut SameWords,
     turns: u64,
     link: &mut PolledMemoryLink,
-) -> Result<Option<String>, AllocError> {
+) -> Result<bool, AllocError> {
     let ended = match framing {
         "rtu" => polled(&mut rtu::PolledProcess::open(alloc, turns)?, link, service),
         "tcp" => polled(&mut tcp::PolledProcess::open(alloc, turns)?, link, service),
-        _ => return Ok(None),
+        _ => return Ok(false),
     };
     let link = link.link();
-    told(alloc, &ended, link.source(), link.sink(), service)
+    push_told(text, ended, link.source(), link.sink(), service)
 }
 
 /// An RTU server that a signal stops after so many looks.
 fn served_until(
     alloc: Global,
+    text: &mut String,
     service: &mut SameWords,
     looks: u64,
     link: &mut MemoryLink,
-) -> Result<Option<String>, AllocError> {
+) -> Result<bool, AllocError> {
     let ended = rtu::Server::new(&mut *link).serve_until(
         alloc,
         service,
         &mut MemoryStop::new(looks),
     );
-    told(alloc, &ended, link.source(), link.sink(), service)
+    push_told(text, ended, link.source(), link.sink(), service)
 }
 
 /// Tells nobody of the error of a connection.
@@ -180,10 +173,11 @@ fn ignore(_error: ProcessError) {}
 /// One connection as work, which a signal stops after so many looks.
 fn worked<I: Framing>(
     alloc: Global,
+    text: &mut String,
     service: &mut SameWords,
     looks: u64,
     link: &mut MemoryLink,
-) -> Result<Option<String>, AllocError> {
+) -> Result<bool, AllocError> {
     let ended = ConnectionWorker::<I, _, _, _, _>::new(
         alloc,
         &mut *link,
@@ -192,7 +186,7 @@ fn worked<I: Framing>(
         MemoryStop::new(looks),
     )
     .work();
-    told(alloc, &ended, link.source(), link.sink(), service)
+    push_told(text, ended, link.source(), link.sink(), service)
 }
 
 /// As many bytes as each of these numbers, at most as many as there may be.
@@ -214,10 +208,11 @@ fn burst_link(alloc: Global, outside: Outside) -> Result<BurstLink<TimedMemoryLi
 /// Slave 1 on a line that it shares with others.
 fn served_among_others(
     alloc: Global,
+    text: &mut String,
     service: &mut SameWords,
     turns: u64,
     link: &mut BurstLink<TimedMemoryLink>,
-) -> Result<Option<String>, AllocError> {
+) -> Result<bool, AllocError> {
     let ended = modbus_burst::process_link(
         alloc,
         link,
@@ -230,107 +225,122 @@ fn served_among_others(
         turns,
     );
     let link = link.link().link();
-    told(alloc, &ended, link.source(), link.sink(), service)
+    push_told(text, ended, link.source(), link.sink(), service)
 }
 
 /// The answer of the steps of a connection.
 fn answer_by_steps(
     alloc: Global,
+    text: &mut String,
     framing: &str,
     service: &mut SameWords,
     reads: &str,
     outside: &mut Outside,
-) -> Result<Option<String>, AllocError> {
+) -> Result<bool, AllocError> {
     match framing {
-        "rtu" => stepped::<Inbox>(alloc, service, reads, outside),
-        "tcp" => stepped::<AduBuffer>(alloc, service, reads, outside),
-        _ => Ok(None),
+        "rtu" => stepped::<Inbox>(alloc, text, service, reads, outside),
+        "tcp" => stepped::<AduBuffer>(alloc, text, service, reads, outside),
+        _ => Ok(false),
     }
 }
 
 /// The answer of a server over a source and a sink.
 fn answer_over_ends(
     alloc: Global,
+    text: &mut String,
     call: &str,
     framing: &str,
     service: &mut SameWords,
     turns: u64,
     outside: &mut Outside,
-) -> Result<Option<String>, AllocError> {
+) -> Result<bool, AllocError> {
     match call {
-        "serve" => served(alloc, framing, service, turns, outside),
-        "serve_lent" => served_by_lent(alloc, framing, service, turns, outside),
-        _ => Ok(None),
+        "serve" => served(alloc, text, framing, service, turns, outside),
+        "serve_lent" => served_by_lent(alloc, text, framing, service, turns, outside),
+        _ => Ok(false),
     }
 }
 
 /// The answer of a server over a link, which a signal stops after so many looks.
 fn answer_over_link(
     alloc: Global,
+    text: &mut String,
     call: &str,
     framing: &str,
     service: &mut SameWords,
     looks: u64,
     link: &mut MemoryLink,
-) -> Result<Option<String>, AllocError> {
+) -> Result<bool, AllocError> {
     match (call, framing) {
-        ("serve_until", "rtu") => served_until(alloc, service, looks, link),
-        ("work", "rtu") => worked::<Inbox>(alloc, service, looks, link),
-        ("work", "tcp") => worked::<AduBuffer>(alloc, service, looks, link),
-        _ => Ok(None),
+        ("serve_until", "rtu") => served_until(alloc, text, service, looks, link),
+        ("work", "rtu") => worked::<Inbox>(alloc, text, service, looks, link),
+        ("work", "tcp") => worked::<AduBuffer>(alloc, text, service, looks, link),
+        _ => Ok(false),
     }
 }
 
 /// The answer of a server over this outside.
 fn answer_over(
     alloc: Global,
+    text: &mut String,
     call: &str,
     framing: &str,
     service: &mut SameWords,
     turns: u64,
     mut outside: Outside,
-) -> Result<Option<String>, AllocError> {
+) -> Result<bool, AllocError> {
     match call {
         "serve" if framing == "burst" => {
-            served_among_others(alloc, service, turns, &mut burst_link(alloc, outside)?)
+            served_among_others(
+                alloc,
+                text,
+                service,
+                turns,
+                &mut burst_link(alloc, outside)?,
+            )
         }
         "polled_serve" => {
             let mut link = outside.into_polled_link(alloc)?;
-            served_by_polls(alloc, framing, service, turns, &mut link)
+            served_by_polls(alloc, text, framing, service, turns, &mut link)
         }
         "serve_until" | "work" => {
             let mut link = outside.into_link();
-            answer_over_link(alloc, call, framing, service, turns, &mut link)
+            answer_over_link(alloc, text, call, framing, service, turns, &mut link)
         }
-        _ => answer_over_ends(alloc, call, framing, service, turns, &mut outside),
+        _ => answer_over_ends(alloc, text, call, framing, service, turns, &mut outside),
     }
 }
 
 /// `serve`, `serve_lent`, `polled_serve`, `serve_until` or `work`; a framing; how many registers the service answers; how many reads may
 /// give bytes, or how often the signal is looked at before it is set; and the outside. `step`, with the steps in place of that number. Of
 /// `serve burst` the words `p8` say behind how many bytes the line is silent.
-pub fn answer(alloc: Global, call: &str, words: &[&str]) -> Result<Option<String>, AllocError> {
+pub fn answer(
+    alloc: Global,
+    text: &mut String,
+    call: &str,
+    words: &[&str],
+) -> Result<bool, AllocError> {
     let [framing, count, turns, words @ ..] = words else {
-        return Ok(None);
+        return Ok(false);
     };
     let Some(count) = number(count) else {
-        return Ok(None);
+        return Ok(false);
     };
     let mut service = SameWords::new(count);
     if call == "step" {
         return match read_outside(alloc, words)? {
             Some(mut outside) => {
-                answer_by_steps(alloc, framing, &mut service, turns, &mut outside)
+                answer_by_steps(alloc, text, framing, &mut service, turns, &mut outside)
             }
-            None => Ok(None),
+            None => Ok(false),
         };
     }
     let Some(turns) = number(turns) else {
-        return Ok(None);
+        return Ok(false);
     };
     let turns = u64::from(turns);
     match read_outside(alloc, words)? {
-        Some(outside) => answer_over(alloc, call, framing, &mut service, turns, outside),
-        None => Ok(None),
+        Some(outside) => answer_over(alloc, text, call, framing, &mut service, turns, outside),
+        None => Ok(false),
     }
 }

@@ -6,41 +6,58 @@ use std::process::ExitCode;
 
 /// What answers the calls of a table.
 pub trait Calls {
-    /// The answer to a call; none where there is no such call, or it has no such arguments.
+    /// Appends the answer to a call. False where there is no such call, or it has no such arguments.
     ///
     /// # Errors
     /// `AllocError` where memory is refused.
     fn answer(
         &self,
         alloc: Global,
+        text: &mut String,
         call: &str,
         words: &[&str],
-    ) -> Result<Option<String>, AllocError>;
+    ) -> Result<bool, AllocError>;
 }
 
-/// What stands for a line of the input in the output.
-fn answer_line<C: Calls>(calls: &C, alloc: Global, line: &str) -> Result<String, AllocError> {
+/// Appends the answer to the call that these words are, or that there is none.
+fn push_answer<C: Calls>(
+    calls: &C,
+    alloc: Global,
+    text: &mut String,
+    words: &[&str],
+) -> Result<(), AllocError> {
+    let Some((call, rest)) = words.split_first() else {
+        return text.push_str("no call");
+    };
+    if !calls.answer(alloc, text, call, rest)? {
+        text.push_str("no such call, or no such arguments")?;
+    }
+    Ok(())
+}
+
+/// Appends what stands for a line of the input in the output.
+fn push_line<C: Calls>(
+    calls: &C,
+    alloc: Global,
+    text: &mut String,
+    line: &str,
+) -> Result<(), AllocError> {
     if line.is_empty() || line.as_bytes()[0] == b'#' {
-        return String::from_str(alloc, line);
+        return text.push_str(line);
     }
     let mut words = Vec::new(alloc);
     for word in line.split_whitespace() {
         words.push(word)?;
     }
-    let Some((call, rest)) = words.split_first() else {
-        return String::from_str(alloc, "no call");
-    };
-    match calls.answer(alloc, call, rest)? {
-        Some(found) => Ok(found),
-        None => String::from_str(alloc, "no such call, or no such arguments"),
-    }
+    push_answer(calls, alloc, text, words.as_slice())
 }
 
 fn answer_lines<C: Calls>(rt: &HostRuntime, calls: &C) -> io::Result<()> {
     for line in rt.lines(rt.alloc()) {
         let line = line?;
-        let found = answer_line(calls, rt.alloc(), line.as_str())?;
-        println!(rt; "{found}")?;
+        let mut text = String::new(rt.alloc());
+        push_line(calls, rt.alloc(), &mut text, line.as_str())?;
+        println!(rt; "{text}")?;
     }
     Ok(())
 }

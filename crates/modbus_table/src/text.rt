@@ -81,20 +81,3 @@ pub fn push_outcome<T: Debug + Drop, E: Debug + Display + Drop>(
         Err(fault) => push_told(text, fault),
     }
 }
-
-/// The text of a byte string; `-` where it is empty.
-pub fn hex(alloc: Global, bytes: &[u8]) -> Result<String, AllocError> {
-    let mut text = String::new(alloc);
-    push_hex(&mut text, bytes)?;
-    Ok(text)
-}
-
-/// The text of a value.
-pub fn shown<T: Debug>(alloc: Global, value: &T) -> Result<Option<String>, AllocError> {
-    Ok(Some(format!(in alloc; "{value:?}")?))
-}
-
-/// The text of a fault: its value, and what it is told as.
-pub fn told<T: Debug + Display>(alloc: Global, fault: &T) -> Result<Option<String>, AllocError> {
-    Ok(Some(format!(in alloc; "Err({fault:?}): {fault}")?))
-}
