@@ -1,17 +1,11 @@
-//! Tests of the public calls of modbus_link: sources, sinks and links in memory, the adapters, links that may not be ready or tell
-//! silence, real connections on the loopback interface, and signals to stop.
+//! Tests of what no clause of modbus_link tells: what the adapters over std move, real connections on the loopback interface, silences,
+//! and a raised flag.
 #![tactic(auto)]
 
 #[cfg(test)]
 mod adapters;
 #[cfg(test)]
 mod check;
-#[cfg(test)]
-mod links;
-#[cfg(test)]
-mod memory;
-#[cfg(test)]
-mod polled;
 #[cfg(test)]
 mod silence;
 #[cfg(test)]

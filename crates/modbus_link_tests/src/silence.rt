@@ -1,10 +1,8 @@
 //! Links that tell silence.
 use crate::check::check;
-use crate::links::small_link;
 use crate::tcp::open_pair;
 use modbus_link::{
-    Link, Polled, PolledLink, ReadSource, TcpLink, TerminalLink, TimedLink, TimedMemoryLink,
-    TimedTcpLink, WriteSink,
+    Link, Polled, PolledLink, ReadSource, TcpLink, TerminalLink, TimedLink, TimedTcpLink, WriteSink,
 };
 use std::io::{Result as IoResult, Write};
 use std::net::TcpStream;
@@ -22,21 +20,6 @@ fn check_heard<R: Abort, L: TimedLink>(
     let mut room = [b'.'; 4];
     check(rt, link.poll_read(&mut room), Ok(wanted));
     check(rt, room, bytes);
-}
-
-fn check_silences<R: Abort>(rt: &R, link: &mut TimedMemoryLink) {
-    check_heard(rt, link, Polled::Ready(2), *b"ab..");
-    check_heard(rt, link, Polled::Pending, *b"....");
-    check_heard(rt, link, Polled::Pending, *b"....");
-    check_heard(rt, link, Polled::Ready(1), *b"c...");
-    check_heard(rt, link, Polled::Ready(0), *b"....");
-}
-
-#[test]
-fn a_link_in_memory_is_silent_where_that_was_said(rt: HostRuntime) -> Result<(), Fail> {
-    let link = small_link(rt.alloc(), 4, &[])?;
-    check_silences(&rt, &mut TimedMemoryLink::new(rt.alloc(), link, &[2, 2])?);
-    Ok(())
 }
 
 fn check_terminal<R: Abort>(rt: &R, link: &mut TerminalLink<&[u8], &mut [u8]>) {

@@ -195,22 +195,25 @@ fn accepting<'l>(
     Ok(MemoryAcceptor::new(links))
 }
 
+/// Two links, each of which asks for one register.
+fn two_links(alloc: Global) -> Result<(MemoryLink, MemoryLink), AllocError> {
+    Ok((
+        link_of(alloc, &READ_ONE, &[])?,
+        link_of(alloc, &READ_ONE, &[])?,
+    ))
+}
+
 /// How a listener over two links ended whose workers run after it, and what these read then.
 fn served_late<R: Wait>(
     rt: &R,
     alloc: Global,
+    near: &mut MemoryLink,
+    far: &mut MemoryLink,
     room: usize,
     looks: u64,
 ) -> Result<(Result<Terminated, ServeError<u8>>, usize, usize), AllocError> {
-    let mut near = link_of(alloc, &READ_ONE, &[])?;
-    let mut far = link_of(alloc, &READ_ONE, &[])?;
-    let answer = serve_late(
-        rt,
-        alloc,
-        accepting(alloc, &mut near, &mut far)?,
-        room,
-        looks,
-    );
+    let acceptor = accepting(alloc, &mut *near, &mut *far)?;
+    let answer = serve_late(rt, alloc, acceptor, room, looks);
     Ok((answer, near.source().given(), far.source().given()))
 }
 
@@ -223,7 +226,9 @@ fn a_worker_that_runs_late_finds_its_flag_raised(rt: HostRuntime) -> Result<(), 
         (2, 9, Err(ServeError::AcceptFault)),
         (2, 1, Ok(Terminated::Aborted)),
     ] {
-        check(&rt, served_late(&rt, alloc, room, looks)?, (end, 0, 0));
+        let (mut near, mut far) = two_links(alloc)?;
+        let found = served_late(&rt, alloc, &mut near, &mut far, room, looks)?;
+        check(&rt, found, (end, 0, 0));
     }
     Ok(())
 }
@@ -384,20 +389,18 @@ fn is_sent(link: &MemoryLink) -> bool {
 fn served_both<R: Threads + Wait>(
     rt: &R,
     alloc: Global,
+    near: &mut MemoryLink,
+    far: &mut MemoryLink,
 ) -> Result<(Result<(), ServeError<u8>>, bool, bool), AllocError> {
-    let mut near = link_of(alloc, &READ_ONE, &[])?;
-    let mut far = link_of(alloc, &READ_ONE, &[])?;
-    let answer = served_at_once(rt, alloc, &mut near, &mut far)?;
-    Ok((answer, is_sent(&near), is_sent(&far)))
+    let answer = served_at_once(rt, alloc, &mut *near, &mut *far)?;
+    Ok((answer, is_sent(near), is_sent(far)))
 }
 
 #[test]
 fn two_connections_at_once(rt: HostRuntime) -> Result<(), Fail> {
-    check(
-        &rt,
-        served_both(&rt, rt.alloc())?,
-        (Err(ServeError::AcceptFault), true, true),
-    );
+    let (mut near, mut far) = two_links(rt.alloc())?;
+    let found = served_both(&rt, rt.alloc(), &mut near, &mut far)?;
+    check(&rt, found, (Err(ServeError::AcceptFault), true, true));
     Ok(())
 }
 
