@@ -18,23 +18,13 @@ import sys
 import tempfile
 import time
 
+from listen import built, free_port
+
 HERE = os.path.dirname(os.path.abspath(__file__))
 PROGRAM = os.path.join(os.path.dirname(HERE), "crates", "modbus_serial_gateway", "out", "modbus_serial_gateway")
 CONNECTIONS = (1, 8, 32)
 REQUESTS = 5_000
 TURNS = 3
-
-
-def built(folder, place, *libraries):
-    program = os.path.join(folder, os.path.basename(place))
-    source = os.path.join(HERE, place + ".c")
-    subprocess.run(["gcc", "-O2", "-Wall", "-o", program, source, *libraries], check=True)
-    return program
-
-
-def free_port():
-    with socket.create_server(("127.0.0.1", 0)) as listener:
-        return listener.getsockname()[1]
 
 
 @contextlib.contextmanager

@@ -38,9 +38,10 @@ def halves():
     return all_of_them[:middle], all_of_them[middle:] or all_of_them
 
 
-def built(folder, name, *libraries):
-    program = os.path.join(folder, name)
-    source = os.path.join(HERE, "listen", name + ".c")
+def built(folder, place, *libraries):
+    """The program of this C file, made in the folder."""
+    program = os.path.join(folder, os.path.basename(place))
+    source = os.path.join(HERE, place + ".c")
     subprocess.run(["gcc", "-O2", "-Wall", "-o", program, source, *libraries], check=True)
     return program
 
@@ -126,7 +127,7 @@ def main():
     requests = int(sys.argv[1]) if len(sys.argv) > 1 else REQUESTS
     of_server, of_load = halves()
     with tempfile.TemporaryDirectory() as folder:
-        load, peer = built(folder, "load"), built(folder, "peer", "-lmodbus")
+        load, peer = built(folder, "listen/load"), built(folder, "listen/peer", "-lmodbus")
         commands = (("modbus_loop", LOOP, "tcp"), ("listen-tcp", THREADS, "listen-tcp"), ("libmodbus", peer))
         print("each: requests a second, microseconds a request in user and in system mode, KiB resident")
         print("connections | " + " | ".join(f"{name:>34}" for name, *_ in commands), flush=True)
