@@ -13,9 +13,9 @@ use crate::words::{DEFAULT_SIZE, Form, Mode};
 use arrayvec::ArrayString;
 use bytes::BytesMut;
 use itoa::Buffer;
-use modbus_frame::{EncodeError, Request, SlaveId};
+use modbus_frame::{EncodeError, Request, RequestPdu, SlaveId, rtu};
 use modbus_link::{MemorySink, MemorySource, Sink, write_all};
-use modbus_rtu::{MAX_FRAME, encode_request_frame};
+use modbus_rtu::{ClientCodec, MAX_FRAME};
 use modbus_server::{ProcessError, rtu_over_tcp};
 use std::alloc::{AllocError, Global};
 
@@ -58,12 +58,21 @@ fn request_by(x: u32) -> Request<'static>
 }
 
 /// Appends the frame of the request that a number makes.
-fn push_frame(alloc: Global, x: u32, frames: &mut BytesMut) -> Result<(), AllocError>
+fn push_frame(
+    alloc: Global,
+    codec: &mut ClientCodec,
+    x: u32,
+    frames: &mut BytesMut,
+) -> Result<(), AllocError>
     ensures { OnOk result (frames.new.items
         ≡ frames.old.items ++ frame made_slave (request_pdu (request_by x))) }
 {
     modbus_pdu::requests_have_sizes();
-    match encode_request_frame(alloc, SLAVE, &request_by(x), frames) {
+    let request = rtu::RequestAdu {
+        hdr: rtu::Header { slave_id: SLAVE },
+        pdu: RequestPdu(request_by(x)),
+    };
+    match codec.encode(alloc, request, frames) {
         Ok(()) => Ok(()),
         Err(EncodeError::NoMemory) => Err(AllocError),
         Err(EncodeError::TooLong(_)) => unreachable!(),
@@ -76,10 +85,11 @@ fn frames(alloc: Global, count: u32) -> Result<BytesMut, AllocError>
     ensures { IfOk result (λ frames. frames.items ≡ line_made count) }
 {
     let mut frames = BytesMut::with_capacity(alloc, REQUEST_SIZE * count as usize)?;
+    let mut codec = ClientCodec::new();
     let mut x = 1;
     for _made in 0..count {
         x = next_number(x);
-        push_frame(alloc, x, &mut frames)?;
+        push_frame(alloc, &mut codec, x, &mut frames)?;
     }
     Ok(frames)
 }

@@ -1,8 +1,8 @@
 -- What is written of a request, and what a call makes of one that was not sent.
-use Rattle.std.proofs.Common.{◌≡◌, ◌↔◌, inl, ℕ, ◌<◌, List, [], ◌++◌, length, drop, Result, Ok, Err, refl, sym, ap, ◌∙◌, arith, append-nil}
+use Rattle.std.proofs.Common.{◌≡◌, ◌↔◌, inl, ℕ, ◌<◌, List, [], length, Result, Err, refl, sym, ap, ◌∙◌, arith}
 use Rattle.std.specs.Prelude.{IfErr}
 use Rattle.modbus_link.specs.Outside.{Outside, outside, Input, Output, Rose}
-use Rattle.modbus_link.specs.Passes.{Passes, Sends, passes_none, passes_out}
+use Rattle.modbus_link.specs.Passes.{Passes, passes_none}
 use Rattle.modbus_link.specs.Reads.{Spends}
 use Rattle.modbus_frame.specs.Meaning.{Asked, function_asked}
 use Rattle.modbus_frame.specs.declared.fault.Error.{Error}
@@ -16,8 +16,7 @@ use Rattle.modbus_client.specs.Protocol.{Protocol, waiting}
 use Rattle.modbus_client.specs.Matches.{Answer}
 use Rattle.modbus_client.specs.Sends.{WritesRequest, IsOfSending}
 use Rattle.modbus_client.specs.Calls.{CallEndsAs, CallEndsRead, CameLast, call_spending, Sent, Exchanged, CountsDropped}
-use Rattle.modbus_client.specs.Call.{CallState}
-use Rattle.modbus_client.specs.Polled.{IsRefusedCall, OpensCallState}
+use Rattle.modbus_client.specs.Polled.{IsRefusedCall}
 
 -- an exchange with the count of the messages that it dropped, as one fact
 pub record Counted {H : Type 0} (P : Protocol H) (from to : Outside) (header : H) (asked : Asked) (turns : ℕ) (held : List ℕ) (dropped : ℕ) (answer : Answer) : Type 0 where
@@ -71,23 +70,6 @@ module _ (X : Type 0) {H : Type 0} (P : Protocol H) (header : H) (asked : Asked)
   sent_refused a k (Transport (transport.RequestTooLong size)) refused = sent_long a k size refused.0 refused.1
   sent_refused a k (Transport _) refused = absurd refused
   sent_refused a k NoMemory refused = sent_wanting a k refused
-
-  -- a call was opened, and these bytes of its request were written
-  module _ (call : CallState) (opened : OpensCallState P header asked 0 (Ok call)) (bytes : List ℕ) (n : ℕ) (is : bytes ≡ call.unwritten) (a b : Input) (k m : Output) (same : b ≡ a) (sends : Sends k m bytes (drop n bytes)) where
-    request_sent : P.adu header (request_pdu asked) ≡ sends.sent ++ drop n bytes
-    request_sent = sym opened.asks.request ∙ opened.goes.stands.wrote ∙ sym is ∙ sends.splits
-
-    passes_sent : Passes (outside a k) (outside b m) [] [] sends.sent
-    passes_sent = passes_out (outside a k) (outside b m) sends.sent same sends.sink sends.wrote
-
-    pub sent_whole : (x : X) → drop n bytes ≡ [] → Sent P (outside a k) (outside b m) header asked held (Ok x)
-    sent_whole x none =
-        sent_fit a b k m (Ok x) sends.sent opened.fits same passes_sent tt (λ size e. cc)
-        (sym (append-nil sends.sent) ∙ ap (λ w. sends.sent ++ w) (sym none) ∙ sym request_sent) (λ e. cc)
-
-    pub sent_front : Rose k.faults m.faults → Sent {X = X} P (outside a k) (outside b m) header asked held (Err (Transport transport.WriteFault))
-    sent_front rose =
-        sent_fit a b k m (Err (Transport transport.WriteFault)) sends.sent opened.fits same passes_sent tt (λ size e. cc) (drop n bytes, request_sent) (λ e. rose)
 
 -- a request that was not sent is the whole call
 module _ (X : Type 0) {H : Type 0} (P : Protocol H) (opening : (seen : HeaderSeen) → P.Finds seen [] [] (waiting [])) (a b : Input) (k m : Output) (header : H) (asked : Asked) (turns : ℕ) (held : List ℕ) where

@@ -1,10 +1,10 @@
 -- One write, and one read whose bytes are fed.
-use Rattle.std.proofs.Common.{◌≡◌, inl, inr, ℕ, ◌<◌, ◌≤◌, List, [], ◌∷◌, ◌++◌, length, take, drop, Option, Some, None, Result, Ok, Err, refl, sym, ap, ◌∙◌, subst, arith, append-nil, length-append, IsTrue}
+use Rattle.std.proofs.Common.{◌≡◌, inl, inr, ℕ, ◌<◌, ◌≤◌, List, [], ◌∷◌, ◌++◌, length, take, Option, Some, None, Result, Ok, Err, refl, sym, ap, ◌∙◌, subst, arith, append-nil, length-append, IsTrue}
 use Rattle.std.proofs.lemmas.List.{length-take-le}
 use Rattle.modbus_link.specs.declared.outside.Cut.{Cut}
 use Rattle.modbus_link.specs.Outside.{cut_at, outside, Input, Output, Rose, Advances, ReadIsTold, bytes_read, cuts_made}
 use Rattle.modbus_link.specs.Runs.{one_cut-one, one_cut-none}
-use Rattle.modbus_link.specs.Passes.{Passes, Sends, passes_in, passes_none, rises_one}
+use Rattle.modbus_link.specs.Passes.{Passes, passes_in, passes_none, rises_one}
 use Rattle.bytes.specs.Filled.{Filled}
 use Rattle.modbus_frame.specs.declared.code.FunctionCode.{FunctionCode}
 use Rattle.modbus_frame.specs.declared.fault.Error.TheVariants.{Protocol as protocol, Transport, NoMemory}
@@ -21,18 +21,9 @@ use Rattle.modbus_client.specs.Calls.{CallEndsAs, TurnsAs, TurnSpends, TurnEnds,
 pub roomier : (call : CallAlone) (old new : Filled) → new.items ≡ old.items → holding call new ≡ record (holding call old) { free = new.spare }
 roomier call old new e = ap (λ (bytes : List ℕ). record (holding call old) { held = bytes; free = new.spare }) e
 
--- a call of whose request more was written, from the bytes that were unwritten
-module _ (old new : CallAlone) (bytes : List ℕ) (n : ℕ) (is : bytes ≡ old.unwritten) (wrote : new ≡ record old { unwritten = drop n old.unwritten }) where
-  pub left_unwritten : new.unwritten ≡ drop n bytes
-  left_unwritten = ap (λ (s : CallAlone). s.unwritten) wrote ∙ ap (drop n) (sym is)
-
-  pub sends_unwritten : (k m : Output) → Sends k m bytes (drop n bytes) → Sends k m old.unwritten new.unwritten
-  sends_unwritten k m sends = subst (λ w. Sends k m old.unwritten w) (sym left_unwritten) (subst (λ w. Sends k m w (drop n bytes)) is sends)
-
-  pub still_holding : (buffer : Filled) → holding new buffer ≡ record (holding old buffer) { unwritten = new.unwritten }
-  still_holding buffer =
-      ap (λ (call : CallAlone). holding call buffer) wrote
-      ∙ ap (λ w. record (holding old buffer) { unwritten = w }) (sym (ap (λ (s : CallAlone). s.unwritten) wrote))
+-- a call of whose request more was written
+pub still_holding : (old new : CallAlone) (buffer : Filled) → new ≡ record old { unwritten = new.unwritten } → holding new buffer ≡ record (holding old buffer) { unwritten = new.unwritten }
+still_holding old new buffer e = ap (λ (call : CallAlone). holding call buffer) e
 
 pub same_call : (old new : CallState) (n : ℕ) → new ≡ record old { free = n } → IsSameCall old new
 same_call old new n e = record {

@@ -12,7 +12,7 @@ use crate::call::{Call, ROOM};
 use crate::protocol::Protocol;
 use bytes::BytesMut;
 use modbus_frame::{EncodeError, Error, Request, Response, Result, TransportError};
-use modbus_link::{Failed, Polled, PolledLink, Sink, Source, flush};
+use modbus_link::{Failed, Polled, PolledLink, Sink, Source};
 use std::alloc::Global;
 
 /// Reads once, where the link is ready, and feeds what the read gave; `None` where the call waits for more.
@@ -61,9 +61,7 @@ pub(crate) fn poll<P: Protocol, L: PolledLink>(
         (L.not_ready link.new) (holding call.old held.old) (holding call.new held.new) result }
     ensures line { L.line link.new ≡ L.line link.old }
 {
-    let (count, flushed) = flush(link, call.to_write());
-    call.wrote(count);
-    match flushed {
+    match call.flush(link) {
         Err(Failed) => {
             return Polled::Ready(Err(Error::Transport(TransportError::WriteFault)));
         }
@@ -117,8 +115,8 @@ pub(crate) fn send<P: Protocol, L: Source + Sink>(
         result }
     ensures line { L.line link.new ≡ L.line link.old }
 {
-    let call = open::<P>(alloc, header, request, 0, held)?;
-    match flush(link, call.to_write()).1 {
+    let mut call = open::<P>(alloc, header, request, 0, held)?;
+    match call.flush(link) {
         Ok(Polled::Ready(())) => Ok(()),
         Ok(Polled::Pending) => unreachable!(),
         Err(Failed) => Err(Error::Transport(TransportError::WriteFault)),

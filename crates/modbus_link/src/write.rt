@@ -27,29 +27,32 @@ pub fn write_all<K: Sink>(sink: &mut K, bytes: &[u8]) -> Result<(), Failed>
     Ok(())
 }
 
-/// Writes a front of these bytes, as far as the link is ready. It answers how many bytes it wrote, and how the last write ended: the
-/// link is not ready only where bytes are left.
+/// Writes what was not written yet of these bytes, as far as the link is ready, and counts on what it wrote. The link is not ready only
+/// where bytes are left.
 ///
 /// # Errors
 /// `Failed`, only where the link's count of write faults rose; then bytes are left.
-pub fn flush<L: PolledLink>(link: &mut L, bytes: &[u8]) -> (usize, Result<Polled<()>, Failed>)
-    ensures within { result.0 ≤ length bytes.now }
-    ensures sends { Sends (L.output link.old) (L.output link.new) bytes.now
-        (drop result.0 bytes.now) }
-    ensures all { IsFlushed (drop result.0 bytes.now) result.1 }
-    ensures cause { OnErr result.1 (Rose (L.output link.old).faults (L.output link.new).faults) }
-    ensures waited { Waited result.1 (L.not_ready link.old) (L.not_ready link.new) }
+pub fn flush<L: PolledLink>(
+    link: &mut L,
+    bytes: &[u8],
+    written: &mut usize,
+) -> Result<Polled<()>, Failed>
+    requires { written.old ≤ length bytes.now }
+    ensures within { written.new ≤ length bytes.now }
+    ensures sends { Sends (L.output link.old) (L.output link.new) (drop written.old bytes.now)
+        (drop written.new bytes.now) }
+    ensures all { IsFlushed (drop written.new bytes.now) result }
+    ensures cause { OnErr result (Rose (L.output link.old).faults (L.output link.new).faults) }
+    ensures waited { Waited result (L.not_ready link.old) (L.not_ready link.new) }
     ensures later { L.not_ready link.old ≤ L.not_ready link.new }
     ensures source { L.input link.new ≡ L.input link.old }
     ensures line { L.line link.new ≡ L.line link.old }
 {
-    let mut written = 0;
-    while written < bytes.len() {
-        match link.poll_write(&bytes[written..]) {
-            Err(Failed) => return (written, Err(Failed)),
-            Ok(Polled::Pending) => return (written, Ok(Polled::Pending)),
-            Ok(Polled::Ready(count)) => written += count,
+    while *written < bytes.len() {
+        match link.poll_write(&bytes[*written..])? {
+            Polled::Pending => return Ok(Polled::Pending),
+            Polled::Ready(count) => *written += count,
         }
     }
-    (written, Ok(Polled::Ready(())))
+    Ok(Polled::Ready(()))
 }

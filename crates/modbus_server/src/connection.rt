@@ -2,7 +2,8 @@
 ghost use Rattle.std.specs.Prelude.{◌≡◌, ◌↔◌, ℕ, ◌+◌, ◌<◌, ◌≤◌, List, [], false, length, drop, IsTrue, Err, IfOk, OnOk, OnErr};
 ghost use Rattle.modbus_pdu.specs.Message.{Message};
 ghost use Rattle.modbus_link.specs.Outside.{Rose, front_of};
-ghost use Rattle.modbus_link.specs.Polled.{Waited, at_once};
+ghost use Rattle.modbus_link.specs.Passes.{Sends};
+ghost use Rattle.modbus_link.specs.Polled.{Waited, at_once, IsFlushed};
 ghost use Rattle.modbus_link.specs.Reads.{ReadsPiece};
 ghost use Rattle.modbus_server.specs.Exchanges.{Exchange};
 ghost use Rattle.modbus_server.specs.Served.{Past, Stands, NextTakesMemory};
@@ -14,7 +15,7 @@ use crate::error::{Next, NextError};
 use crate::framing::Framing;
 use bytes::BytesMut;
 use modbus_frame::Front;
-use modbus_link::{Failed, Polled, PolledLink};
+use modbus_link::{Failed, Polled, PolledLink, flush};
 use modbus_service::Answerer;
 use std::alloc::{AllocError, Global};
 use std::marker::Model;
@@ -266,6 +267,23 @@ impl<I: Framing> Connection<I> {
         ensures later { L.not_ready link.old ≤ L.not_ready link.new }
     {
         fill_from(&mut self.intake, self.buffer.as_mut_slice(), link)
+    }
+
+    /// Writes what waits, as far as the link is ready.
+    ///
+    /// # Errors
+    /// `Failed`, only where the link's count of write faults rose; then something waits still.
+    pub(crate) fn flush<L: PolledLink>(&mut self, link: &mut L) -> Result<Polled<()>, Failed>
+        ensures source { L.input link.new ≡ L.input link.old }
+        ensures keeps { self.new ≡ record self.old { waiting = self.new.waiting } }
+        ensures sends { Sends (L.output link.old) (L.output link.new) self.old.waiting
+            self.new.waiting }
+        ensures all { IsFlushed self.new.waiting result }
+        ensures cause { OnErr result (Rose (L.output link.old).faults (L.output link.new).faults) }
+        ensures waited { Waited result (L.not_ready link.old) (L.not_ready link.new) }
+        ensures later { L.not_ready link.old ≤ L.not_ready link.new }
+    {
+        flush(link, self.reply.as_slice(), &mut self.written)
     }
 
     /// The input has ended: whether nothing is held.

@@ -11,7 +11,7 @@ ghost use Rattle.modbus_server.specs.Moment.{moment};
 use crate::connection::Connection;
 use crate::error::{Next, NextError, ProcessError, Step};
 use crate::framing::Framing;
-use modbus_link::{Both, Failed, Polled, PolledLink, Sink, Source, flush};
+use modbus_link::{Both, Failed, Polled, PolledLink, Sink, Source};
 use modbus_service::Answerer;
 use std::alloc::Global;
 
@@ -45,9 +45,7 @@ pub(crate) fn send<I: Framing, L: PolledLink>(
     ensures waited { Waited result (L.not_ready link.old) (L.not_ready link.new) }
     ensures later { L.not_ready link.old ≤ L.not_ready link.new }
 {
-    let (count, flushed) = flush(link, connection.to_write());
-    connection.wrote(count);
-    match flushed {
+    match connection.flush(link) {
         Ok(Polled::Ready(())) => Ok(Polled::Ready(Step::Answered)),
         Ok(Polled::Pending) => Ok(Polled::Pending),
         Err(Failed) => {

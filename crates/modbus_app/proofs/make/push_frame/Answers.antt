@@ -6,5 +6,5 @@ use Rattle.modbus_app.proofs.make.push_frame.Goals as goal
 
 pub unreachable-requires : goal.unreachable-requires
 unreachable-requires c =
-    let refused = rw c.in-Err-TooLong.field-0-is at c.in-Err-TooLong.ensures.cause in
+    let refused = rw c.in-Err-TooLong.field-0-is at c.in-Err-TooLong.ensures.encodes.cause in
     omega (arith, refused.0, size_made c.requests_have_sizes.ensures c.args.x, ap (λ (r : Asked). length (request_pdu r)) c.request_by.ensures)

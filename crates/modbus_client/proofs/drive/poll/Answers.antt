@@ -1,38 +1,24 @@
-use Rattle.std.proofs.Common.{sym, ◌∙◌, arith, refl}
+use Rattle.std.proofs.Common.{◌∙◌, arith, refl}
 use Rattle.modbus_client.proofs.Polling.{flushed_all, flushed_some, flush_failed, polled_idle, polled_answer, goes_on, out_of_turns}
 use Rattle.modbus_client.specs.Call.{holding}
-use Rattle.modbus_client.proofs.Turning.{left_unwritten, sends_unwritten, still_holding}
+use Rattle.modbus_client.proofs.Turning.{still_holding}
 use Rattle.modbus_client.proofs.drive.poll.Goals as goal
 
 pub returns-in-Err-clause-polled : goal.returns-in-Err-clause-polled
 returns-in-Err-clause-polled g c =
-    let found = rw c.in-Err.is at c.flush-count.ensures in
-    let left = left_unwritten c.args.call.now c.wrote.new.self c.to_write.result.now c.flush-count.result.0 c.to_write.ensures c.wrote.ensures in
-    flush_failed g.P.Protocol.protocol _ _ _ _ _ _ (holding c.args.call.now c.args.held.now) (holding c.wrote.new.self c.args.held.now) found.source
-    (sends_unwritten c.args.call.now c.wrote.new.self c.to_write.result.now c.flush-count.result.0 c.to_write.ensures c.wrote.ensures _ _ found.sends)
-    (still_holding c.args.call.now c.wrote.new.self c.to_write.result.now c.flush-count.result.0 c.to_write.ensures c.wrote.ensures c.args.held.now)
-    found.later (λ none. found.all (sym left ∙ none)) found.cause
+    flush_failed g.P.Protocol.protocol _ _ _ _ _ _ (holding c.args.call.now c.args.held.now) (holding c.flush.new.self c.args.held.now) c.flush.ensures.source c.flush.ensures.sends (still_holding c.args.call.now c.flush.new.self c.args.held.now c.flush.ensures.keeps) c.flush.ensures.later c.in-Err.ensures.all c.in-Err.ensures.cause
 
 pub returns-in-Ok-Pending-clause-polled : goal.returns-in-Ok-Pending-clause-polled
 returns-in-Ok-Pending-clause-polled g c =
-    let value = rw c.in-Ok-Pending.is at c.in-Ok-Pending.field-0-is in
-    let found = rw (c.in-Ok-Pending.is, value) at c.flush-count.ensures in
-    flushed_some g.P.Protocol.protocol _ _ _ _ _ _ (holding c.args.call.now c.args.held.now) (holding c.wrote.new.self c.args.held.now) found.source
-    (sends_unwritten c.args.call.now c.wrote.new.self c.to_write.result.now c.flush-count.result.0 c.to_write.ensures c.wrote.ensures _ _ found.sends)
-    (still_holding c.args.call.now c.wrote.new.self c.to_write.result.now c.flush-count.result.0 c.to_write.ensures c.wrote.ensures c.args.held.now)
-    found.later found.waited
+    let found = rw c.in-Ok-Pending.field-0-is at c.in-Ok-Pending.ensures in
+    flushed_some g.P.Protocol.protocol _ _ _ _ _ _ (holding c.args.call.now c.args.held.now) (holding c.flush.new.self c.args.held.now) c.flush.ensures.source c.flush.ensures.sends (still_holding c.args.call.now c.flush.new.self c.args.held.now c.flush.ensures.keeps) c.flush.ensures.later found.waited
 
 pub turns-init : goal.turns-init
 turns-init g c =
-    let value = rw c.in-Ok-Ready.is at c.in-Ok-Ready.field-0-is in
-    let found = rw (c.in-Ok-Ready.is, value) at c.flush-count.ensures in
-    let left = left_unwritten c.args.call.now c.wrote.new.self c.to_write.result.now c.flush-count.result.0 c.to_write.ensures c.wrote.ensures in
+    let found = rw c.in-Ok-Ready.field-0-is at c.in-Ok-Ready.ensures in
     record {
-      going = flushed_all g.P.Protocol.protocol _ _ _ _ _ _ (holding c.args.call.now c.args.held.now) (holding c.wrote.new.self c.args.held.now) found.source
-          (sends_unwritten c.args.call.now c.wrote.new.self c.to_write.result.now c.flush-count.result.0 c.to_write.ensures c.wrote.ensures _ _ found.sends)
-          (still_holding c.args.call.now c.wrote.new.self c.to_write.result.now c.flush-count.result.0 c.to_write.ensures c.wrote.ensures c.args.held.now)
-          found.later (left ∙ found.all);
-      line = found.line;
+      going = flushed_all g.P.Protocol.protocol _ _ _ _ _ _ (holding c.args.call.now c.args.held.now) (holding c.flush.new.self c.args.held.now) c.flush.ensures.source c.flush.ensures.sends (still_holding c.args.call.now c.flush.new.self c.args.held.now c.flush.ensures.keeps) c.flush.ensures.later found.all;
+      line = c.flush.ensures.line;
     }
 
 pub returns-in-Pending-clause-polled : goal.returns-in-Pending-clause-polled
