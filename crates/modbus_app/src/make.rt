@@ -32,6 +32,9 @@ const DEVICE: Form = Form {
     seeded: false,
 };
 
+/// How many bytes are summed at a time in a `u32`, which takes half the instructions that it takes in a `u64`.
+const PIECE: usize = 65_536;
+
 /// The length of the longest summary.
 const SUMMARY: usize = 80;
 
@@ -141,12 +144,27 @@ fn serve_made(alloc: Global, count: u32) -> Result<MemorySink, AllocError>
     }
 }
 
+/// The sum of a piece, which a `u32` holds.
+fn sum_of_piece(piece: &[u8]) -> u32
+    requires { length piece.now ≤ 2 ^ 24 }
+    ensures { result ≡ sum piece.now }
+{
+    piece.iter().map(|byte| u32::from(*byte)).sum()
+}
+
 /// The sum of some bytes.
 fn sum_of(bytes: &[u8]) -> u64
     requires { length bytes.now ≤ 2 ^ 32 }
     ensures { result ≡ sum bytes.now }
 {
-    bytes.iter().map(|byte| u64::from(*byte)).sum()
+    let mut sum = 0;
+    let mut rest = bytes;
+    while !rest.is_empty() {
+        let (piece, more) = rest.split_at(rest.len().min(PIECE));
+        sum += u64::from(sum_of_piece(piece));
+        rest = more;
+    }
+    sum
 }
 
 /// Appends a text for which there is room.
