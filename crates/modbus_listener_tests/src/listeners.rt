@@ -217,19 +217,36 @@ fn served_late<R: Wait>(
     Ok((answer, near.source().given(), far.source().given()))
 }
 
+/// The same over links of its own.
+fn ended_late<R: Wait>(
+    rt: &R,
+    alloc: Global,
+    room: usize,
+    looks: u64,
+) -> Result<(Result<Terminated, ServeError<u8>>, usize, usize), AllocError> {
+    let (mut near, mut far) = two_links(alloc)?;
+    served_late(rt, alloc, &mut near, &mut far, room, looks)
+}
+
 /// A listener raises the flag of its workers however it ends: one that runs after it serves nothing.
 #[test]
 fn a_worker_that_runs_late_finds_its_flag_raised(rt: HostRuntime) -> Result<(), Fail> {
     let alloc = rt.alloc();
-    for (room, looks, end) in [
-        (1, 9, Err(ServeError::SpawnFault)),
-        (2, 9, Err(ServeError::AcceptFault)),
-        (2, 1, Ok(Terminated::Aborted)),
-    ] {
-        let (mut near, mut far) = two_links(alloc)?;
-        let found = served_late(&rt, alloc, &mut near, &mut far, room, looks)?;
-        check(&rt, found, (end, 0, 0));
-    }
+    check(
+        &rt,
+        ended_late(&rt, alloc, 1, 9)?,
+        (Err(ServeError::SpawnFault), 0, 0),
+    );
+    check(
+        &rt,
+        ended_late(&rt, alloc, 2, 9)?,
+        (Err(ServeError::AcceptFault), 0, 0),
+    );
+    check(
+        &rt,
+        ended_late(&rt, alloc, 2, 1)?,
+        (Ok(Terminated::Aborted), 0, 0),
+    );
     Ok(())
 }
 
@@ -396,11 +413,22 @@ fn served_both<R: Threads + Wait>(
     Ok((answer, is_sent(near), is_sent(far)))
 }
 
+/// The same over links of its own.
+fn served_both_at_once<R: Threads + Wait>(
+    rt: &R,
+    alloc: Global,
+) -> Result<(Result<(), ServeError<u8>>, bool, bool), AllocError> {
+    let (mut near, mut far) = two_links(alloc)?;
+    served_both(rt, alloc, &mut near, &mut far)
+}
+
 #[test]
 fn two_connections_at_once(rt: HostRuntime) -> Result<(), Fail> {
-    let (mut near, mut far) = two_links(rt.alloc())?;
-    let found = served_both(&rt, rt.alloc(), &mut near, &mut far)?;
-    check(&rt, found, (Err(ServeError::AcceptFault), true, true));
+    check(
+        &rt,
+        served_both_at_once(&rt, rt.alloc())?,
+        (Err(ServeError::AcceptFault), true, true),
+    );
     Ok(())
 }
 

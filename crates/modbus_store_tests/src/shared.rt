@@ -204,18 +204,32 @@ fn open_jobs<'t, R: Wait>(
     Some(jobs)
 }
 
-/// How many calls the pass has seen that has seen the most, and the history.
+/// How many calls the pass has seen that has seen the most of those that are made at one time.
+fn seen_by_all<R: Threads + Wait + Clock + Sync>(
+    rt: &R,
+    alloc: Global,
+    table: &StoreTable,
+    first: &mut StorePass,
+) -> Option<u64>
+    requires { IsPassOf table.now first.old }
+    ensures { IsPassOf table.now first.new }
+{
+    let met = AtomicU32::new(0);
+    let jobs = open_jobs(rt, alloc, table, first, &met)?;
+    work_at_once(rt, alloc, jobs)
+}
+
+/// The same over a table of its own, and the history.
 fn calls_of_all<R: Threads + Wait + Clock + Sync>(rt: &R, alloc: Global) -> Option<(u64, History)> {
     let store = RegisterStore::new(alloc, SIZES, false).ok()?;
     let (table, mut first) = StoreTable::open(alloc, store).ok()?;
-    let met = AtomicU32::new(0);
-    let seen = work_at_once(rt, alloc, open_jobs(rt, alloc, &table, &mut first, &met)?)?;
+    let seen = seen_by_all(rt, alloc, &table, &mut first);
     let ClosedStore {
         store: _,
         history,
         last: _,
     } = table.close(rt, first);
-    Some((seen, history?))
+    Some((seen?, history?))
 }
 
 /// Fails where the history is not each call of each pass, in its order.
