@@ -5,16 +5,11 @@ use crate::device::Device;
 use clap::ArgMatches;
 use modbus_command::{FAILED, USAGE, why_no_point};
 use modbus_frame::{Address, Coil, Slave, Word};
+use modbus_pdu::{MAX_WRITE_COILS, MAX_WRITE_REGISTERS};
 use modbus_poll::{Item, Point, Table, parse_point};
 use std::alloc::{AllocError, AllocFailed, Global};
 use std::fmt;
 use std::time::Duration;
-
-/// The most registers of a write (V1.1b3, section 6.12).
-const MOST_WORDS: usize = 123;
-
-/// The most coils of a write (V1.1b3, section 6.11).
-const MOST_COILS: usize = 1968;
 
 /// How many addresses there are.
 const ADDRESSES: usize = 0x1_0000;
@@ -221,7 +216,7 @@ pub fn registers<'a>(
     let first = matches.get_one("first").unwrap_or(0);
     let mut values = Vec::new(alloc);
     let words = matches.get_strs("values").unwrap_or(&[]);
-    if let Some(word) = words.get(MOST_WORDS) {
+    if let Some(word) = words.get(MAX_WRITE_REGISTERS) {
         return Err(Refusal::Word {
             word,
             why: "one write has at most 123 registers",
@@ -251,7 +246,7 @@ pub fn coils<'a>(alloc: Global, matches: &ArgMatches<'a>) -> Result<WriteTask<Co
     let first = matches.get_one("first").unwrap_or(0);
     let mut states = Vec::new(alloc);
     let words = matches.get_strs("states").unwrap_or(&[]);
-    if let Some(word) = words.get(MOST_COILS) {
+    if let Some(word) = words.get(MAX_WRITE_COILS) {
         return Err(Refusal::Word {
             word,
             why: "one write has at most 1968 coils",
