@@ -1,9 +1,8 @@
 //! One call of a client, whatever frames its messages. It does no IO: it has bytes to be written, is fed those that come, and has
 //! an answer then.
-ghost use Rattle.std.specs.Prelude.{◌≡◌, ◌↔◌, ℕ, ◌<◌, ◌≤◌, [], length, drop, IsTrue, OnOk, OnErr};
-ghost use Rattle.modbus_link.specs.Outside.{Rose};
-ghost use Rattle.modbus_link.specs.Passes.{Sends};
-ghost use Rattle.modbus_link.specs.Polled.{Waited, IsFlushed};
+ghost use Rattle.std.specs.Prelude.{◌≡◌, ◌↔◌, ℕ, ◌<◌, ◌≤◌, [], length, drop, IsTrue, OnOk};
+ghost use Rattle.modbus_link.specs.Outside.{outside};
+ghost use Rattle.modbus_link.specs.Polled.{Flushes};
 ghost use Rattle.modbus_frame.specs.Meaning.{meaning};
 ghost use Rattle.modbus_client.specs.Limits.{read_room};
 ghost use Rattle.modbus_client.specs.Call.{holding, opened_with, OpensCall, CallFed, TellsEnd};
@@ -112,14 +111,10 @@ impl<P: Protocol> Call<P> {
         &mut self,
         link: &mut L,
     ) -> std::result::Result<Polled<()>, Failed>
-        ensures source { L.input link.new ≡ L.input link.old }
         ensures keeps { self.new ≡ record self.old { unwritten = self.new.unwritten } }
-        ensures sends { Sends (L.output link.old) (L.output link.new) self.old.unwritten
-            self.new.unwritten }
-        ensures all { IsFlushed self.new.unwritten result }
-        ensures cause { OnErr result (Rose (L.output link.old).faults (L.output link.new).faults) }
-        ensures waited { Waited result (L.not_ready link.old) (L.not_ready link.new) }
-        ensures later { L.not_ready link.old ≤ L.not_ready link.new }
+        ensures flushes { Flushes (outside (L.input link.old) (L.output link.old))
+            (outside (L.input link.new) (L.output link.new)) (L.not_ready link.old)
+            (L.not_ready link.new) self.old.unwritten self.new.unwritten result }
         ensures line { L.line link.new ≡ L.line link.old }
     {
         flush(link, self.request.as_slice(), &mut self.written)

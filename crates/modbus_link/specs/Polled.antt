@@ -1,8 +1,9 @@
 -- What a link that may not be ready means, and what one in memory keeps.
-use Rattle.std.specs.Prelude.{◌≡◌, ◌≢◌, ◌↔◌, ℕ, List, [], Option, Some, None, Result, Ok, Err, Bool, true, false, IsTrue, if◌then◌else◌}
+use Rattle.std.specs.Prelude.{◌≡◌, ◌≢◌, ◌↔◌, ℕ, ◌≤◌, List, [], Option, Some, None, Result, Ok, Err, Bool, true, false, IsTrue, OnErr, if◌then◌else◌}
 use Rattle.modbus_link.specs.declared.polled.Polled.{Polled}
 use Rattle.modbus_link.specs.declared.polled.Polled.TheVariants.{Ready, Pending}
-use Rattle.modbus_link.specs.Outside.{Rose}
+use Rattle.modbus_link.specs.Outside.{Outside, Rose}
+use Rattle.modbus_link.specs.Passes.{Sends}
 use Rattle.modbus_link.specs.Memory.{next_count, FailsNow, MemoryReads, MemoryWrites}
 use Rattle.modbus_link.specs.Line.{LinkState}
 
@@ -27,6 +28,16 @@ abbrev pub IsFlushed : {E : Type 0} → List ℕ → Result (Polled (Unit {0})) 
 IsFlushed left (Ok (Ready done)) = left ≡ []
 IsFlushed left (Ok Pending) = left ≢ []
 IsFlushed left (Err error) = left ≢ []
+
+-- What waited was written as far as the link was ready: a front of it was sent, and the rest is left. Nothing was read.
+pub record Flushes {E : Type 0} (old new : Outside) (before now : ℕ) (waiting left : List ℕ) (result : Result (Polled (Unit {0})) E) : Type 0 where
+  pub source : new.input ≡ old.input
+  pub sends : Sends old.output new.output waiting left
+  pub all : IsFlushed left result
+  pub cause : OnErr result (Rose old.output.faults new.output.faults)
+  -- of the counts of polls that found it not ready
+  pub waited : Waited result before now
+  pub later : before ≤ now
 
 -- a polled link in memory
 pub record PolledLinkState : Type 0 where

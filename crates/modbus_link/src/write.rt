@@ -1,8 +1,7 @@
 //! Writing a whole piece, in as many writes as the sink makes of it, or as far as a link is ready.
 ghost use Rattle.std.specs.Prelude.{◌≡◌, ◌≤◌, length, drop, IsTrue, OnOk, OnErr};
-ghost use Rattle.modbus_link.specs.Outside.{Rose, Extends, bytes_appended, IsFront};
-ghost use Rattle.modbus_link.specs.Passes.{Sends};
-ghost use Rattle.modbus_link.specs.Polled.{IsFlushed, Waited};
+ghost use Rattle.modbus_link.specs.Outside.{outside, Rose, Extends, bytes_appended, IsFront};
+ghost use Rattle.modbus_link.specs.Polled.{Flushes};
 
 use crate::outside::{Failed, Sink};
 use crate::polled::{Polled, PolledLink};
@@ -39,13 +38,9 @@ pub fn flush<L: PolledLink>(
 ) -> Result<Polled<()>, Failed>
     requires { written.old ≤ length bytes.now }
     ensures within { written.new ≤ length bytes.now }
-    ensures sends { Sends (L.output link.old) (L.output link.new) (drop written.old bytes.now)
-        (drop written.new bytes.now) }
-    ensures all { IsFlushed (drop written.new bytes.now) result }
-    ensures cause { OnErr result (Rose (L.output link.old).faults (L.output link.new).faults) }
-    ensures waited { Waited result (L.not_ready link.old) (L.not_ready link.new) }
-    ensures later { L.not_ready link.old ≤ L.not_ready link.new }
-    ensures source { L.input link.new ≡ L.input link.old }
+    ensures flushes { Flushes (outside (L.input link.old) (L.output link.old))
+        (outside (L.input link.new) (L.output link.new)) (L.not_ready link.old)
+        (L.not_ready link.new) (drop written.old bytes.now) (drop written.new bytes.now) result }
     ensures line { L.line link.new ≡ L.line link.old }
 {
     while *written < bytes.len() {

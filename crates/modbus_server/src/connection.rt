@@ -1,9 +1,8 @@
 //! One connection of a server, whatever frames its messages. It does no IO: it is given bytes, and gives bytes.
 ghost use Rattle.std.specs.Prelude.{◌≡◌, ◌↔◌, ℕ, ◌+◌, ◌<◌, ◌≤◌, List, [], false, length, drop, IsTrue, Err, IfOk, OnOk, OnErr};
 ghost use Rattle.modbus_pdu.specs.Message.{Message};
-ghost use Rattle.modbus_link.specs.Outside.{Rose, front_of};
-ghost use Rattle.modbus_link.specs.Passes.{Sends};
-ghost use Rattle.modbus_link.specs.Polled.{Waited, at_once, IsFlushed};
+ghost use Rattle.modbus_link.specs.Outside.{outside, Rose, front_of};
+ghost use Rattle.modbus_link.specs.Polled.{Waited, at_once, Flushes};
 ghost use Rattle.modbus_link.specs.Reads.{ReadsPiece};
 ghost use Rattle.modbus_server.specs.Exchanges.{Exchange};
 ghost use Rattle.modbus_server.specs.Served.{Past, Stands, NextTakesMemory};
@@ -274,14 +273,10 @@ impl<I: Framing> Connection<I> {
     /// # Errors
     /// `Failed`, only where the link's count of write faults rose; then something waits still.
     pub(crate) fn flush<L: PolledLink>(&mut self, link: &mut L) -> Result<Polled<()>, Failed>
-        ensures source { L.input link.new ≡ L.input link.old }
         ensures keeps { self.new ≡ record self.old { waiting = self.new.waiting } }
-        ensures sends { Sends (L.output link.old) (L.output link.new) self.old.waiting
-            self.new.waiting }
-        ensures all { IsFlushed self.new.waiting result }
-        ensures cause { OnErr result (Rose (L.output link.old).faults (L.output link.new).faults) }
-        ensures waited { Waited result (L.not_ready link.old) (L.not_ready link.new) }
-        ensures later { L.not_ready link.old ≤ L.not_ready link.new }
+        ensures flushes { Flushes (outside (L.input link.old) (L.output link.old))
+            (outside (L.input link.new) (L.output link.new)) (L.not_ready link.old)
+            (L.not_ready link.new) self.old.waiting self.new.waiting result }
     {
         flush(link, self.reply.as_slice(), &mut self.written)
     }

@@ -6,18 +6,18 @@ use Rattle.modbus_client.proofs.drive.poll.Goals as goal
 
 pub returns-in-Err-clause-polled : goal.returns-in-Err-clause-polled
 returns-in-Err-clause-polled g c =
-    flush_failed g.P.Protocol.protocol _ _ _ _ _ _ (holding c.args.call.now c.args.held.now) (holding c.flush.new.self c.args.held.now) c.flush.ensures.source c.flush.ensures.sends (still_holding c.args.call.now c.flush.new.self c.args.held.now c.flush.ensures.keeps) c.flush.ensures.later c.in-Err.ensures.all c.in-Err.ensures.cause
+    flush_failed g.P.Protocol.protocol _ _ _ _ _ _ (holding c.args.call.now c.args.held.now) (holding c.flush.new.self c.args.held.now) c.flush.ensures.flushes.source c.flush.ensures.flushes.sends (still_holding c.args.call.now c.flush.new.self c.args.held.now c.flush.ensures.keeps) c.flush.ensures.flushes.later c.in-Err.ensures.flushes.all c.in-Err.ensures.flushes.cause
 
 pub returns-in-Ok-Pending-clause-polled : goal.returns-in-Ok-Pending-clause-polled
 returns-in-Ok-Pending-clause-polled g c =
     let found = rw c.in-Ok-Pending.field-0-is at c.in-Ok-Pending.ensures in
-    flushed_some g.P.Protocol.protocol _ _ _ _ _ _ (holding c.args.call.now c.args.held.now) (holding c.flush.new.self c.args.held.now) c.flush.ensures.source c.flush.ensures.sends (still_holding c.args.call.now c.flush.new.self c.args.held.now c.flush.ensures.keeps) c.flush.ensures.later found.waited
+    flushed_some g.P.Protocol.protocol _ _ _ _ _ _ (holding c.args.call.now c.args.held.now) (holding c.flush.new.self c.args.held.now) c.flush.ensures.flushes.source c.flush.ensures.flushes.sends (still_holding c.args.call.now c.flush.new.self c.args.held.now c.flush.ensures.keeps) c.flush.ensures.flushes.later found.flushes.waited
 
 pub turns-init : goal.turns-init
 turns-init g c =
     let found = rw c.in-Ok-Ready.field-0-is at c.in-Ok-Ready.ensures in
     record {
-      going = flushed_all g.P.Protocol.protocol _ _ _ _ _ _ (holding c.args.call.now c.args.held.now) (holding c.flush.new.self c.args.held.now) c.flush.ensures.source c.flush.ensures.sends (still_holding c.args.call.now c.flush.new.self c.args.held.now c.flush.ensures.keeps) c.flush.ensures.later found.all;
+      going = flushed_all g.P.Protocol.protocol _ _ _ _ _ _ (holding c.args.call.now c.args.held.now) (holding c.flush.new.self c.args.held.now) c.flush.ensures.flushes.source c.flush.ensures.flushes.sends (still_holding c.args.call.now c.flush.new.self c.args.held.now c.flush.ensures.keeps) c.flush.ensures.flushes.later found.flushes.all;
       line = c.flush.ensures.line;
     }
 
