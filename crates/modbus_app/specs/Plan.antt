@@ -5,6 +5,7 @@ use Rattle.std.specs.Option.{is_some}
 use Rattle.modbus_link.specs.Outside.{Output, Rose, Extends, bytes_appended, IsFront}
 use Rattle.modbus_server.specs.declared.error.ProcessError.{ProcessError}
 use Rattle.modbus_server.specs.declared.error.ProcessError.TheVariants.{WriteFault, NoMemory}
+use Rattle.modbus_pdu.specs.Limits.{max_read_registers}
 use Rattle.modbus_ascii.specs.Limits.{colon}
 use Rattle.modbus_poll.specs.declared.item.Kind.TheVariants.{Text}
 use Rattle.modbus_poll.specs.declared.item.Item.{Item}
@@ -21,7 +22,7 @@ item_of _ _ = None
 
 -- the item of a word with its first colon at this place
 abbrev pub item_split : List ℕ → Option ℕ → Option Item
-item_split text (Some at) = item_of (number_within 5 0 65535 (take at text)) (number_within 3 1 125 (drop (at + 1) text))
+item_split text (Some at) = item_of (number_within 5 0 65535 (take at text)) (number_within 3 1 max_read_registers (drop (at + 1) text))
 item_split text None = None
 
 -- the item that a word names: an address of one to five digits, a colon, and a width of one to three, from 1 to 125

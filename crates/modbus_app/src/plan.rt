@@ -2,6 +2,7 @@
 ghost use Rattle.std.specs.Prelude.{◌≡◌, ◌+◌, ◌<◌, ◌≤◌, ◌==◌, ◌++◌, true, length, map, position, string_bytes, Some, IfOk, IfSome};
 ghost use Rattle.std.specs.List.{AllPass};
 ghost use Rattle.arrayvec.specs.ArrayString.{array_string_len};
+ghost use Rattle.modbus_pdu.specs.Limits.{max_read_registers};
 ghost use Rattle.modbus_poll.specs.Items.{is_readable};
 ghost use Rattle.modbus_ascii.specs.Limits.{colon};
 ghost use Rattle.modbus_app.specs.Plan.{item_of, item_split, item_named, items_named, read_line, count_line, plan_text, ArePlanned, IsPlanText, TellsPlan};
@@ -9,6 +10,7 @@ ghost use Rattle.modbus_app.specs.Plan.{item_of, item_split, item_named, items_n
 use arrayvec::ArrayString;
 use itoa::Buffer;
 use modbus_link::{Sink, write_all};
+use modbus_pdu::MAX_READ_REGISTERS;
 use modbus_poll::{Item, Kind, Plan, PlanError, Read, number_within, plan_reads};
 use modbus_server::ProcessError;
 use std::alloc::{AllocError, Global};
@@ -22,7 +24,7 @@ const LINE: usize = 32;
 /// The item of an address and a width in registers, where both are there and no register of it is behind the last address.
 fn item_of(address: Option<u32>, width: Option<u32>) -> Option<Item>
     requires address { IfSome address (λ address. address ≤ 65535) }
-    requires width { IfSome width (λ width. width ≤ 125) }
+    requires width { IfSome width (λ width. width ≤ max_read_registers) }
     requires some { IfSome width (λ width. 1 ≤ width) }
     ensures exact { result ≡ item_of address width }
     ensures readable { IfSome result (λ item. is_readable item ≡ true) }
@@ -50,7 +52,7 @@ fn item_split(text: &[u8], colon: usize) -> Option<Item>
     ensures readable { IfSome result (λ item. is_readable item ≡ true) }
 {
     let address = number_within(&text[..colon], 5, 0, 0xFFFF);
-    let width = number_within(&text[colon + 1..], 3, 1, 125);
+    let width = number_within(&text[colon + 1..], 3, 1, MAX_READ_REGISTERS as u32);
     item_of(address, width)
 }
 

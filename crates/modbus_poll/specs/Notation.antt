@@ -2,6 +2,7 @@
 use Rattle.std.specs.Prelude.{ℕ, ◌+◌, ◌-◌, ◌*◌, ◌==◌, ◌&&◌, ◌||◌, nat_eq, nat_le, Bool, true, List, [], ◌∷◌, fold, drop, length, codes, Option, Some, None, Result, Ok, Err, if◌then◌else◌}
 use Rattle.std.specs.List.{before_first, after_first, starts_with}
 use Rattle.std.specs.Str.{bytes_eq}
+use Rattle.modbus_pdu.specs.Limits.{max_read_registers}
 use Rattle.modbus_poll.specs.Items.{is_readable}
 use Rattle.modbus_poll.specs.declared.item.Order.TheVariants.{HighFirst, LowFirst}
 use Rattle.modbus_poll.specs.declared.item.Kind.{Kind}
@@ -57,7 +58,7 @@ text_wide None = None
 
 -- a text of so many registers
 abbrev pub text_named : List ℕ → Option Kind
-text_named text = if starts_with nat_eq text (codes "text") then text_wide (number_within 3 1 125 (drop 4 text)) else None
+text_named text = if starts_with nat_eq text (codes "text") then text_wide (number_within 3 1 max_read_registers (drop 4 text)) else None
 
 -- a number with its high word first, with its low word first (`le`), or a text
 abbrev pub kind_named : List ℕ → Option Kind

@@ -6,6 +6,10 @@ ghost use Rattle.modbus_poll.specs.Notation.{address_named, kind_named, text_nam
 use crate::item::{Item, Kind, Order};
 use crate::number::number_within;
 use modbus_frame::Address;
+use modbus_pdu::MAX_READ_REGISTERS;
+
+/// The registers of the widest text: those of one read (V1.1b3, section 6.3).
+const WIDEST_TEXT: u32 = MAX_READ_REGISTERS as u32;
 
 /// The tables of registers of a device (V1.1b3, section 4.3).
 #[derive(Clone, Copy, Debug, PartialEq, Eq)]
@@ -77,8 +81,8 @@ fn text_of(word: &str) -> Option<Kind>
     ensures { result ≡ text_named word.now }
 {
     let digits = word.strip_prefix("text")?;
-    match number_within(digits.as_bytes(), 3, 1, 125) {
-        Some(width) if width <= 125 => Some(Kind::Text(width as u8)),
+    match number_within(digits.as_bytes(), 3, 1, WIDEST_TEXT) {
+        Some(width) if width <= WIDEST_TEXT => Some(Kind::Text(width as u8)),
         _ => None,
     }
 }
