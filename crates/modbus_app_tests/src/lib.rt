@@ -1,7 +1,12 @@
-//! Tests of the calls of modbus_app that need code. Runs of the program are in crates/modbus_app_vectors.
+//! Tests of the calls of the store, of polls and of the program that need code. Each module is named for what it tests; what has bytes in and
+//! an answer out is in crates/modbus_app_vectors.
 #![tactic(auto)]
 
 #[cfg(test)]
 mod check;
 #[cfg(test)]
 mod listening;
+#[cfg(test)]
+mod poll;
+#[cfg(test)]
+mod store;

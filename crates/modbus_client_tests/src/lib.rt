@@ -1,5 +1,5 @@
-//! Tests of the public calls of modbus_client that need code: the box round a client, connections, and a link that is lent. Calls with
-//! bytes in and an answer out are in crates/modbus_client_vectors.
+//! Tests of the calls of clients that need code. Each module is named for what it tests; what has bytes in and an answer out is in
+//! crates/modbus_client_vectors.
 #![tactic(auto)]
 
 #[cfg(test)]
@@ -8,3 +8,9 @@ mod check;
 mod client;
 #[cfg(test)]
 mod context;
+#[cfg(test)]
+mod fleet;
+#[cfg(test)]
+mod gateway;
+#[cfg(test)]
+mod reconnect;

@@ -1,6 +1,7 @@
 //! A source and a sink in memory, as the words of a line say. Byte strings are pieces, which come with a read each. Of the words that are
 //! a letter and a number, `r3` has read 3 fail, `w3` has write 3 fail, `t1` has each write take one byte at most, and `p3` has poll 3 of a
 //! link that is polled not be ready; all are counted from 0. The word `down` has a shutdown fail.
+ghost use Rattle.std.specs.Prelude.{◌<◌};
 
 use crate::text::bytes;
 use modbus_link::{MemoryLink, MemorySink, MemorySource, PolledMemoryLink};
@@ -34,40 +35,91 @@ fn number_after(word: &str, letter: &str) -> Option<u64> {
     word.strip_prefix(letter)?.parse().ok()
 }
 
-pub fn read_outside(alloc: Global, words: &[&str]) -> Result<Option<Outside>, AllocError> {
-    let mut all = Vec::new(alloc);
-    let mut stops = Vec::new(alloc);
-    let mut read_fails = Vec::new(alloc);
-    let mut write_fails = Vec::new(alloc);
-    let mut pending = Vec::new(alloc);
-    let mut most = ROOM;
-    let mut fails_to_shut = false;
-    for word in words {
+/// What the words of a line said so far.
+#[derive(Drop)]
+struct Draft {
+    bytes: Vec<u8>,
+    // where the pieces end
+    stops: Vec<usize>,
+    read_fails: Vec<u64>,
+    write_fails: Vec<u64>,
+    pending: Vec<u64>,
+    most: usize,
+    fails_to_shut: bool,
+}
+
+impl Draft {
+    fn new(alloc: Global) -> Draft {
+        Draft {
+            bytes: Vec::new(alloc),
+            stops: Vec::new(alloc),
+            read_fails: Vec::new(alloc),
+            write_fails: Vec::new(alloc),
+            pending: Vec::new(alloc),
+            most: ROOM,
+            fails_to_shut: false,
+        }
+    }
+
+    /// Takes a piece. False where the word is none.
+    fn take_piece(&mut self, alloc: Global, word: &str) -> Result<bool, AllocError> {
+        let Some(piece) = bytes(alloc, word)? else {
+            return Ok(false);
+        };
+        self.bytes.extend_from_slice(piece.as_slice())?;
+        self.stops.push(self.bytes.len())?;
+        Ok(true)
+    }
+
+    /// Takes a word. False where it says nothing.
+    fn take(&mut self, alloc: Global, word: &str) -> Result<bool, AllocError> {
         if let Some(number) = number_after(word, "r") {
-            read_fails.push(number)?;
+            self.read_fails.push(number)?;
         } else if let Some(number) = number_after(word, "w") {
-            write_fails.push(number)?;
+            self.write_fails.push(number)?;
         } else if let Some(number) = number_after(word, "p") {
-            pending.push(number)?;
+            self.pending.push(number)?;
         } else if let Some(count) = number_after(word, "t") {
-            most = usize::try_from(count).unwrap_or(ROOM);
-        } else if *word == "down" {
-            fails_to_shut = true;
-        } else if let Some(data) = bytes(alloc, word)? {
-            all.extend_from_slice(data.as_slice())?;
-            stops.push(all.len())?;
+            self.most = usize::try_from(count).unwrap_or(ROOM);
+        } else if word == "down" {
+            self.fails_to_shut = true;
         } else {
+            return self.take_piece(alloc, word);
+        }
+        Ok(true)
+    }
+
+    fn source(&self, alloc: Global) -> Result<MemorySource, AllocError> {
+        MemorySource::new(
+            alloc,
+            self.bytes.as_slice(),
+            self.stops.as_slice(),
+            self.read_fails.as_slice(),
+        )
+    }
+
+    fn sink(&self, alloc: Global) -> Result<MemorySink, AllocError>
+        requires { 0 < self.now.most }
+    {
+        MemorySink::new(alloc, ROOM, self.most, self.write_fails.as_slice())
+    }
+}
+
+/// What these words say; none where one of them says nothing.
+pub fn read_outside(alloc: Global, words: &[&str]) -> Result<Option<Outside>, AllocError> {
+    let mut draft = Draft::new(alloc);
+    for word in words {
+        if !draft.take(alloc, word)? {
             return Ok(None);
         }
     }
-    if most == 0 {
+    if draft.most == 0 {
         return Ok(None);
     }
-    let bytes = all.as_slice();
     Ok(Some(Outside {
-        source: MemorySource::new(alloc, bytes, stops.as_slice(), read_fails.as_slice())?,
-        sink: MemorySink::new(alloc, ROOM, most, write_fails.as_slice())?,
-        pending,
-        fails_to_shut,
+        source: draft.source(alloc)?,
+        sink: draft.sink(alloc)?,
+        pending: draft.pending,
+        fails_to_shut: draft.fails_to_shut,
     }))
 }

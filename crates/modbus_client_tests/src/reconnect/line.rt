@@ -1,7 +1,7 @@
 //! Calls over a line in memory that tells silence.
 
+use super::links::{faults, link, read};
 use crate::check::check;
-use crate::links::{faults, link, read};
 use modbus_client::Client;
 use modbus_frame::{Slave, TransportError};
 use modbus_link::TimedMemoryLink;

@@ -1,7 +1,7 @@
 //! How often a call tries.
 
+use super::links::{Links, address, faults, link, read};
 use crate::check::check;
-use crate::links::{Links, address, faults, link, read};
 use modbus_frame::{Slave, TransportError};
 use modbus_reconnect::{Resend, RtuOverTcpClient};
 use std::alloc::{AllocError, Global};

@@ -25,15 +25,18 @@ fn link(alloc: Global, input: &[u8]) -> Result<PolledMemoryLink, AllocError> {
     PolledMemoryLink::new(alloc, MemoryLink::new(source, sink, false), &[1, 3])
 }
 
-/// Whether an answer is that of the device under a key, with this one register.
-fn is_register(told: &Option<Told>, key: usize, register: u16) -> bool {
-    match told {
-        Some(
-            Told {
-                key: found,
-                answer: Ok(Ok(Response::ReadHoldingRegisters(words))),
-            },
-        ) => *found == key && words.as_slice() == [register].as_slice(),
+/// Whether a response has this one register.
+fn has_register(response: &Response, register: u16) -> bool {
+    match response {
+        Response::ReadHoldingRegisters(words) => words.as_slice() == [register].as_slice(),
+        _ => false,
+    }
+}
+
+/// Whether an answer has this one register.
+fn is_register(answer: &modbus_frame::Result<Response>, register: u16) -> bool {
+    match answer {
+        Ok(Ok(response)) => has_register(response, register),
         _ => false,
     }
 }
@@ -105,7 +108,10 @@ fn tells_nothing(fleet: &mut TwoDevices<'_>, rounds: u32) -> bool {
 
 /// Whether it is told that the device under a key read this register.
 fn tells_register(fleet: &mut TwoDevices<'_>, key: usize, register: u16) -> bool {
-    is_register(&fleet.next_answer(), key, register)
+    match fleet.next_answer() {
+        Some(told) => told.key == key && is_register(&told.answer, register),
+        None => false,
+    }
 }
 
 /// Whether the next round tells that the device under a key read this register, and nothing more.

@@ -1,6 +1,6 @@
 //! Links that tell silence.
+use super::tcp::open_pair;
 use crate::check::check;
-use crate::tcp::open_pair;
 use modbus_link::{
     Link, Polled, PolledLink, ReadSource, TcpLink, TerminalLink, TimedLink, TimedTcpLink, WriteSink,
 };

@@ -1,7 +1,7 @@
 //! After which answers a link is used again.
 
+use super::links::{Links, address, faults, link, read};
 use crate::check::check;
-use crate::links::{Links, address, faults, link, read};
 use modbus_client::{Client, Context};
 use modbus_frame::{Slave, SlaveContext, TransportError};
 use modbus_link::MemoryLink;

@@ -1,7 +1,7 @@
 //! What comes over the line for each request, and what is told of it.
 
+use super::line::{READ, READ_FRAME, faulty_line, forwards, line, replies};
 use crate::check::check;
-use crate::line::{READ, READ_FRAME, faulty_line, forwards, line, replies};
 use modbus_client::{Client, rtu};
 use modbus_link::MemoryLink;
 use std::alloc::Global;

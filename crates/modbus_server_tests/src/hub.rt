@@ -52,17 +52,29 @@ fn device(alloc: Global) -> Result<RegisterStore, StoreError> {
     RegisterStore::new(alloc, sizes, false)
 }
 
-/// Serves both by one read a turn: the second before the first, then both again, and then to their ends.
-fn serve_both<R: Wait + Clock + Abort>(
-    rt: &R,
+type TwoLinks<'a> = EventServer<
+    AduBuffer,
+    ScheduledAcceptor<&'a mut MemoryLink>,
+    ScheduledReadiness,
+>;
+
+/// What accepts both links, the first of them first.
+fn acceptor<'a>(
     alloc: Global,
-    first: &mut MemoryLink,
-    second: &mut MemoryLink,
-    service: &mut InTurn<RegisterStore>,
-) -> Result<(), Fail> {
+    first: &'a mut MemoryLink,
+    second: &'a mut MemoryLink,
+) -> Result<ScheduledAcceptor<&'a mut MemoryLink>, AllocError> {
     let mut answers = Vec::new(alloc);
     answers.push(Ok(Polled::Ready(first)))?;
     answers.push(Ok(Polled::Ready(second)))?;
+    Ok(ScheduledAcceptor::new(answers))
+}
+
+/// A server of both by one read a turn: the second before the first, then both again, and then to their ends.
+fn server<'a>(
+    alloc: Global,
+    acceptor: ScheduledAcceptor<&'a mut MemoryLink>,
+) -> Result<TwoLinks<'a>, AllocError> {
     let schedule = [
         Ready::Peer,
         Ready::Link(1),
@@ -70,22 +82,35 @@ fn serve_both<R: Wait + Clock + Abort>(
         Ready::Link(7),
         Ready::Peer,
     ];
+    let readiness = ScheduledReadiness::new(alloc, &schedule)?;
     let limits = Limits {
         connections: 2,
         reads: 1,
     };
-    let mut server: EventServer<AduBuffer, _, _> = EventServer::new(
-        alloc,
-        ScheduledAcceptor::new(answers),
-        ScheduledReadiness::new(alloc, &schedule)?,
-        limits,
-    );
+    Ok(EventServer::new(alloc, acceptor, readiness, limits))
+}
+
+/// Serves both to their ends.
+fn serve<R: Wait + Clock + Abort>(
+    rt: &R,
+    server: &mut TwoLinks<'_>,
+    service: &mut InTurn<RegisterStore>,
+) {
     let ended = server.serve_until(rt, service, None, &mut MemoryStop::new(5));
-    check(
-        rt,
-        (ended, server.is_empty()),
-        (Ok(Terminated::Aborted), true),
-    );
+    check(rt, ended, Ok(Terminated::Aborted));
+    check(rt, server.is_empty(), true);
+}
+
+/// Serves both, which begin to be accepted.
+fn serve_both<R: Wait + Clock + Abort>(
+    rt: &R,
+    alloc: Global,
+    first: &mut MemoryLink,
+    second: &mut MemoryLink,
+    service: &mut InTurn<RegisterStore>,
+) -> Result<(), AllocError> {
+    let acceptor = acceptor(alloc, first, second)?;
+    serve(rt, &mut server(alloc, acceptor)?, service);
     Ok(())
 }
 
