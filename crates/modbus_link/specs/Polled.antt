@@ -4,6 +4,7 @@ use Rattle.modbus_link.specs.declared.polled.Polled.{Polled}
 use Rattle.modbus_link.specs.declared.polled.Polled.TheVariants.{Ready, Pending}
 use Rattle.modbus_link.specs.Outside.{Outside, Rose}
 use Rattle.modbus_link.specs.Passes.{Sends}
+use Rattle.modbus_link.specs.Reads.{ReadsPiece}
 use Rattle.modbus_link.specs.Memory.{next_count, FailsNow, MemoryReads, MemoryWrites}
 use Rattle.modbus_link.specs.Line.{LinkState}
 
@@ -28,6 +29,15 @@ abbrev pub IsFlushed : {E : Type 0} → List ℕ → Result (Polled (Unit {0})) 
 IsFlushed left (Ok (Ready done)) = left ≡ []
 IsFlushed left (Ok Pending) = left ≢ []
 IsFlushed left (Err error) = left ≢ []
+
+-- One read into a room of this length gave this piece, and none where it found the link not ready. Nothing was written.
+pub record PollsPiece {E : Type 0} (old new : Outside) (before now room : ℕ) (piece : List ℕ) (result : Result (Polled ℕ) E) : Type 0 where
+  pub reads : ReadsPiece old.input new.input room piece (at_once result)
+  pub sink : new.output ≡ old.output
+  pub cause : OnErr result (Rose old.input.faults new.input.faults)
+  -- of the counts of polls that found it not ready
+  pub waited : Waited result before now
+  pub later : before ≤ now
 
 -- What waited was written as far as the link was ready: a front of it was sent, and the rest is left. Nothing was read.
 pub record Flushes {E : Type 0} (old new : Outside) (before now : ℕ) (waiting left : List ℕ) (result : Result (Polled (Unit {0})) E) : Type 0 where

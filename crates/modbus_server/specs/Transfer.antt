@@ -1,9 +1,10 @@
 -- What a driver moves between a connection and the outside.
 use Rattle.std.specs.Prelude.{◌≡◌, ◌≢◌, ℕ, ◌<◌, ◌≤◌, List, [], ◌∷◌, ◌++◌, length, IsTrue, false, Result, Ok, Err}
 use Rattle.modbus_link.specs.declared.outside.Cut.{Cut}
-use Rattle.modbus_link.specs.Outside.{cut_at, Input, Rose, Advances, bytes_read, cuts_made}
+use Rattle.modbus_link.specs.declared.polled.Polled.{Polled}
+use Rattle.modbus_link.specs.Outside.{cut_at, Input, Outside, Rose, Advances, bytes_read, cuts_made}
 use Rattle.modbus_pdu.specs.Message.{Message}
-use Rattle.modbus_link.specs.Reads.{ReadsPiece}
+use Rattle.modbus_link.specs.Polled.{PollsPiece}
 use Rattle.modbus_server.specs.declared.error.ProcessError.{ProcessError}
 use Rattle.modbus_server.specs.declared.error.ProcessError.TheVariants.{ReadFault, WriteFault, BytesRemaining, NoMemory}
 use Rattle.modbus_server.specs.declared.error.Step.{Step}
@@ -32,13 +33,13 @@ GivesAs F old new fed made (Err _) = ⊥
 
 -- One read was made into the room of the held bytes, and what it gave was appended to them. One that failed or found the link not
 -- ready gave none.
-pub record Fills (F : Framing) {E : Type 0} (from to : Input) (old new : List ℕ) (result : Result ℕ E) : Type 0 where
+pub record Fills (F : Framing) {E : Type 0} (old new : Outside) (before now : ℕ) (held_before held_now : List ℕ) (result : Result (Polled ℕ) E) : Type 0 where
   pub piece : List ℕ
-  pub reads : ReadsPiece from to (F.room old) piece result
-  pub held : new ≡ old ++ piece
-  pub most : 0 < length piece → length new ≤ F.most
-  pub stands : (bytes cuts : List ℕ) (taken : List (Message F.Header)) → F.StandsFor bytes cuts old taken → 0 < length piece
-      → F.HasRoom bytes (F.room old) × F.StandsFor (bytes ++ piece) (cuts ++ length (bytes ++ piece) ∷ []) new taken
+  pub polls : PollsPiece old new before now (F.room held_before) piece result
+  pub held : held_now ≡ held_before ++ piece
+  pub most : 0 < length piece → length held_now ≤ F.most
+  pub stands : (bytes cuts : List ℕ) (taken : List (Message F.Header)) → F.StandsFor bytes cuts held_before taken → 0 < length piece
+      → F.HasRoom bytes (F.room held_before) × F.StandsFor (bytes ++ piece) (cuts ++ length (bytes ++ piece) ∷ []) held_now taken
 
 -- whether the input ended
 abbrev pub EndsInput : Result Step ProcessError → List ℕ → Type 0

@@ -1,9 +1,8 @@
 //! One connection of a server, whatever frames its messages. It does no IO: it is given bytes, and gives bytes.
 ghost use Rattle.std.specs.Prelude.{◌≡◌, ◌↔◌, ℕ, ◌+◌, ◌<◌, ◌≤◌, List, [], false, length, drop, IsTrue, Err, IfOk, OnOk, OnErr};
 ghost use Rattle.modbus_pdu.specs.Message.{Message};
-ghost use Rattle.modbus_link.specs.Outside.{outside, Rose, front_of};
-ghost use Rattle.modbus_link.specs.Polled.{Waited, at_once, Flushes};
-ghost use Rattle.modbus_link.specs.Reads.{ReadsPiece};
+ghost use Rattle.modbus_link.specs.Outside.{outside, front_of};
+ghost use Rattle.modbus_link.specs.Polled.{at_once, PollsPiece, Flushes};
 ghost use Rattle.modbus_server.specs.Exchanges.{Exchange};
 ghost use Rattle.modbus_server.specs.Served.{Past, Stands, NextTakesMemory};
 ghost use Rattle.modbus_server.specs.Transfer.{Fills};
@@ -98,12 +97,9 @@ fn take_next<I: Framing, V: Answerer>(
 fn poll_piece<L: PolledLink>(link: &mut L, buffer: &mut [u8]) -> Result<Polled<usize>, Failed>
     requires { 0 < length buffer.old }
     ensures within { IfOk (at_once result) (λ count. count ≤ length buffer.new) }
-    ensures reads { ReadsPiece (L.input link.old) (L.input link.new) (length buffer.old)
-        (front_of (at_once result) buffer.new) (at_once result) }
-    ensures sink { L.output link.new ≡ L.output link.old }
-    ensures cause { OnErr result (Rose (L.input link.old).faults (L.input link.new).faults) }
-    ensures waited { Waited result (L.not_ready link.old) (L.not_ready link.new) }
-    ensures later { L.not_ready link.old ≤ L.not_ready link.new }
+    ensures polls { PollsPiece (outside (L.input link.old) (L.output link.old))
+        (outside (L.input link.new) (L.output link.new)) (L.not_ready link.old)
+        (L.not_ready link.new) (length buffer.old) (front_of (at_once result) buffer.new) result }
 {
     link.poll_read(buffer)
 }
@@ -121,12 +117,9 @@ fn fill_from<I: Framing, L: PolledLink>(
     requires waits { I.framing.Waits (I.held intake.old) }
     requires free { I.framing.room (I.held intake.old) ≤ I.free intake.old }
     requires buffer { I.framing.longest_read ≤ length buffer.old }
-    ensures fills { Fills I.framing (L.input link.old) (L.input link.new) (I.held intake.old)
-        (I.held intake.new) (at_once result) }
-    ensures sink { L.output link.new ≡ L.output link.old }
-    ensures cause { OnErr result (Rose (L.input link.old).faults (L.input link.new).faults) }
-    ensures waited { Waited result (L.not_ready link.old) (L.not_ready link.new) }
-    ensures later { L.not_ready link.old ≤ L.not_ready link.new }
+    ensures { Fills I.framing (outside (L.input link.old) (L.output link.old))
+        (outside (L.input link.new) (L.output link.new)) (L.not_ready link.old)
+        (L.not_ready link.new) (I.held intake.old) (I.held intake.new) result }
 {
     let room = intake.room();
     let buffer = &mut buffer[..room];
@@ -257,13 +250,10 @@ impl<I: Framing> Connection<I> {
     pub(crate) fn fill<L: PolledLink>(&mut self, link: &mut L) -> Result<Polled<usize>, Failed>
         requires waits { I.framing.Waits self.old.held }
         requires free { I.framing.room self.old.held ≤ self.old.free }
-        ensures fills { Fills I.framing (L.input link.old) (L.input link.new) self.old.held
-            self.new.held (at_once result) }
         ensures keeps { self.new ≡ record self.old { held = self.new.held; free = self.new.free } }
-        ensures sink { L.output link.new ≡ L.output link.old }
-        ensures cause { OnErr result (Rose (L.input link.old).faults (L.input link.new).faults) }
-        ensures waited { Waited result (L.not_ready link.old) (L.not_ready link.new) }
-        ensures later { L.not_ready link.old ≤ L.not_ready link.new }
+        ensures fills { Fills I.framing (outside (L.input link.old) (L.output link.old))
+            (outside (L.input link.new) (L.output link.new)) (L.not_ready link.old)
+            (L.not_ready link.new) self.old.held self.new.held result }
     {
         fill_from(&mut self.intake, self.buffer.as_mut_slice(), link)
     }
