@@ -30,6 +30,27 @@ fn link_of(alloc: Global, input: &[u8]) -> Result<MemoryLink, AllocError> {
     Ok(MemoryLink::new(source, sink, false))
 }
 
+/// The status of a listener with these services.
+fn listen<R: Wait + Sync>(
+    rt: &R,
+    alloc: Global,
+    framing: Framing,
+    acceptor: &mut MemoryAcceptor<&mut MemoryLink>,
+    services: &mut StoreServices<'_, R>,
+    errors: &mut MemorySink,
+) -> u8 {
+    run_listen(
+        rt,
+        alloc,
+        framing,
+        acceptor,
+        &mut InlineSpawner::new(),
+        services,
+        |_error: ProcessError| {},
+        errors,
+    )
+}
+
 /// The status of a listener whose links share a store.
 fn serve<R: Wait + Sync>(
     rt: &R,
@@ -39,17 +60,21 @@ fn serve<R: Wait + Sync>(
     errors: &mut MemorySink,
 ) -> Result<u8, Fail> {
     let (table, pass) = open_shared(alloc, framing)?;
-    let mut services = StoreServices::new(rt, &table, pass);
-    Ok(run_listen(
-        rt,
-        alloc,
-        framing,
-        acceptor,
-        &mut InlineSpawner::new(),
-        &mut services,
-        |_error: ProcessError| {},
-        errors,
-    ))
+    let services = &mut StoreServices::new(rt, &table, pass);
+    Ok(listen(rt, alloc, framing, acceptor, services, errors))
+}
+
+/// An acceptor of two links.
+fn accepting<'l>(
+    alloc: Global,
+    first: &'l mut MemoryLink,
+    second: &'l mut MemoryLink,
+) -> Result<MemoryAcceptor<&'l mut MemoryLink>, AllocError> {
+    let address = SocketAddr::from(([127, 0, 0, 1], 502));
+    let mut links = Vec::new(alloc);
+    links.push((first, address))?;
+    links.push((second, address))?;
+    Ok(MemoryAcceptor::new(links))
 }
 
 /// The same over two links.
@@ -61,11 +86,8 @@ fn serve_both<R: Wait + Sync>(
     second: &mut MemoryLink,
     errors: &mut MemorySink,
 ) -> Result<u8, Fail> {
-    let address = SocketAddr::from(([127, 0, 0, 1], 502));
-    let mut links = Vec::new(alloc);
-    links.push((first, address))?;
-    links.push((second, address))?;
-    serve(rt, alloc, framing, &mut MemoryAcceptor::new(links), errors)
+    let mut acceptor = accepting(alloc, first, second)?;
+    serve(rt, alloc, framing, &mut acceptor, errors)
 }
 
 /// A listener over two links ends as there is no third, and tells it.
@@ -99,6 +121,14 @@ fn replies<R: Wait + Abort + Sync>(
     Ok(())
 }
 
+fn two_links(
+    alloc: Global,
+    near: &[u8],
+    far: &[u8],
+) -> Result<(MemoryLink, MemoryLink), AllocError> {
+    Ok((link_of(alloc, near)?, link_of(alloc, far)?))
+}
+
 /// Over links that give the first of these, the replies are the second.
 fn expect<R: Wait + Abort + Sync>(
     rt: &R,
@@ -107,9 +137,11 @@ fn expect<R: Wait + Abort + Sync>(
     near: (&[u8], &[u8]),
     far: (&[u8], &[u8]),
 ) -> Result<(), Fail> {
-    let mut first = link_of(alloc, near.0)?;
-    let mut second = link_of(alloc, far.0)?;
-    replies(rt, alloc, framing, &mut first, &mut second, near.1, far.1)
+    let (mut first, mut second) = two_links(alloc, near.0, far.0)?;
+    let ended = replies(rt, alloc, framing, &mut first, &mut second, near.1, far.1);
+    drop(first);
+    drop(second);
+    ended
 }
 
 #[test]

@@ -1,6 +1,6 @@
 //! Calls of clients over links in memory.
 
-use crate::left::push_left;
+use crate::left::{push_left, push_written};
 use crate::typed::ask;
 use modbus_client::{Client, rtu, tcp};
 use modbus_frame::{Request, Slave, SlaveContext};
@@ -10,6 +10,7 @@ use modbus_table::outside::read_outside;
 use modbus_table::text::{bytes, push_outcome, push_shown};
 use std::alloc::{AllocError, Global};
 use std::borrow::CowSlice;
+use std::time::Duration;
 
 /// Selects a slave.
 fn select<C: Client>(text: &mut String, client: &mut C, slave: &str) -> Result<bool, AllocError> {
@@ -67,9 +68,28 @@ fn step_with<C: Client>(
     }
 }
 
-/// What a step of a line does to any client: `disconnect`, `slave=9`, a call of a function by its number with any data, as
-/// `custom=4100`, the typed call of a request by its PDU, as `typed=0300000001`, or a call by the PDU of its request.
-fn step<C: Client>(
+/// How long this many milliseconds are.
+pub fn milliseconds(word: &str) -> Option<Duration> {
+    Some(Duration::from_millis(word.parse().ok()?))
+}
+
+/// Sets how long a call waits.
+fn set_timeout<C: Client>(
+    text: &mut String,
+    client: &mut C,
+    timeout: &str,
+) -> Result<bool, AllocError> {
+    let Some(timeout) = milliseconds(timeout) else {
+        return Ok(false);
+    };
+    client.set_timeout(Some(timeout));
+    text.push_str("()")?;
+    Ok(true)
+}
+
+/// What a step of a line does to any client: `disconnect`, `slave=9`, `timeout=2000` in milliseconds, a call of a function by its number with
+/// any data, as `custom=4100`, the typed call of a request by its PDU, as `typed=0300000001`, or a call by the PDU of its request.
+pub fn step<C: Client>(
     alloc: Global,
     text: &mut String,
     client: &mut C,
@@ -83,6 +103,9 @@ fn step<C: Client>(
     if kind == "slave" {
         return select(text, client, word);
     }
+    if kind == "timeout" {
+        return set_timeout(text, client, word);
+    }
     match bytes(alloc, word)? {
         Some(pdu) => step_with(alloc, text, client, kind, pdu.as_slice()),
         None => Ok(false),
@@ -90,7 +113,7 @@ fn step<C: Client>(
 }
 
 /// The answers of a client to steps with commas between them.
-fn steps<C: Client>(
+pub fn steps<C: Client>(
     alloc: Global,
     text: &mut String,
     client: &mut C,
@@ -198,6 +221,37 @@ fn matching_steps(
     Ok(true)
 }
 
+/// The answers of an RTU client over a link that is lent to it.
+fn steps_over_lent(
+    alloc: Global,
+    text: &mut String,
+    slave: Slave,
+    words: &str,
+    link: &mut MemoryLink,
+) -> Result<bool, AllocError> {
+    steps(
+        alloc,
+        text,
+        &mut rtu::attach_slave(alloc, link, slave),
+        words,
+    )
+}
+
+/// The same, and what was written to the link.
+fn lent_steps(
+    alloc: Global,
+    text: &mut String,
+    slave: Slave,
+    words: &str,
+    link: &mut MemoryLink,
+) -> Result<bool, AllocError> {
+    if !steps_over_lent(alloc, text, slave, words, link)? {
+        return Ok(false);
+    }
+    push_written(text, link)?;
+    Ok(true)
+}
+
 /// The answers of the client that a call names.
 fn answers(
     alloc: Global,
@@ -205,9 +259,10 @@ fn answers(
     call: &str,
     slave: Slave,
     words: &str,
-    link: MemoryLink,
+    mut link: MemoryLink,
 ) -> Result<bool, AllocError> {
     match call {
+        "rtu_lent" => lent_steps(alloc, text, slave, words, &mut link),
         "rtu_call" => {
             let mut client = rtu::attach(alloc, link);
             client.set_slave(slave);
@@ -228,7 +283,7 @@ fn answers(
     }
 }
 
-/// `rtu_call`, `tcp_call` or `matching_call`, a slave, steps with commas between them, and the outside of the link.
+/// `rtu_call`, `rtu_lent`, `tcp_call` or `matching_call`, a slave, steps with commas between them, and the outside of the link.
 pub fn answer(
     alloc: Global,
     text: &mut String,

@@ -1,8 +1,25 @@
 //! What a client leaves.
 
-use modbus_link::MemoryLink;
+use modbus_link::{Link, MemoryLink};
 use modbus_table::text::push_hex;
 use std::alloc::AllocError;
+
+/// Appends what was written to a link.
+pub fn push_written(text: &mut String, link: &MemoryLink) -> Result<(), AllocError> {
+    text.push_str("wrote ")?;
+    push_hex(text, link.sink().bytes())
+}
+
+/// The same, and how long a call over it waits.
+pub fn push_link(text: &mut String, link: Option<&MemoryLink>) -> Result<(), AllocError> {
+    match link {
+        Some(link) => {
+            push_written(text, link)?;
+            write!(text, " within {:?}", link.timeout())
+        }
+        None => text.push_str("no link"),
+    }
+}
 
 /// Appends what was written to a link, and how many bytes a client holds.
 pub fn push_left(
@@ -11,10 +28,7 @@ pub fn push_left(
     held: usize,
 ) -> Result<(), AllocError> {
     match link {
-        Some(link) => {
-            text.push_str("wrote ")?;
-            push_hex(text, link.sink().bytes())?;
-        }
+        Some(link) => push_written(text, link)?,
         None => text.push_str("no link")?,
     }
     write!(text, " holds {held}")

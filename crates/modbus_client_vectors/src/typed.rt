@@ -56,15 +56,22 @@ impl Client for Once {
     }
 }
 
-/// Makes the typed call of a request that reads. What it reads is given as a response again.
-fn read<C: SyncReader>(client: &mut C, request: &Request<'_>) -> Answer<Response> {
+/// Makes the typed call of a request that reads what is no table. What it reads is given as a response again.
+fn read_other<C: SyncReader>(client: &mut C, request: &Request<'_>) -> Answer<Response> {
     Ok(match request {
-        Request::ReadCoils(at, count) => client
-            .read_coils(*at, *count)?
-            .map(|coils| Response::ReadCoils(Coils::new(coils))),
-        Request::ReadDiscreteInputs(at, count) => client
-            .read_discrete_inputs(*at, *count)?
-            .map(|inputs| Response::ReadDiscreteInputs(Coils::new(inputs))),
+        Request::ReadFifoQueue(at) => client
+            .read_fifo_queue(*at)?
+            .map(|words| Response::ReadFifoQueue(Words::new(words))),
+        Request::ReadDeviceIdentification(code, id) => client
+            .read_device_identification(*code, *id)?
+            .map(|found| Response::ReadDeviceIdentification(found)),
+        _ => Err(ExceptionCode::IllegalFunction),
+    })
+}
+
+/// The same of one that reads registers, or what is no table.
+fn read_words<C: SyncReader>(client: &mut C, request: &Request<'_>) -> Answer<Response> {
+    Ok(match request {
         Request::ReadHoldingRegisters(at, count) => client
             .read_holding_registers(*at, *count)?
             .map(|words| Response::ReadHoldingRegisters(Words::new(words))),
@@ -74,13 +81,20 @@ fn read<C: SyncReader>(client: &mut C, request: &Request<'_>) -> Answer<Response
         Request::ReadWriteMultipleRegisters(at, count, to, words) => client
             .read_write_multiple_registers(*at, *count, *to, words.as_slice())?
             .map(|words| Response::ReadWriteMultipleRegisters(Words::new(words))),
-        Request::ReadFifoQueue(at) => client
-            .read_fifo_queue(*at)?
-            .map(|words| Response::ReadFifoQueue(Words::new(words))),
-        Request::ReadDeviceIdentification(code, id) => client
-            .read_device_identification(*code, *id)?
-            .map(|found| Response::ReadDeviceIdentification(found)),
-        _ => Err(ExceptionCode::IllegalFunction),
+        _ => return read_other(client, request),
+    })
+}
+
+/// The same of any that reads.
+fn read<C: SyncReader>(client: &mut C, request: &Request<'_>) -> Answer<Response> {
+    Ok(match request {
+        Request::ReadCoils(at, count) => client
+            .read_coils(*at, *count)?
+            .map(|coils| Response::ReadCoils(Coils::new(coils))),
+        Request::ReadDiscreteInputs(at, count) => client
+            .read_discrete_inputs(*at, *count)?
+            .map(|inputs| Response::ReadDiscreteInputs(Coils::new(inputs))),
+        _ => return read_words(client, request),
     })
 }
 

@@ -1,6 +1,11 @@
 //! Frames of a serial line and ADUs of Modbus TCP: their lengths, the search for them, the codecs of both ends, and the inbox of a server.
 //! Frames of the ASCII transmission mode: the codecs of both ends.
 
+ghost use Rattle.std.specs.Prelude.{◌<◌};
+ghost use Rattle.std.specs.Result.{ForErr};
+ghost use Rattle.modbus_frame.specs.Codes.{function_number};
+ghost use Rattle.modbus_frame.specs.FunctionCodes.{exception_bit};
+
 use bytes::{Bytes, BytesMut};
 use modbus_frame::{EncodeError, Request, RequestPdu, ResponsePdu, rtu, tcp};
 use modbus_link::MemorySource;
@@ -60,6 +65,30 @@ fn rtu_responses(alloc: Global, text: &mut String, buf: &mut BytesMut) -> Result
     push_taken(text, found, buf.len(), decoder.dropped_bytes().len())
 }
 
+fn rtu_taken(
+    alloc: Global,
+    text: &mut String,
+    is_server: bool,
+    buf: &mut BytesMut,
+) -> Result<(), AllocError> {
+    if is_server {
+        return push_shown(text, modbus_rtu::ServerCodec::new().decode(alloc, buf));
+    }
+    push_shown(text, modbus_rtu::ClientCodec::new().decode(alloc, buf))
+}
+
+fn tcp_taken(
+    alloc: Global,
+    text: &mut String,
+    is_server: bool,
+    buf: &mut BytesMut,
+) -> Result<(), AllocError> {
+    if is_server {
+        return push_shown(text, modbus_tcp::ServerCodec::new().decode(alloc, buf));
+    }
+    push_shown(text, modbus_tcp::ClientCodec::new().decode(alloc, buf))
+}
+
 /// What the codec of an end takes off.
 fn taken_off(
     alloc: Global,
@@ -68,10 +97,10 @@ fn taken_off(
     buf: &mut BytesMut,
 ) -> Result<bool, AllocError> {
     match call {
-        "rtu_server" => push_shown(text, modbus_rtu::ServerCodec::new().decode(alloc, buf))?,
-        "rtu_client" => push_shown(text, modbus_rtu::ClientCodec::new().decode(alloc, buf))?,
-        "tcp_server" => push_shown(text, modbus_tcp::ServerCodec::new().decode(alloc, buf))?,
-        "tcp_client" => push_shown(text, modbus_tcp::ClientCodec::new().decode(alloc, buf))?,
+        "rtu_server" => rtu_taken(alloc, text, true, buf)?,
+        "rtu_client" => rtu_taken(alloc, text, false, buf)?,
+        "tcp_server" => tcp_taken(alloc, text, true, buf)?,
+        "tcp_client" => tcp_taken(alloc, text, false, buf)?,
         "tcp_adus" => push_shown(text, AduDecoder::new().decode(alloc, buf))?,
         _ => return Ok(false),
     }
@@ -221,7 +250,43 @@ fn encode_request(
     })
 }
 
-/// The same of a response or an exception; none where no exception has its function either.
+/// The same of a response or an exception.
+fn encode_rtu_response(
+    alloc: Global,
+    slave_id: u8,
+    pdu: ResponsePdu,
+    buf: &mut BytesMut,
+) -> Result<(), EncodeError>
+    requires { ForErr pdu.0 (λ refusal. function_number refusal.function < exception_bit) }
+{
+    let hdr = rtu::Header { slave_id };
+    modbus_rtu::ServerCodec::new().encode(alloc, rtu::ResponseAdu { hdr, pdu }, buf)
+}
+
+fn encode_ascii_response(
+    alloc: Global,
+    slave_id: u8,
+    pdu: ResponsePdu,
+    buf: &mut BytesMut,
+) -> Result<(), EncodeError>
+    requires { ForErr pdu.0 (λ refusal. function_number refusal.function < exception_bit) }
+{
+    let hdr = rtu::Header { slave_id };
+    modbus_ascii::ServerCodec::new().encode(alloc, rtu::ResponseAdu { hdr, pdu }, buf)
+}
+
+fn encode_tcp_response(
+    alloc: Global,
+    hdr: tcp::Header,
+    pdu: ResponsePdu,
+    buf: &mut BytesMut,
+) -> Result<(), EncodeError>
+    requires { ForErr pdu.0 (λ refusal. function_number refusal.function < exception_bit) }
+{
+    modbus_tcp::ServerCodec::new().encode(alloc, tcp::ResponseAdu { hdr, pdu }, buf)
+}
+
+/// The same by the codec that is named; none where no exception has its function either.
 fn encode_response(
     alloc: Global,
     call: &str,
@@ -234,20 +299,11 @@ fn encode_response(
     {
         return None;
     }
-    let hdr = rtu::Header {
-        slave_id: header.unit_id,
-    };
+    let slave_id = header.unit_id;
     Some(match call {
-        "rtu_server_encode" => {
-            modbus_rtu::ServerCodec::new().encode(alloc, rtu::ResponseAdu { hdr, pdu }, buf)
-        }
-        "ascii_server_encode" => {
-            modbus_ascii::ServerCodec::new().encode(alloc, rtu::ResponseAdu { hdr, pdu }, buf)
-        }
-        "tcp_server_encode" => {
-            let adu = tcp::ResponseAdu { hdr: header, pdu };
-            modbus_tcp::ServerCodec::new().encode(alloc, adu, buf)
-        }
+        "rtu_server_encode" => encode_rtu_response(alloc, slave_id, pdu, buf),
+        "ascii_server_encode" => encode_ascii_response(alloc, slave_id, pdu, buf),
+        "tcp_server_encode" => encode_tcp_response(alloc, header, pdu, buf),
         _ => return None,
     })
 }

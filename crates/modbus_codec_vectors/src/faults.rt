@@ -126,17 +126,8 @@ fn single(text: &mut String, name: &str) -> Result<bool, AllocError> {
     }
 }
 
-/// `text` and the name of a fault.
-pub fn answer(text: &mut String, call: &str, words: &[&str]) -> Result<bool, AllocError> {
-    let &[name] = words else {
-        return Ok(false);
-    };
-    if call != "text" {
-        return Ok(false);
-    }
-    let Some((kind, name)) = name.split_once("::") else {
-        return single(text, name);
-    };
+/// The text of a fault of this type.
+fn of_type(text: &mut String, kind: &str, name: &str) -> Result<bool, AllocError> {
     match kind {
         "TransportError" => told(text, transport(name)),
         "ProcessError" => told(text, process(name)),
@@ -146,5 +137,19 @@ pub fn answer(text: &mut String, call: &str, words: &[&str]) -> Result<bool, All
         "TcpError" => told(text, tcp(name)),
         "Error" => told(text, error(name)),
         _ => Ok(false),
+    }
+}
+
+/// `text` and the name of a fault.
+pub fn answer(text: &mut String, call: &str, words: &[&str]) -> Result<bool, AllocError> {
+    let &[name] = words else {
+        return Ok(false);
+    };
+    if call != "text" {
+        return Ok(false);
+    }
+    match name.split_once("::") {
+        Some((kind, name)) => of_type(text, kind, name),
+        None => single(text, name),
     }
 }

@@ -10,6 +10,26 @@ use modbus_table::{Calls, answer_table};
 use std::alloc::{AllocError, Global};
 use std::process::ExitCode;
 
+/// The calls of what PDUs are made of, and of PDUs.
+fn answer_pdus(
+    alloc: Global,
+    text: &mut String,
+    call: &str,
+    words: &[&str],
+) -> Result<bool, AllocError> {
+    Ok(values::answer(alloc, text, call, words)? || pdus::answer(alloc, text, call, words)?)
+}
+
+/// The calls of frames and ADUs, and of the texts of faults.
+fn answer_frames(
+    alloc: Global,
+    text: &mut String,
+    call: &str,
+    words: &[&str],
+) -> Result<bool, AllocError> {
+    Ok(codecs::answer(alloc, text, call, words)? || faults::answer(text, call, words)?)
+}
+
 /// The calls of the codecs.
 struct CodecCalls;
 
@@ -21,12 +41,7 @@ impl Calls for CodecCalls {
         call: &str,
         words: &[&str],
     ) -> Result<bool, AllocError> {
-        Ok(
-            values::answer(alloc, text, call, words)?
-                || pdus::answer(alloc, text, call, words)?
-                || codecs::answer(alloc, text, call, words)?
-                || faults::answer(text, call, words)?,
-        )
+        Ok(answer_pdus(alloc, text, call, words)? || answer_frames(alloc, text, call, words)?)
     }
 }
 

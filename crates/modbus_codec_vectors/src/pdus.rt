@@ -12,6 +12,7 @@ use modbus_pdu::{
 use modbus_table::text::{bytes, number, push_hex, push_shown, push_told};
 use std::alloc::{AllocError, Global};
 use std::borrow::CowSlice;
+use std::fmt::{Debug, Display};
 
 /// The text of a refusal.
 fn refused(text: &mut String, error: PduError) -> Result<(), AllocError> {
@@ -39,9 +40,14 @@ fn is_copied(alloc: Global, request: &Request<'_>) -> Result<bool, AllocError> {
     Ok(request.try_clone(alloc)? == *request)
 }
 
-/// Whether the copy of a request that owns its lists is equal to it.
+/// A copy of a request that owns its lists.
+fn owned(alloc: Global, request: &Request<'_>) -> Result<Request<'static>, AllocError> {
+    request.try_clone(alloc)?.into_owned(alloc)
+}
+
+/// Whether that is equal to it.
 fn is_owned(alloc: Global, request: &Request<'_>) -> Result<bool, AllocError> {
-    Ok(request.try_clone(alloc)?.into_owned(alloc)? == *request)
+    Ok(owned(alloc, request)? == *request)
 }
 
 /// A request, how it is written, and whether its copies are equal to it.
@@ -190,13 +196,21 @@ fn exception(alloc: Global, text: &mut String, pdu: &[u8]) -> Result<bool, Alloc
     }
 }
 
-/// How many bytes the PDU of a request has.
-fn size_of(text: &mut String, request: Request<'_>) -> Result<bool, AllocError> {
-    match request_pdu_size(&request) {
+/// How many bytes a PDU has, or how many it would have.
+fn push_size<E: Debug + Display + Drop>(
+    text: &mut String,
+    size: Result<usize, E>,
+) -> Result<bool, AllocError> {
+    match size {
         Ok(size) => push_shown(text, size)?,
         Err(long) => push_told(text, long)?,
     }
     Ok(true)
+}
+
+/// The same of the PDU of a request.
+fn size_of(text: &mut String, request: Request<'_>) -> Result<bool, AllocError> {
+    push_size(text, request_pdu_size(&request))
 }
 
 /// How a request of these registers is written.

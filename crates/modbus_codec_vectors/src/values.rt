@@ -93,6 +93,33 @@ fn of_coils(alloc: Global, text: &mut String, word: &str) -> Result<bool, AllocE
     }
 }
 
+fn of_word(alloc: Global, text: &mut String, call: &str, word: &str) -> Result<bool, AllocError> {
+    match call {
+        "slave" => slave(text, word),
+        "packed" => of_coils(alloc, text, word),
+        _ => match bytes(alloc, word)? {
+            Some(data) => of_bytes(text, call, data.as_slice()),
+            None => Ok(false),
+        },
+    }
+}
+
+fn of_count_and_word(
+    alloc: Global,
+    text: &mut String,
+    call: &str,
+    count: &str,
+    word: &str,
+) -> Result<bool, AllocError> {
+    let Some(count) = number(count) else {
+        return Ok(false);
+    };
+    match bytes(alloc, word)? {
+        Some(data) => of_number(alloc, text, call, count, data.as_slice()),
+        None => Ok(false),
+    }
+}
+
 pub fn answer(
     alloc: Global,
     text: &mut String,
@@ -101,16 +128,8 @@ pub fn answer(
 ) -> Result<bool, AllocError> {
     match words {
         &[] if call == "slave" => slave(text, ""),
-        &[word] if call == "slave" => slave(text, word),
-        &[word] if call == "packed" => of_coils(alloc, text, word),
-        &[word] => match bytes(alloc, word)? {
-            Some(data) => of_bytes(text, call, data.as_slice()),
-            None => Ok(false),
-        },
-        &[first, word] => match (number(first), bytes(alloc, word)?) {
-            (Some(count), Some(data)) => of_number(alloc, text, call, count, data.as_slice()),
-            _ => Ok(false),
-        },
+        &[word] => of_word(alloc, text, call, word),
+        &[count, word] => of_count_and_word(alloc, text, call, count, word),
         _ => Ok(false),
     }
 }

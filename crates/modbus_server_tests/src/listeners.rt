@@ -278,21 +278,22 @@ fn accepting_one(
 }
 
 /// The same over one link, and what its worker read then.
-fn served_late_by_acceptor<R: Wait>(
+fn served_by_acceptor<R: Wait>(
     rt: &R,
     alloc: Global,
+    link: &mut MemoryLink,
 ) -> Result<(Result<(), ServeError<u8>>, u64, usize), AllocError> {
-    let mut link = link_of(alloc, &READ_ADU, &[])?;
-    let (answer, started) = serve_acceptor_late(rt, alloc, &mut accepting_one(alloc, &mut link)?);
+    let (answer, started) = serve_acceptor_late(rt, alloc, &mut accepting_one(alloc, &mut *link)?);
     Ok((answer, started, link.source().given()))
 }
 
 /// The call that the program makes raises it too.
 #[test]
 fn a_worker_of_an_acceptor_finds_its_flag_raised(rt: HostRuntime) -> Result<(), Fail> {
+    let mut link = link_of(rt.alloc(), &READ_ADU, &[])?;
     check(
         &rt,
-        served_late_by_acceptor(&rt, rt.alloc())?,
+        served_by_acceptor(&rt, rt.alloc(), &mut link)?,
         (Err(ServeError::AcceptFault), 1, 0),
     );
     Ok(())

@@ -10,7 +10,7 @@ use modbus_server::{
     ConnectionWorker, Framing, ProcessError, ServeError, Server, Terminated, accept_tcp_connection,
 };
 use modbus_table::SameWords;
-use modbus_table::outside::read_outside;
+use modbus_table::outside::{read_joined, read_outside};
 use modbus_table::text::{number, push_hex, push_shown};
 use std::alloc::{AllocError, Global};
 use std::net::SocketAddr;
@@ -37,11 +37,10 @@ fn port_and_outside(word: &str) -> Option<(u16, &str)> {
 
 /// A new link over the outside of this text.
 fn read_link(alloc: Global, outside: &str) -> Result<Option<MemoryLink>, AllocError> {
-    let mut words = Vec::new(alloc);
-    for word in outside.split('+') {
-        words.push(word)?;
+    match read_joined(alloc, outside)? {
+        Some(outside) => Ok(Some(outside.into_link())),
+        None => Ok(None),
     }
-    link_of(alloc, words.as_slice())
 }
 
 /// The address of a peer.

@@ -189,22 +189,6 @@ fn worked<I: Framing>(
     push_told(text, ended, link.source(), link.sink(), service)
 }
 
-/// As many bytes as each of these numbers, at most as many as there may be.
-fn sizes(alloc: Global, numbers: &[u64]) -> Result<Vec<usize>, AllocError> {
-    let mut sizes = Vec::new(alloc);
-    for number in numbers {
-        sizes.push(usize::try_from(*number).unwrap_or(usize::MAX))?;
-    }
-    Ok(sizes)
-}
-
-/// A line that is silent behind as many bytes as the words `p8` of the outside tell.
-fn burst_link(alloc: Global, outside: Outside) -> Result<BurstLink<TimedMemoryLink>, AllocError> {
-    let silences = sizes(alloc, outside.pending.as_slice())?;
-    let link = TimedMemoryLink::new(alloc, outside.into_link(), silences.as_slice())?;
-    Ok(BurstLink::new(link))
-}
-
 /// Slave 1 on a line that it shares with others.
 fn served_among_others(
     alloc: Global,
@@ -296,7 +280,7 @@ fn answer_over(
                 text,
                 service,
                 turns,
-                &mut burst_link(alloc, outside)?,
+                &mut BurstLink::new(outside.into_timed_link(alloc)?),
             )
         }
         "polled_serve" => {

@@ -1,10 +1,11 @@
 //! A source and a sink in memory, as the words of a line say. Byte strings are pieces, which come with a read each. Of the words that are
 //! a letter and a number, `r3` has read 3 fail, `w3` has write 3 fail, `t1` has each write take one byte at most, and `p3` has poll 3 of a
-//! link that is polled not be ready; all are counted from 0. The word `down` has a shutdown fail.
+//! link that is polled not be ready; all are counted from 0. The word `down` has a shutdown fail. A call of several links has a word for
+//! each, whose own words have a plus between them.
 ghost use Rattle.std.specs.Prelude.{◌<◌};
 
 use crate::text::bytes;
-use modbus_link::{MemoryLink, MemorySink, MemorySource, PolledMemoryLink};
+use modbus_link::{MemoryLink, MemorySink, MemorySource, PolledMemoryLink, TimedMemoryLink};
 use std::alloc::{AllocError, Global};
 
 /// The room of a sink in bytes.
@@ -27,6 +28,12 @@ impl Outside {
     pub fn into_polled_link(self, alloc: Global) -> Result<PolledMemoryLink, AllocError> {
         let link = MemoryLink::new(self.source, self.sink, self.fails_to_shut);
         PolledMemoryLink::new(alloc, link, self.pending.as_slice())
+    }
+
+    /// A line that is silent behind as many bytes as the words `p8` tell.
+    pub fn into_timed_link(self, alloc: Global) -> Result<TimedMemoryLink, AllocError> {
+        let silences = sizes(alloc, self.pending.as_slice())?;
+        TimedMemoryLink::new(alloc, self.into_link(), silences.as_slice())
     }
 }
 
@@ -122,4 +129,30 @@ pub fn read_outside(alloc: Global, words: &[&str]) -> Result<Option<Outside>, Al
         pending: draft.pending,
         fails_to_shut: draft.fails_to_shut,
     }))
+}
+
+/// As many bytes as each of these numbers, at most as many as there may be.
+fn sizes(alloc: Global, numbers: &[u64]) -> Result<Vec<usize>, AllocError> {
+    let mut sizes = Vec::new(alloc);
+    for number in numbers {
+        sizes.push(usize::try_from(*number).unwrap_or(usize::MAX))?;
+    }
+    Ok(sizes)
+}
+
+/// The line that these words say; none where one of them says nothing.
+pub fn read_line(alloc: Global, words: &[&str]) -> Result<Option<TimedMemoryLink>, AllocError> {
+    match read_outside(alloc, words)? {
+        Some(outside) => Ok(Some(outside.into_timed_link(alloc)?)),
+        None => Ok(None),
+    }
+}
+
+/// What a word says whose own words have a plus between them.
+pub fn read_joined(alloc: Global, joined: &str) -> Result<Option<Outside>, AllocError> {
+    let mut words = Vec::new(alloc);
+    for word in joined.split('+') {
+        words.push(word)?;
+    }
+    read_outside(alloc, words.as_slice())
 }

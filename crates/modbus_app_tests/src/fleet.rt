@@ -43,8 +43,8 @@ fn is_register(answer: &modbus_frame::Result<Response>, register: u16) -> bool {
 
 type TwoDevices<'a> = Fleet<'a, OwnAdus, PolledMemoryLink, ScheduledReadiness>;
 
-/// The devices under the keys 0 and 1, whose readiness comes in this order, and once for a key that no device has.
-fn devices<'a>(alloc: Global) -> Result<TwoDevices<'a>, AllocError> {
+/// Readiness that comes in this order, and once for a key that no device has.
+fn readiness(alloc: Global) -> Result<ScheduledReadiness, AllocError> {
     let schedule = [
         Ready::Link(1),
         Ready::Link(0),
@@ -52,10 +52,24 @@ fn devices<'a>(alloc: Global) -> Result<TwoDevices<'a>, AllocError> {
         Ready::Link(1),
         Ready::Link(1),
     ];
-    let readiness = ScheduledReadiness::new(alloc, &schedule)?;
-    let mut fleet = Fleet::new(alloc, readiness);
-    let _first = fleet.add(Device::new(Slave(1), 64, 1000))?;
-    let _second = fleet.add(Device::new(Slave(2), 64, 500))?;
+    ScheduledReadiness::new(alloc, &schedule)
+}
+
+/// Adds a device of a unit, whose call is given up after so many milliseconds.
+fn add(fleet: &mut TwoDevices<'_>, unit: u8, timeout: u64) -> Result<(), AllocError> {
+    let _key = fleet.add(Device::new(Slave(unit), 64, timeout))?;
+    Ok(())
+}
+
+fn add_both(fleet: &mut TwoDevices<'_>) -> Result<(), AllocError> {
+    add(fleet, 1, 1000)?;
+    add(fleet, 2, 500)
+}
+
+/// The devices under the keys 0 and 1.
+fn devices<'a>(alloc: Global) -> Result<TwoDevices<'a>, AllocError> {
+    let mut fleet = Fleet::new(alloc, readiness(alloc)?);
+    add_both(&mut fleet)?;
     Ok(fleet)
 }
 
@@ -106,12 +120,20 @@ fn tells_nothing(fleet: &mut TwoDevices<'_>, rounds: u32) -> bool {
     true
 }
 
-/// Whether it is told that the device under a key read this register.
-fn tells_register(fleet: &mut TwoDevices<'_>, key: usize, register: u16) -> bool {
-    match fleet.next_answer() {
+/// Whether it was told that the device under a key read this register.
+fn is_told(told: &Option<Told>, key: usize, register: u16) -> bool {
+    match told {
         Some(told) => told.key == key && is_register(&told.answer, register),
         None => false,
     }
+}
+
+/// Whether that is told next.
+fn tells_register(fleet: &mut TwoDevices<'_>, key: usize, register: u16) -> bool {
+    let told = fleet.next_answer();
+    let is_told = is_told(&told, key, register);
+    drop(told);
+    is_told
 }
 
 /// Whether the next round tells that the device under a key read this register, and nothing more.

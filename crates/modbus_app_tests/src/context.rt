@@ -1,40 +1,41 @@
 //! A client behind a box.
 
 use crate::check::check;
-use modbus_client::Context;
-use modbus_client::prelude::*;
-use modbus_frame::{Error, Result, ShutdownFault, TransportError};
+use modbus_client::{Client, Context};
+use modbus_frame::{Request, Response, Result, ShutdownFault, Slave, SlaveContext, Words};
 use std::alloc::{AllocError, Global};
 use std::process::Abort;
 use std::test::Fail;
 use std::time::Duration;
 
-/// A client that answers nothing, and keeps what it is told.
+/// A client whose device holds 7 in the one register that it has. It keeps what it is told.
 #[derive(Drop)]
-struct Silent {
+struct Seven {
+    alloc: Global,
     slave: Slave,
     timeout: Option<Duration>,
 }
 
-impl SlaveContext for Silent {
-    ghost selected = { λ silent. silent.slave.0 };
+impl SlaveContext for Seven {
+    ghost selected = { λ seven. seven.slave.0 };
 
     fn set_slave(&mut self, slave: Slave) {
         self.slave = slave;
     }
 }
 
-impl Client for Silent {
+impl Client for Seven {
     ghost answers = { λ _ _ _ _. Unit {0} };
 
     ghost disconnects = { λ _ _ _. Unit {0} };
 
-    ghost time_limit = { λ silent. silent.timeout };
+    ghost time_limit = { λ seven. seven.timeout };
 
     ghost limits = { λ _ _ _. Unit {0} };
 
     fn call(&mut self, _request: Request<'_>) -> Result<Response> {
-        Err(Error::Transport(TransportError::NotConnected))
+        let words = Vec::from_slice(self.alloc, &[7])?;
+        Ok(Ok(Response::ReadHoldingRegisters(Words::new(words))))
     }
 
     /// Fails for slave 9 alone.
@@ -54,13 +55,14 @@ impl Client for Silent {
     }
 }
 
-/// A box over a client that was told nothing yet.
-fn boxed(alloc: Global) -> std::result::Result<Box<dyn Client>, AllocError> {
-    let silent = Silent {
-        slave: Slave(0),
+/// Such a client of slave 1, in a box.
+pub fn boxed(alloc: Global) -> std::result::Result<Box<dyn Client>, AllocError> {
+    let seven = Seven {
+        alloc,
+        slave: Slave(1),
         timeout: None,
     };
-    let client: Box<dyn Client> = Box::new(alloc, silent)?;
+    let client: Box<dyn Client> = Box::new(alloc, seven)?;
     Ok(client)
 }
 
