@@ -150,10 +150,14 @@ fn answers_over(
     let address = SocketAddr::from((Ipv4Addr::LOCALHOST, 502));
     if call == "reconnect_rtu" {
         let mut client = RtuOverTcpClient::new(alloc, links, address, slave);
-        return rtu_steps(alloc, text, &mut client, words);
+        let answers = rtu_steps(alloc, text, &mut client, words);
+        drop(client);
+        return answers;
     }
     let mut client = TcpClient::new(alloc, links, address, slave);
-    tcp_steps(alloc, text, &mut client, words)
+    let answers = tcp_steps(alloc, text, &mut client, words);
+    drop(client);
+    answers
 }
 
 type Line = SerialClient<TimedMemoryLink>;
