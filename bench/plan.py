@@ -13,7 +13,7 @@ import sys
 import time
 
 TOP = os.path.dirname(os.path.dirname(os.path.abspath(__file__)))
-PROGRAM = os.path.join(TOP, "crates", "modbus_poll_bench", "out", "modbus_poll_bench")
+PROGRAM = os.path.join(TOP, "crates", "modbus_bench", "out", "modbus_bench")
 ITEMS = 1_000_000
 
 

@@ -15,7 +15,7 @@ import subprocess
 import sys
 
 TOP = os.path.dirname(os.path.dirname(os.path.abspath(__file__)))
-PROGRAM = os.path.join(TOP, "crates", "modbus_store_bench", "out", "modbus_store_bench")
+PROGRAM = os.path.join(TOP, "crates", "modbus_bench", "out", "modbus_bench")
 THREADS = (1, 8, 32, 128)
 MILLISECONDS = 1000
 

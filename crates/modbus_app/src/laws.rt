@@ -1,6 +1,5 @@
 //! Laws on the device that the program serves.
 ghost use Rattle.std.specs.Prelude.{◌≡◌, ℕ, List, [], All, Err};
-ghost use Rattle.modbus_link.specs.Outside.{Input, Output};
 ghost use Rattle.modbus_rtu.specs.Leftmost.{IsLeftmost};
 ghost use Rattle.modbus_rtu.specs.Stands.{frame_at};
 ghost use Rattle.modbus_server.specs.declared.error.ProcessError.TheVariants.{NoMemory};

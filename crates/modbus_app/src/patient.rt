@@ -1,7 +1,7 @@
 //! An acceptor that goes on where a fault may pass, and turns away the peers that there is no room for.
-ghost use Rattle.std.specs.Prelude.{◌≡◌, ◌≤◌, Bool, Result};
+ghost use Rattle.std.specs.Prelude.{◌≡◌, Bool, Result};
 ghost use Rattle.modbus_link.specs.Listens.{tally_at_start};
-ghost use Rattle.modbus_app.specs.Patient.{Pair, Patience, PatientState, AcceptsPatiently, IsPatient};
+ghost use Rattle.modbus_app.specs.Patient.{PatientState, AcceptsPatiently, IsPatient};
 
 use modbus_link::{Acceptor, Failed};
 use std::marker::Model;

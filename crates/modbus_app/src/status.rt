@@ -2,7 +2,7 @@
 ghost use Rattle.std.specs.Prelude.{◌≡◌, ◌≢◌, ℕ, ◌+◌, ◌≤◌, ◌++◌, length, Some};
 ghost use Rattle.arrayvec.specs.ArrayString.{array_string_len};
 ghost use Rattle.modbus_server.specs.declared.error.ProcessError.TheVariants.{ResponseTooLong, InvalidProtocol};
-ghost use Rattle.modbus_app.specs.Status.{status_of, line_of, usage_line, listener_status_of, listener_line_of, Reports};
+ghost use Rattle.modbus_app.specs.Status.{status_of, line_of, listener_status_of, listener_line_of, Reports};
 
 use arrayvec::ArrayString;
 use itoa::Buffer;

@@ -1,7 +1,8 @@
-//! A table of runs of the program over memory, and of requests to its device.
+//! A table of runs of the program over memory, of requests to its device, and of polls.
 #![tactic(auto)]
 
 mod asking;
+mod polls;
 mod program;
 mod store;
 mod units;
@@ -24,6 +25,7 @@ impl Calls for AppCalls {
         match call {
             "store" | "exchange" => store::answer(alloc, text, call, words),
             "only_unit" | "units" => units::answer(alloc, text, call, words),
+            "point" | "items" | "poll" => polls::answer(alloc, text, call, words),
             _ => program::answer(alloc, text, call, words),
         }
     }

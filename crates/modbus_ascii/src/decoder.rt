@@ -1,5 +1,5 @@
 //! The decoder of frames in the ASCII transmission mode, which looks at each byte once (MODBUS over Serial Line V1.02, section 2.5.2).
-ghost use Rattle.std.specs.Prelude.{◌≡◌, ◌≢◌, ◌↔◌, ℕ, ◌<◌, ◌≤◌, true, false, List, [], ◌∷◌, ◌++◌, length, take, drop, IsTrue, None};
+ghost use Rattle.std.specs.Prelude.{◌≡◌, ◌≢◌, ◌↔◌, ℕ, ◌<◌, ◌≤◌, true, false, List, [], ◌∷◌, ◌++◌, length, take, IsTrue, None};
 ghost use Rattle.modbus_ascii.specs.declared.decoder.Phase.TheVariants.{Digits};
 ghost use Rattle.modbus_ascii.specs.Limits.{colon, carriage_return, line_feed};
 ghost use Rattle.modbus_pdu.specs.Limits.{max_pdu};

@@ -1,5 +1,5 @@
 //! The burst that a server read last, as a framing: each read is a burst, and each burst is a message.
-ghost use Rattle.std.specs.Prelude.{◌≡◌, ◌-◌, length};
+ghost use Rattle.std.specs.Prelude.{◌-◌, length};
 ghost use Rattle.modbus_server.specs.declared.error.ProcessError.TheVariants.{TooManyRetries};
 ghost use Rattle.modbus_burst.specs.Framing.{bursts};
 ghost use Rattle.modbus_burst.specs.Limits.{most_read};

@@ -1,5 +1,5 @@
 //! The PDU of a response or an exception, written from a struct and lists.
-ghost use Rattle.std.specs.Prelude.{◌≡◌, ◌≢◌, ◌⊎◌, ◌<◌, ◌≤◌, take, length, IfOk, IfErr, Result, Ok, Err, Some, None};
+ghost use Rattle.std.specs.Prelude.{◌≡◌, ◌≢◌, ◌⊎◌, ◌<◌, take, length, IfOk, IfErr, Result, Ok, Err, Some, None};
 ghost use Rattle.std.specs.Result.{ForErr};
 ghost use Rattle.modbus_frame.specs.Codes.{function_number};
 ghost use Rattle.modbus_frame.specs.FunctionCodes.{exception_bit};

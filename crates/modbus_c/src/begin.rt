@@ -1,7 +1,6 @@
 //! The request of a call, written as the frame or the ADU that carries it.
-ghost use Rattle.std.specs.Prelude.{◌≡◌, ◌≢◌, ◌⊎◌, ◌<◌, ◌≤◌, true, false, length, IfOk, IfErr, Some, None};
+ghost use Rattle.std.specs.Prelude.{◌≡◌, ◌≢◌, ◌⊎◌, ◌<◌, true, false, length, IfOk, IfErr, Some, None};
 ghost use Rattle.modbus_frame.specs.Meaning.{Asked, meaning};
-ghost use Rattle.modbus_pdu.specs.Encodes.{Fits};
 ghost use Rattle.modbus_pdu.specs.Limits.{max_pdu};
 ghost use Rattle.modbus_pdu.specs.RequestPdu.{request_pdu};
 ghost use Rattle.modbus_rtu.specs.Frame.{frame};

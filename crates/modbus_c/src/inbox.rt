@@ -1,6 +1,6 @@
 //! The bytes of a serial line that were fed and not used yet, in memory of the caller: nothing of it is on the heap, and nothing is to be
 //! closed.
-ghost use Rattle.std.specs.Prelude.{◌≡◌, ◌+◌, ◌≤◌, ◌<◌, ◌++◌, Result, take, drop, length, true, false, IsTrue, ◌⊎◌};
+ghost use Rattle.std.specs.Prelude.{◌≡◌, ◌+◌, ◌≤◌, ◌<◌, ◌++◌, Result, take, drop, length, true, false};
 ghost use Rattle.modbus_rtu.specs.declared.front.Crowd.{Crowd as Crowded};
 ghost use Rattle.modbus_tcp.specs.Limits.{longest_response};
 ghost use Rattle.modbus_store.specs.Lent.{tables_of};

@@ -1,7 +1,6 @@
 //! A PDU that the caller holds, written as the message that carries it. It takes no memory.
-ghost use Rattle.std.specs.Prelude.{◌≡◌, ◌≢◌, ◌+◌, ◌<◌, ◌≤◌, ◌⊎◌, ◌++◌, [], ◌∷◌, length, take};
+ghost use Rattle.std.specs.Prelude.{◌≡◌, ◌≢◌, ◌+◌, ◌<◌, ◌≤◌, ◌⊎◌, ◌∷◌, length, take};
 ghost use Rattle.modbus_pdu.specs.Limits.{max_pdu};
-ghost use Rattle.modbus_pdu.specs.Word.{word};
 ghost use Rattle.modbus_rtu.specs.Frame.{frame};
 ghost use Rattle.modbus_rtu.specs.Limits.{overhead};
 ghost use Rattle.modbus_tcp.specs.Adu.{adu_of};

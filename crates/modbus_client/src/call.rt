@@ -1,6 +1,6 @@
 //! One call of a client, whatever frames its messages. It does no IO: it has bytes to be written, is fed those that come, and has
 //! an answer then.
-ghost use Rattle.std.specs.Prelude.{◌≡◌, ◌↔◌, ℕ, ◌<◌, ◌≤◌, [], length, drop, IsTrue, OnOk};
+ghost use Rattle.std.specs.Prelude.{◌≡◌, ◌↔◌, ◌<◌, ◌≤◌, [], length, drop, IsTrue, OnOk};
 ghost use Rattle.modbus_link.specs.Outside.{outside};
 ghost use Rattle.modbus_link.specs.Polled.{Flushes};
 ghost use Rattle.modbus_frame.specs.Meaning.{meaning};

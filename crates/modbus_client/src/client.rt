@@ -1,5 +1,5 @@
 //! What every client does.
-ghost use Rattle.std.specs.Prelude.{◌≡◌, ℕ, Option, Result};
+ghost use Rattle.std.specs.Prelude.{◌≡◌, Option, Result};
 ghost use Rattle.modbus_frame.specs.Meaning.{Asked, meaning};
 ghost use Rattle.modbus_frame.specs.declared.fault.ShutdownFault.{ShutdownFault};
 ghost use Rattle.std.specs.declared.time.Duration.{Duration};

@@ -2,7 +2,6 @@
 ghost use Rattle.std.specs.Prelude.{◌≡◌, ◌<◌, ◌≤◌, []};
 ghost use Rattle.modbus_link.specs.declared.polled.Polled.TheVariants.{Pending};
 ghost use Rattle.modbus_link.specs.Outside.{outside, Rose};
-ghost use Rattle.modbus_link.specs.Polled.{Waited};
 ghost use Rattle.modbus_frame.specs.Meaning.{meaning};
 ghost use Rattle.modbus_client.specs.Call.{holding, opened_with};
 ghost use Rattle.modbus_client.specs.Calls.{Sent, Exchanged, CountsDropped};

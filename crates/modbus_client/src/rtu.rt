@@ -1,5 +1,5 @@
 //! Clients of a serial line (MODBUS over Serial Line V1.02, section 2.5.1).
-ghost use Rattle.std.specs.Prelude.{◌≡◌, ℕ, ◌<◌, ◌++◌, ◌∷◌, List, [], length};
+ghost use Rattle.std.specs.Prelude.{◌≡◌, ◌<◌};
 ghost use Rattle.modbus_frame.specs.Meaning.{meaning};
 ghost use Rattle.modbus_client.specs.Rtu.{rtu_protocol, rtu_heading};
 ghost use Rattle.modbus_client.specs.State.{attached_client};

@@ -1,5 +1,5 @@
 //! Clients of TCP devices (MODBUS Messaging on TCP/IP V1.0b, section 3.1).
-ghost use Rattle.std.specs.Prelude.{◌≡◌, ℕ, ◌<◌, ◌++◌, ◌∷◌, List, [], length};
+ghost use Rattle.std.specs.Prelude.{◌≡◌, ℕ, ◌<◌, List};
 ghost use Rattle.modbus_frame.specs.Meaning.{meaning};
 ghost use Rattle.modbus_frame.specs.declared.fault.HeaderSeen.{HeaderSeen};
 ghost use Rattle.modbus_client.specs.Call.{LooksAs, IsOwn};

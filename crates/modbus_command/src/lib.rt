@@ -1,8 +1,10 @@
-//! What the programs share that have a command line: their words, what clap has to say, their status, and values as JSON.
+//! What the programs share that have a command line: what it may have, its words, what clap has to say, their status, and values as JSON.
 #![tactic(auto)]
 
+mod arguments;
 mod value;
 mod words;
 
+pub use crate::arguments::{flag, option, positional};
 pub use crate::value::put_value;
 pub use crate::words::{FAILED, USAGE, say, why_no_point, words_of};

@@ -1,8 +1,8 @@
 //! The words of the command line.
 
 use crate::device::Texts;
-use clap::{Arg, ArgAction, ArgMatches, Command, Error, value_parser};
-use modbus_command::{FAILED, USAGE};
+use clap::{Arg, ArgMatches, Command, Error, value_parser};
+use modbus_command::{FAILED, USAGE, flag, option, positional};
 use modbus_frame::SlaveId;
 use std::alloc::{AllocError, AllocFailed, Global};
 use std::net::SocketAddr;
@@ -60,76 +60,75 @@ impl<T: Drop> From<AllocFailed<T>> for Wrong {
 }
 
 fn units<'a>(alloc: Global) -> Arg<'a> {
-    Arg::new(alloc, "units")
-        .value_name("UNIT")
-        .required(true)
-        .num_args(1..)
-        .help("The address of a unit, 1 to 247, each once")
+    positional(
+        alloc,
+        "units",
+        "UNIT",
+        "The address of a unit, 1 to 247, each once",
+    )
+    .num_args(1..)
 }
 
 fn entries<'a>(alloc: Global) -> Arg<'a> {
-    Arg::new(alloc, "entries")
-        .long("entries")
-        .value_name("N")
-        .value_parser(value_parser!(u32).range(1..=65_536))
-        .default_value("1024")
-        .help("How many coils, discrete inputs, holding registers and input registers a unit has")
+    option(
+        alloc,
+        "entries",
+        "N",
+        "How many coils, discrete inputs, holding registers and input registers a unit has",
+    )
+    .value_parser(value_parser!(u32).range(1..=65_536))
+    .default_value("1024")
 }
 
 fn listen<'a>(alloc: Global) -> Arg<'a> {
-    Arg::new(alloc, "listen")
-        .long("listen")
-        .value_name("ADDRESS:PORT")
-        .help("Listen for Modbus TCP, in place of the line on the standard streams")
-}
-
-fn line<'a>(alloc: Global) -> Arg<'a> {
-    Arg::new(alloc, "line")
-        .long("line")
-        .value_name("ADDRESS:PORT")
-        .help(
-            "Connect to what carries the bytes of a serial line, as socat or a device server does",
-        )
-}
-
-fn silence<'a>(alloc: Global) -> Result<Arg<'a>, AllocError> {
-    Ok(
-        Arg::new(alloc, "silence")
-            .long("silence")
-            .value_name("MS")
-            .value_parser(value_parser!(u64).range(1..=60_000))
-            .default_value("5")
-            .help("How many milliseconds without a byte end a frame of such a line")
-            .requires_arg("line")?,
+    option(
+        alloc,
+        "listen",
+        "ADDRESS:PORT",
+        "Listen for Modbus TCP, in place of the line on the standard streams",
     )
 }
 
+fn line<'a>(alloc: Global) -> Arg<'a> {
+    option(
+        alloc,
+        "line",
+        "ADDRESS:PORT",
+        "Connect to what carries the bytes of a serial line, as socat or a device server does",
+    )
+}
+
+fn silence<'a>(alloc: Global) -> Result<Arg<'a>, AllocError> {
+    option(
+        alloc,
+        "silence",
+        "MS",
+        "How many milliseconds without a byte end a frame of such a line",
+    )
+    .value_parser(value_parser!(u64).range(1..=60_000))
+    .default_value("5")
+    .requires_arg("line")
+}
+
 fn server_id<'a>(alloc: Global) -> Arg<'a> {
-    Arg::new(alloc, "server-id")
-        .long("server-id")
-        .value_name("N")
+    option(alloc, "server-id", "N", "Its number in Report Server ID")
         .value_parser(value_parser!(u8))
         .default_value("1")
-        .help("Its number in Report Server ID")
 }
 
 /// The word with which a unit that is not there is told.
 fn absent<'a>(alloc: Global) -> Result<Arg<'a>, AllocError> {
-    Ok(
-        Arg::new(alloc, "absent")
-            .long("absent")
-            .action(ArgAction::SetTrue)
-            .help("Answer a request for a unit that is not there with the exception 0B")
-            .requires_arg("listen")?,
+    flag(
+        alloc,
+        "absent",
+        "Answer a request for a unit that is not there with the exception 0B",
     )
+    .requires_arg("listen")
 }
 
 /// A word of what the device says of itself, which takes a text.
 fn text<'a>(alloc: Global, name: &'a str, help: &'a str) -> Arg<'a> {
-    Arg::new(alloc, name)
-        .long(name)
-        .value_name("TEXT")
-        .help(help)
+    option(alloc, name, "TEXT", help)
 }
 
 fn vendor<'a>(alloc: Global) -> Arg<'a> {

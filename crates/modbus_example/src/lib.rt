@@ -7,8 +7,6 @@
 mod counter;
 mod serve;
 mod single;
-#[cfg(test)]
-mod tests;
 mod thermometer;
 
 pub use crate::counter::Counter;

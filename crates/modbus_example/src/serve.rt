@@ -1,8 +1,5 @@
 //! A server of the framing of this crate.
 ghost use Rattle.std.specs.Prelude.{◌≡◌, [], ◌-◌, ◌^◌, IsTrue, Ok};
-ghost use Rattle.modbus_link.specs.Outside.{bytes_appended, cuts_made};
-ghost use Rattle.modbus_link.specs.Reads.{totals};
-ghost use Rattle.modbus_server.specs.Served.{Served, remaining};
 ghost use Rattle.modbus_server.specs.Complete.{Completes};
 ghost use Rattle.modbus_server.specs.Step.{Ran};
 ghost use Rattle.modbus_example.specs.Counter.{counting};

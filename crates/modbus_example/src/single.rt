@@ -1,5 +1,4 @@
 //! A framing in which each byte is a message: for the slave that it names, with itself as its PDU. A byte 0 is a fault.
-ghost use Rattle.std.specs.Prelude.{◌≡◌};
 ghost use Rattle.modbus_server.specs.declared.error.ProcessError.TheVariants.{InvalidLength};
 ghost use Rattle.modbus_example.specs.Single.{singles};
 

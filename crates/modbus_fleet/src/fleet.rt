@@ -1,5 +1,5 @@
 //! Many devices, and what is ready of them.
-ghost use Rattle.std.specs.Prelude.{◌≡◌, ◌↔◌, ◌≤◌, ℕ, [], Some, None, IsTrue, IfOk, OnOk, OnErr, if◌then◌else◌, ◌==◌, option_copied};
+ghost use Rattle.std.specs.Prelude.{◌≡◌, ◌↔◌, ◌≤◌, [], Some, None, IsTrue, IfOk, OnOk, OnErr, if◌then◌else◌, ◌==◌, option_copied};
 ghost use Rattle.modbus_frame.specs.Meaning.{meaning};
 ghost use Rattle.modbus_link.specs.Line.{meaning_of};
 ghost use Rattle.modbus_link.specs.Outside.{Rose};

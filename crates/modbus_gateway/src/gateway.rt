@@ -1,5 +1,4 @@
 //! The devices of a serial line, as what answers the requests of TCP.
-ghost use Rattle.std.specs.Prelude.{◌≡◌};
 ghost use Rattle.modbus_link.specs.Line.{meaning_of};
 ghost use Rattle.modbus_frame.specs.Meaning.{meaning};
 ghost use Rattle.modbus_service.specs.Answering.{Answering, Keeps};

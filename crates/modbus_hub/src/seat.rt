@@ -1,5 +1,5 @@
 //! One connection: its link and its server.
-ghost use Rattle.std.specs.Prelude.{◌≡◌, [], ◌-◌, ◌^◌, true, false, IsTrue, IfOk};
+ghost use Rattle.std.specs.Prelude.{◌≡◌, [], ◌-◌, true, false, IsTrue, IfOk};
 ghost use Rattle.modbus_link.specs.Line.{meaning_of};
 ghost use Rattle.modbus_link.specs.Outside.{Rose};
 ghost use Rattle.modbus_server.specs.Polled.{Rests};

@@ -1,5 +1,5 @@
 //! A law on what a device says of itself, about definitions alone. It is proved by its contract, and its body is empty.
-ghost use Rattle.std.specs.Prelude.{◌≡◌, ◌≤◌, ℕ};
+ghost use Rattle.std.specs.Prelude.{◌≤◌, ℕ};
 ghost use Rattle.modbus_pdu.specs.Limits.{max_pdu};
 ghost use Rattle.modbus_pdu.specs.ResponseLaws.{response_size};
 ghost use Rattle.modbus_frame.specs.declared.code.ReadCode.{ReadCode};

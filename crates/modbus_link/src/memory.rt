@@ -1,5 +1,5 @@
 //! A source and a sink in memory, for tests and for programs over bytes that they hold.
-ghost use Rattle.std.specs.Prelude.{[], ◌≡◌, ◌↔◌, ℕ, ◌+◌, ◌<◌, ◌≤◌, length, All, Contains, IsTrue, IfOk, OnErr, IsErr, vec_len, vec_capacity, slice_index};
+ghost use Rattle.std.specs.Prelude.{◌≡◌, ◌+◌, ◌<◌, ◌≤◌, length, All, Contains, IsTrue, IfOk, vec_len, vec_capacity};
 ghost use Rattle.std.specs.Io.{ReadsAtMost, WritesAtMost};
 ghost use Rattle.modbus_link.specs.Outside.{Advances, Extends, bytes_appended, ReadIsTold, front_of};
 ghost use Rattle.modbus_link.specs.Memory.{SourceState, SinkState, source_input, sink_output, source_at_start, sink_at_start, MemoryReads, MemoryWrites};

@@ -1,9 +1,9 @@
 //! Links over TCP, what makes them and what accepts them: the trusted edge, which tells no content, only what it counts and was told.
 //!
 //! A call that a signal interrupts is tried again and is no fault, as with the other adapters over std.
-ghost use Rattle.std.specs.Prelude.{◌≡◌, ◌<◌, ◌≤◌, length, IfOk, OnErr};
+ghost use Rattle.std.specs.Prelude.{◌≡◌, ◌<◌, length, IfOk};
 ghost use Rattle.std.specs.Io.{ReadsAtMost, WritesAtMost};
-ghost use Rattle.modbus_link.specs.Outside.{Rose, Advances, Extends, untold_input, untold_output};
+ghost use Rattle.modbus_link.specs.Outside.{Advances, Extends, untold_input, untold_output};
 ghost use Rattle.modbus_link.specs.Memory.{next_count, faults_after};
 ghost use Rattle.modbus_link.specs.Line.{shut, Shuts};
 ghost use Rattle.modbus_link.specs.Polled.{at_once};

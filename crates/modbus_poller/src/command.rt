@@ -1,6 +1,7 @@
 //! The words of the command line.
 
-use clap::{Arg, ArgAction, ArgMatches, Command, Error, value_parser};
+use clap::{Arg, ArgMatches, Command, Error, value_parser};
+use modbus_command::{flag, option, positional};
 use std::alloc::{AllocError, Global};
 
 /// How values are printed.
@@ -13,79 +14,76 @@ const ITEMS: &str =
                      text1 to text125 (registers of two characters)";
 
 fn device<'a>(alloc: Global) -> Arg<'a> {
-    Arg::new(alloc, "device")
-        .value_name("ADDRESS:PORT")
-        .required(true)
-        .help("The device: an IP address and a port, as 192.0.2.1:502 or [2001:db8::1]:502")
-}
-
-fn unit<'a>(alloc: Global) -> Arg<'a> {
-    Arg::new(alloc, "unit")
-        .value_name("UNIT")
-        .required(true)
-        .value_parser(value_parser!(u8))
-        .help("The unit identifier, 0 to 255")
-}
-
-fn timeout<'a>(alloc: Global) -> Arg<'a> {
-    Arg::new(alloc, "timeout")
-        .long("timeout")
-        .value_name("MS")
-        .value_parser(value_parser!(u64).range(1..=86_400_000))
-        .default_value("1000")
-        .help("How long a connection, a read or a write may take, in milliseconds")
-}
-
-fn every<'a>(alloc: Global) -> Arg<'a> {
-    Arg::new(alloc, "every")
-        .long("every")
-        .value_name("MS")
-        .value_parser(value_parser!(u64).range(1..=86_400_000))
-        .help("Poll again after so many milliseconds, and again")
-}
-
-fn count<'a>(alloc: Global) -> Result<Arg<'a>, AllocError> {
-    Ok(
-        Arg::new(alloc, "count")
-            .long("count")
-            .value_name("N")
-            .value_parser(value_parser!(u64).range(1..=1_000_000_000_000))
-            .help("End after so many polls")
-            .requires_arg("every")?,
+    positional(
+        alloc,
+        "device",
+        "ADDRESS:PORT",
+        "The device: an IP address and a port, as 192.0.2.1:502 or [2001:db8::1]:502",
     )
 }
 
+fn unit<'a>(alloc: Global) -> Arg<'a> {
+    positional(alloc, "unit", "UNIT", "The unit identifier, 0 to 255").value_parser(value_parser!(
+        u8
+    ))
+}
+
+/// An option of so many milliseconds, a day at most.
+fn millis<'a>(alloc: Global, name: &'a str, help: &'a str) -> Arg<'a> {
+    option(alloc, name, "MS", help).value_parser(value_parser!(u64).range(1..=86_400_000))
+}
+
+fn timeout<'a>(alloc: Global) -> Arg<'a> {
+    millis(
+        alloc,
+        "timeout",
+        "How long a connection, a read or a write may take, in milliseconds",
+    )
+    .default_value("1000")
+}
+
+fn every<'a>(alloc: Global) -> Arg<'a> {
+    millis(
+        alloc,
+        "every",
+        "Poll again after so many milliseconds, and again",
+    )
+}
+
+fn count<'a>(alloc: Global) -> Result<Arg<'a>, AllocError> {
+    option(alloc, "count", "N", "End after so many polls")
+        .value_parser(value_parser!(u64).range(1..=1_000_000_000_000))
+        .requires_arg("every")
+}
+
 fn retries<'a>(alloc: Global) -> Arg<'a> {
-    Arg::new(alloc, "retries")
-        .long("retries")
-        .value_name("N")
-        .value_parser(value_parser!(u32).range(0..=1000))
-        .default_value("1")
-        .help("How often a read is sent again over a new connection")
+    option(
+        alloc,
+        "retries",
+        "N",
+        "How often a read is sent again over a new connection",
+    )
+    .value_parser(value_parser!(u32).range(0..=1000))
+    .default_value("1")
 }
 
 fn format<'a>(alloc: Global) -> Arg<'a> {
-    Arg::new(alloc, "format")
-        .long("format")
-        .value_name("FORMAT")
-        .value_parser(FORMATS.as_slice())
-        .default_value("table")
-        .help("How values are printed; csv and json have a line for each poll")
+    option(
+        alloc,
+        "format",
+        "FORMAT",
+        "How values are printed; csv and json have a line for each poll",
+    )
+    .value_parser(FORMATS.as_slice())
+    .default_value("table")
 }
 
 fn plan<'a>(alloc: Global) -> Arg<'a> {
-    Arg::new(alloc, "plan")
-        .long("plan")
-        .action(ArgAction::SetTrue)
-        .help("Print the reads of a poll, and send nothing")
+    flag(alloc, "plan", "Print the reads of a poll, and send nothing")
 }
 
 fn items<'a>(alloc: Global) -> Arg<'a> {
-    Arg::new(alloc, "items")
-        .value_name("ITEM")
-        .required(true)
-        .num_args(1..)
-        .help(ITEMS)
+    positional(alloc, "items", "ITEM", ITEMS).num_args(1..)
 }
 
 // Each word is a function of its own: a function that owns several is proved for minutes.
@@ -104,20 +102,24 @@ fn poll_command<'a>(alloc: Global) -> Result<Command<'a>, AllocError> {
 }
 
 fn first<'a>(alloc: Global) -> Arg<'a> {
-    Arg::new(alloc, "first")
-        .value_name("FIRST")
-        .required(true)
-        .value_parser(value_parser!(u16))
-        .help("The address of the first, 0 to 65535")
+    positional(
+        alloc,
+        "first",
+        "FIRST",
+        "The address of the first, 0 to 65535",
+    )
+    .value_parser(value_parser!(u16))
 }
 
 fn values<'a>(alloc: Global) -> Arg<'a> {
-    Arg::new(alloc, "values")
-        .value_name("VALUE")
-        .required(true)
-        .num_args(1..)
-        .value_parser(value_parser!(u16))
-        .help("What the registers are to hold, 0 to 65535 each; 1 to 123 of them")
+    positional(
+        alloc,
+        "values",
+        "VALUE",
+        "What the registers are to hold, 0 to 65535 each; 1 to 123 of them",
+    )
+    .num_args(1..)
+    .value_parser(value_parser!(u16))
 }
 
 fn write_command<'a>(alloc: Global) -> Result<Command<'a>, AllocError> {
@@ -134,12 +136,14 @@ fn write_command<'a>(alloc: Global) -> Result<Command<'a>, AllocError> {
 const STATES: [&str; 2] = ["0", "1"];
 
 fn states<'a>(alloc: Global) -> Arg<'a> {
-    Arg::new(alloc, "states")
-        .value_name("STATE")
-        .required(true)
-        .num_args(1..)
-        .value_parser(STATES.as_slice())
-        .help("What the coils are to be, 0 for OFF and 1 for ON; 1 to 1968 of them")
+    positional(
+        alloc,
+        "states",
+        "STATE",
+        "What the coils are to be, 0 for OFF and 1 for ON; 1 to 1968 of them",
+    )
+    .num_args(1..)
+    .value_parser(STATES.as_slice())
 }
 
 fn write_coils_command<'a>(alloc: Global) -> Result<Command<'a>, AllocError> {

@@ -1,6 +1,5 @@
 //! What connects to the device, and keeps why it could not.
 ghost use Rattle.std.specs.Prelude.{◌≡◌};
-ghost use Rattle.modbus_link.specs.Tcp.{tcp_at_start};
 
 use modbus_link::{Connector, Failed, TcpLink};
 use std::io::ErrorKind;

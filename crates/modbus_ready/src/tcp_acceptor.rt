@@ -2,7 +2,7 @@
 ghost use Rattle.std.specs.Prelude.{◌≡◌};
 ghost use Rattle.modbus_link.specs.Listens.{tally_at_start};
 ghost use Rattle.modbus_ready.specs.Accepts.{tally_by};
-ghost use Rattle.modbus_ready.specs.Polls.{polled_tcp_at_start, GivesNewLink};
+ghost use Rattle.modbus_ready.specs.Polls.{GivesNewLink};
 
 use crate::acceptor::PolledAcceptor;
 use crate::tcp_link::PolledTcpLink;

@@ -1,10 +1,10 @@
 //! A link over a TCP stream that does not block.
 //!
 //! A call that a signal interrupts is tried again and is no fault, as with the other adapters over std.
-ghost use Rattle.std.specs.Prelude.{◌≡◌, ◌<◌, ◌≤◌, length, IfOk, OnErr};
+ghost use Rattle.std.specs.Prelude.{◌≡◌, ◌<◌, ◌≤◌, length, IfOk};
 ghost use Rattle.std.specs.Io.{ReadsAtMost, WritesAtMost};
-ghost use Rattle.modbus_link.specs.Outside.{Rose, Advances, Extends, untold_input, untold_output};
-ghost use Rattle.modbus_link.specs.Polled.{at_once, Waited};
+ghost use Rattle.modbus_link.specs.Outside.{Advances, Extends, untold_input, untold_output};
+ghost use Rattle.modbus_link.specs.Polled.{at_once};
 ghost use Rattle.modbus_ready.specs.Polls.{polled_tcp_at_start, after_read, after_write};
 
 use mio::net::TcpStream;

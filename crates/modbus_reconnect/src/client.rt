@@ -1,7 +1,6 @@
 //! The client.
 ghost use Rattle.std.specs.Prelude.{◌≡◌, ◌↔◌, IsNone, IfSome};
 ghost use Rattle.modbus_link.specs.Line.{meaning_of};
-ghost use Rattle.modbus_frame.specs.Meaning.{meaning};
 ghost use Rattle.modbus_client.specs.Connects.{connector_of};
 ghost use Rattle.modbus_reconnect.specs.State.{unconnected_client, meaning_by};
 ghost use Rattle.modbus_reconnect.specs.Stands.{IsReadyIfSome};

@@ -1,5 +1,5 @@
 //! A line that is left to fall silent, so that no late reply is before the next request.
-ghost use Rattle.std.specs.Prelude.{◌≡◌, ◌<◌, ◌≤◌};
+ghost use Rattle.std.specs.Prelude.{◌≡◌, ◌<◌};
 ghost use Rattle.modbus_reconnect.specs.Settles.{DropsNoise, Settles};
 
 use modbus_link::{Failed, Polled, TimedLink};

@@ -1,6 +1,6 @@
 //! The codecs of the two ends of a serial line: a server reads requests and writes responses, a client the other way round
 //! (MODBUS over Serial Line V1.02, section 2.5.1).
-ghost use Rattle.std.specs.Prelude.{◌≡◌, ◌<◌, Ok, Err, None, length, IfOk};
+ghost use Rattle.std.specs.Prelude.{◌≡◌, ◌<◌, Ok, Err, None, length};
 ghost use Rattle.std.specs.Result.{ForErr};
 ghost use Rattle.modbus_frame.specs.Codes.{function_number};
 ghost use Rattle.modbus_frame.specs.Meaning.{meaning};

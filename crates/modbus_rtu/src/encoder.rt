@@ -1,9 +1,9 @@
 //! The encoders of frames: the slave address, the PDU, and the checksum of both (MODBUS over Serial Line V1.02, section 2.5.1).
-ghost use Rattle.std.specs.Prelude.{◌≡◌, ◌+◌, ◌%◌, ◌/◌, ◌<◌, ◌≤◌, [], ◌∷◌, ◌++◌, length, take, drop, Err, OnOk, OnErr};
+ghost use Rattle.std.specs.Prelude.{◌≡◌, ◌+◌, ◌%◌, ◌/◌, ◌<◌, ◌≤◌, [], ◌∷◌, ◌++◌, length, drop, Err};
 ghost use Rattle.std.specs.Result.{ForErr};
 ghost use Rattle.modbus_frame.specs.Codes.{function_number};
 ghost use Rattle.modbus_frame.specs.Meaning.{meaning};
-ghost use Rattle.modbus_pdu.specs.Encodes.{Encodes, Fits};
+ghost use Rattle.modbus_pdu.specs.Encodes.{Encodes};
 ghost use Rattle.modbus_pdu.specs.RequestPdu.{request_pdu};
 ghost use Rattle.modbus_pdu.specs.ResponsePdu.{response_result_pdu};
 ghost use Rattle.modbus_rtu.specs.Checksum.{crc};

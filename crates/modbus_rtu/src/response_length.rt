@@ -1,6 +1,5 @@
 //! How long the PDU of a response is, by its first bytes (Modbus Application Protocol V1.1b3, sections 6 and 7).
-ghost use Rattle.std.specs.Prelude.{◌≡◌, ◌≢◌, ℕ, ◌+◌, ◌-◌, ◌*◌, ◌<◌, ◌≤◌, IfOk, IfNone, IfSome, IsErr, Ok, None, List, length, slice_get};
-ghost use Rattle.std.specs.Option.{option_map};
+ghost use Rattle.std.specs.Prelude.{◌≡◌, ◌≢◌, ◌+◌, ◌-◌, ◌*◌, ◌<◌, ◌≤◌, IfOk, IfNone, IfSome, IsErr, Ok, None, length, slice_get};
 ghost use Rattle.modbus_rtu.specs.ResponseHead.{place_after_object, after_objects, held_len, identified_len, response_head, word_len};
 ghost use Rattle.modbus_rtu.specs.Limits.{slave_address, overhead, first_object, longest_object, most_objects_end, longest_identification, max_word};
 ghost use Rattle.modbus_pdu.specs.Limits.{fifo_head};

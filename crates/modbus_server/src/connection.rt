@@ -3,7 +3,6 @@ ghost use Rattle.std.specs.Prelude.{◌≡◌, ◌↔◌, ℕ, ◌+◌, ◌<◌,
 ghost use Rattle.modbus_pdu.specs.Message.{Message};
 ghost use Rattle.modbus_link.specs.Outside.{outside, front_of};
 ghost use Rattle.modbus_link.specs.Polled.{at_once, PollsPiece, Flushes};
-ghost use Rattle.modbus_server.specs.Exchanges.{Exchange};
 ghost use Rattle.modbus_server.specs.Served.{Past, Stands, NextTakesMemory};
 ghost use Rattle.modbus_server.specs.Transfer.{Fills};
 ghost use Rattle.modbus_server.specs.Next.{TakesAs, KeepsAs, Took, Fed};

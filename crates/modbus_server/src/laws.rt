@@ -1,7 +1,6 @@
 //! Laws on the definitions alone.
 
 ghost use Rattle.std.specs.Prelude.{◌≡◌, ℕ, List, [], All, Result, Err};
-ghost use Rattle.modbus_link.specs.Outside.{Input, Output};
 ghost use Rattle.modbus_rtu.specs.Leftmost.{IsLeftmost};
 ghost use Rattle.modbus_rtu.specs.Stands.{frame_at};
 ghost use Rattle.modbus_server.specs.declared.error.ProcessError.TheVariants as errors;

@@ -1,5 +1,5 @@
 //! The driver of a connection over memory: the input is one piece of bytes, and ends behind it.
-ghost use Rattle.std.specs.Prelude.{◌≡◌, ◌<◌, ◌≤◌, ◌++◌, [], ◌∷◌, length, false, IsTrue, OnOk, OnErr};
+ghost use Rattle.std.specs.Prelude.{◌≡◌, ◌<◌, ◌≤◌, ◌++◌, [], length, IsTrue, OnOk, OnErr};
 ghost use Rattle.modbus_server.specs.Piece.{ServedHeld, ServedPiece, CompletesPiece};
 
 use crate::connection::Connection;

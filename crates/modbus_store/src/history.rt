@@ -1,5 +1,5 @@
 //! The calls of a shared store, in their order.
-ghost use Rattle.std.specs.Prelude.{◌≡◌, ◌==◌, [], ◌∷◌, ◌++◌, ◌+◌, ◌<◌, ◌^◌, length, slice_get, Some, None, MatchOption, IfOk, IfErr};
+ghost use Rattle.std.specs.Prelude.{◌≡◌, ◌==◌, [], ◌∷◌, ◌++◌, ◌+◌, ◌<◌, length, slice_get, Some, None, MatchOption, IfOk, IfErr};
 
 use crate::outcome::Outcome;
 use modbus_frame::{Request, SlaveId};

@@ -2,7 +2,6 @@
 //!
 //! A pass draws a ticket, waits until the word `serving` shows it, takes the store out of the slot, and puts it back before it lets the
 //! next one in. `docs/ARCHITECTURE.md` lists the words and the steps.
-ghost use Rattle.std.specs.Prelude.{ℕ};
 
 use crate::history::History;
 use crate::store::RegisterStore;

@@ -1,6 +1,6 @@
 //! What a request reads of the tables (Modbus Application Protocol V1.1b3, section 6).
-ghost use Rattle.std.specs.Prelude.{◌≡◌, ◌≤◌, ◌+◌, ◌<◌, ℕ, Bool, List, Ok, Err, length, slice_index};
-ghost use Rattle.modbus_store.specs.Tables.{entries, with_entries};
+ghost use Rattle.std.specs.Prelude.{◌≡◌, ◌≤◌, ◌+◌, ◌<◌, Ok, Err, length, slice_index};
+ghost use Rattle.modbus_store.specs.Tables.{with_entries};
 ghost use Rattle.modbus_store.specs.Plan.{ReadsAs, ReadsAfter, ReadsQueue};
 
 use crate::bounds::{check_both, check_count, check_range};

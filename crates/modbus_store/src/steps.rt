@@ -1,5 +1,5 @@
 //! The steps of the lock, one function each, and the loops that wait. They speak of the seat alone.
-ghost use Rattle.std.specs.Prelude.{◌≡◌, true, ◌∷◌, [], ◌^◌, ◌<◌, ◌≤◌, None, IfSome, IfNone, MatchBool};
+ghost use Rattle.std.specs.Prelude.{◌≡◌, true, [], ◌^◌, ◌<◌, ◌≤◌, None, IfSome, IfNone, MatchBool};
 ghost use Rattle.modbus_frame.specs.Meaning.{meaning};
 ghost use Rattle.modbus_store.specs.Outcomes.{outcome_of};
 ghost use Rattle.modbus_store.specs.Views.{resting, split_view};

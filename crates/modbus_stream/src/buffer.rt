@@ -1,5 +1,4 @@
 //! The bytes that a server read and did not use yet, as a framing: pieces of a stream.
-ghost use Rattle.std.specs.Prelude.{◌≡◌, length};
 ghost use Rattle.modbus_server.specs.declared.error.ProcessError.TheVariants.{TooManyRetries};
 ghost use Rattle.modbus_stream.specs.Framing.{stream};
 

@@ -1,5 +1,5 @@
 //! The lines that the program prints, each an object of JSON (RFC 8259).
-ghost use Rattle.std.specs.Prelude.{◌≡◌, ◌++◌, ◌∷◌, [], IfOk, OnOk};
+ghost use Rattle.std.specs.Prelude.{◌≡◌, [], IfOk};
 ghost use Rattle.modbus_supervisor.specs.Lines.{line_head, text_of_tokens, changed_line, refused_line, away_line, back_line};
 
 use json::Writer;

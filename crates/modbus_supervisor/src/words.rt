@@ -1,6 +1,7 @@
 //! The words of the command line.
 
-use clap::{Arg, ArgAction, ArgMatches, Command, Error, value_parser};
+use clap::{Arg, ArgMatches, Command, Error, value_parser};
+use modbus_command::{flag, option, positional};
 use std::alloc::{AllocError, Global};
 
 /// What the words ask for.
@@ -22,21 +23,18 @@ pub struct Task<'a> {
 const MOST_MILLIS: i64 = 86_400_000;
 
 fn millis<'a>(alloc: Global, name: &'a str, help: &'a str) -> Arg<'a> {
-    Arg::new(alloc, name)
-        .long(name)
-        .value_name("MS")
+    option(alloc, name, "MS", help)
         .value_parser(value_parser!(u32).range(1..=MOST_MILLIS))
         .default_value("1000")
-        .help(help)
 }
 
 fn file<'a>(alloc: Global) -> Arg<'a> {
-    Arg::new(alloc, "file")
-        .value_name("FILE")
-        .required(true)
-        .help(
-            "The list, a line for each device: a name, ADDRESS:PORT, a unit identifier and items, as pump1 192.0.2.1:502 1 level=100:u16",
-        )
+    positional(
+        alloc,
+        "file",
+        "FILE",
+        "The list, a line for each device: a name, ADDRESS:PORT, a unit identifier and items, as pump1 192.0.2.1:502 1 level=100:u16",
+    )
 }
 
 fn every<'a>(alloc: Global) -> Arg<'a> {
@@ -56,18 +54,21 @@ fn timeout<'a>(alloc: Global) -> Arg<'a> {
 }
 
 fn count<'a>(alloc: Global) -> Arg<'a> {
-    Arg::new(alloc, "count")
-        .long("count")
-        .value_name("N")
-        .value_parser(value_parser!(u64).range(1..=1_000_000_000_000))
-        .help("End after so many polls of each device; else it goes on for ever")
+    option(
+        alloc,
+        "count",
+        "N",
+        "End after so many polls of each device; else it goes on for ever",
+    )
+    .value_parser(value_parser!(u64).range(1..=1_000_000_000_000))
 }
 
 fn plan<'a>(alloc: Global) -> Arg<'a> {
-    Arg::new(alloc, "plan")
-        .long("plan")
-        .action(ArgAction::SetTrue)
-        .help("Print the reads of each device, and send nothing")
+    flag(
+        alloc,
+        "plan",
+        "Print the reads of each device, and send nothing",
+    )
 }
 
 // Each word is a function of its own: a function that owns several is proved for minutes.

@@ -3,7 +3,7 @@ ghost use Rattle.std.specs.Prelude.{◌≡◌, ◌⊎◌, ℕ, ◌+◌, ◌<◌,
 ghost use Rattle.modbus_frame.specs.declared.tcp.Header.{Header};
 ghost use Rattle.modbus_pdu.specs.Laws.{IsByte};
 ghost use Rattle.modbus_pdu.specs.Message.{Message};
-ghost use Rattle.modbus_tcp.specs.Adu.{adu_of, IsAdu, stream_of};
+ghost use Rattle.modbus_tcp.specs.Adu.{IsAdu, stream_of};
 ghost use Rattle.modbus_tcp.specs.Stream.{Rest, unfinished, no_length, foreign, empty, IsRest, IsSplit, BeginsWith};
 ghost use Rattle.modbus_tcp.specs.Limits.{mbap_header};
 

@@ -4,10 +4,8 @@
 //! once where it was hung up. `TerminalLink` tells both as a silence; with a clock they are told apart.
 #![tactic(auto)]
 
-ghost use Rattle.std.specs.Prelude.{◌≡◌, ◌<◌, ◌≤◌, length, IfOk};
-ghost use Rattle.std.specs.Io.{ReadsAtMost, WritesAtMost};
-ghost use Rattle.modbus_link.specs.Outside.{Advances, Extends, untold_input, untold_output};
-ghost use Rattle.modbus_link.specs.Polled.{at_once, Waited};
+ghost use Rattle.std.specs.Prelude.{◌≡◌, ◌<◌};
+ghost use Rattle.modbus_link.specs.Outside.{untold_input, untold_output};
 
 use modbus_link::{Ends, Failed, Polled, PolledLink, TerminalLink, TimedLink};
 use std::io::{Read, Write};

@@ -1,0 +1,5 @@
+use Rattle.modbus_store.specs.Passes.{IsPassOf}
+use Rattle.modbus_bench.proofs.store.open_jobs.Given as goal
+
+abbrev pub invariant-loop : goal.invariant-loop
+invariant-loop g l = IsPassOf l.table l.first

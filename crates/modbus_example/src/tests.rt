@@ -1,2 +1,0 @@
-//! What no clause says: this crate's server on bytes.
-mod singles;

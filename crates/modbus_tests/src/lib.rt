@@ -1,0 +1,24 @@
+//! Tests that need code: threads, sockets, hooks, boxes, and a schedule of readiness. Each module is named for what it tests; what has bytes in
+//! and an answer out is in the crates of tables, crates/modbus_*_vectors.
+#![tactic(auto)]
+
+#[cfg(test)]
+mod check;
+#[cfg(test)]
+mod context;
+#[cfg(test)]
+mod example;
+#[cfg(test)]
+mod fleet;
+#[cfg(test)]
+mod hub;
+#[cfg(test)]
+mod link;
+#[cfg(test)]
+mod links;
+#[cfg(test)]
+mod listeners;
+#[cfg(test)]
+mod listening;
+#[cfg(test)]
+mod store;

@@ -1,0 +1,48 @@
+//! Links in memory, an acceptor of two, and a read of one register with its reply in both framings.
+
+use modbus_link::{MemoryAcceptor, MemoryLink, MemorySink, MemorySource};
+use std::alloc::{AllocError, Global};
+use std::net::SocketAddr;
+
+/// A read of one register from address 0 of slave 1.
+pub const READ_ONE: [u8; 8] = [0x01, 0x03, 0x00, 0x00, 0x00, 0x01, 0x84, 0x0A];
+
+/// The register 0 in reply.
+pub const ONE: [u8; 7] = [0x01, 0x03, 0x02, 0x00, 0x00, 0xB8, 0x44];
+
+/// A read of one register from address 0 by unit 255.
+pub const READ_ADU: [u8; 12] = [
+    0x00, 0x00, 0x00, 0x00, 0x00, 0x06, 0xFF, 0x03, 0x00, 0x00, 0x00, 0x01,
+];
+
+/// The register 0 in reply.
+pub const REPLY_ADU: [u8; 11] = [
+    0x00, 0x00, 0x00, 0x00, 0x00, 0x05, 0xFF, 0x03, 0x02, 0x00, 0x00,
+];
+
+/// A link that gives these bytes, and whose reads of these numbers fail.
+pub fn link_of(
+    alloc: Global,
+    input: &[u8],
+    failing_reads: &[u64],
+) -> Result<MemoryLink, AllocError> {
+    let source = MemorySource::new(alloc, input, &[], failing_reads)?;
+    Ok(MemoryLink::new(source, MemorySink::new(alloc, 64, 64, &[])?, false))
+}
+
+/// Where a peer connects from.
+pub fn peer() -> SocketAddr {
+    SocketAddr::from(([127, 0, 0, 1], 502))
+}
+
+/// An acceptor of two links.
+pub fn accepting<'l>(
+    alloc: Global,
+    near: &'l mut MemoryLink,
+    far: &'l mut MemoryLink,
+) -> Result<MemoryAcceptor<&'l mut MemoryLink>, AllocError> {
+    let mut links = Vec::new(alloc);
+    links.push((near, peer()))?;
+    links.push((far, peer()))?;
+    Ok(MemoryAcceptor::new(links))
+}
