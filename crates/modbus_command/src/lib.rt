@@ -5,6 +5,6 @@ mod arguments;
 mod value;
 mod words;
 
-pub use crate::arguments::{flag, option, positional};
+pub use crate::arguments::{command, flag, option, positional};
 pub use crate::value::put_value;
 pub use crate::words::{FAILED, USAGE, say, why_no_point, words_of};

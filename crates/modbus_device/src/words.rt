@@ -2,7 +2,7 @@
 
 use crate::device::Texts;
 use clap::{Arg, ArgMatches, Command, Error, value_parser};
-use modbus_command::{FAILED, USAGE, flag, option, positional};
+use modbus_command::{FAILED, USAGE, command, flag, option, positional};
 use modbus_frame::SlaveId;
 use std::alloc::{AllocError, AllocFailed, Global};
 use std::net::SocketAddr;
@@ -149,26 +149,34 @@ fn revision<'a>(alloc: Global) -> Arg<'a> {
 }
 
 // Each word is a function of its own: a function that owns several is proved for minutes.
-fn with_identity<'a>(alloc: Global, command: Command<'a>) -> Result<Command<'a>, AllocError> {
-    command
-        .arg(vendor(alloc))?
-        .arg(product(alloc))?
-        .arg(revision(alloc))?
-        .arg(server_id(alloc))?
-        .arg(text(alloc, "vendor-url", "The address of its vendor, object 3"))?
-        .arg(text(alloc, "product-name", "The name of the product, object 4"))?
-        .arg(text(alloc, "model", "Its model, object 5"))?
-        .arg(text(alloc, "application", "What it is used for, object 6"))
+fn words<'a>(alloc: Global, silence: Arg<'a>, absent: Arg<'a>) -> Result<Vec<Arg<'a>>, AllocError> {
+    Ok(vec![in alloc;
+        units(alloc),
+        entries(alloc),
+        listen(alloc),
+        line(alloc),
+        silence,
+        vendor(alloc),
+        product(alloc),
+        revision(alloc),
+        server_id(alloc),
+        text(alloc, "vendor-url", "The address of its vendor, object 3"),
+        text(alloc, "product-name", "The name of the product, object 4"),
+        text(alloc, "model", "Its model, object 5"),
+        text(alloc, "application", "What it is used for, object 6"),
+        absent,
+    ]?)
 }
 
-fn command<'a>(alloc: Global) -> Result<Command<'a>, AllocError> {
-    Command::new(alloc, "modbus_device")
-        .about("A Modbus device: units with four tables each, on a serial line or a port")
-        .arg(units(alloc))?
-        .arg(entries(alloc))?
-        .arg(listen(alloc))?
-        .arg(line(alloc))?
-        .arg(silence(alloc)?)
+fn whole<'a>(alloc: Global) -> Result<Command<'a>, AllocError> {
+    let silence = silence(alloc)?;
+    let words = words(alloc, silence, absent(alloc)?)?;
+    command(
+        alloc,
+        "modbus_device",
+        "A Modbus device: units with four tables each, on a serial line or a port",
+        words,
+    )
 }
 
 /// Reads the words of the command line, the program's name first.
@@ -176,9 +184,7 @@ fn command<'a>(alloc: Global) -> Result<Command<'a>, AllocError> {
 /// # Errors
 /// What clap has to say: the help that was asked for, or the word that can't be read.
 pub fn parse<'a>(alloc: Global, words: &'a [String]) -> Result<ArgMatches<'a>, Error> {
-    with_identity(alloc, command(alloc)?)?
-        .arg(absent(alloc)?)?
-        .try_get_matches_from(words)
+    whole(alloc)?.try_get_matches_from(words)
 }
 
 /// The address that a word names.

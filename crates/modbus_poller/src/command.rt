@@ -1,7 +1,7 @@
 //! The words of the command line.
 
 use clap::{Arg, ArgMatches, Command, Error, value_parser};
-use modbus_command::{flag, option, positional};
+use modbus_command::{command, flag, option, positional};
 use std::alloc::{AllocError, Global};
 
 /// How values are printed.
@@ -88,17 +88,19 @@ fn items<'a>(alloc: Global) -> Arg<'a> {
 
 // Each word is a function of its own: a function that owns several is proved for minutes.
 fn poll_command<'a>(alloc: Global) -> Result<Command<'a>, AllocError> {
-    Command::new(alloc, "poll")
-        .about("Reads items, and prints their values")
-        .arg(device(alloc))?
-        .arg(unit(alloc))?
-        .arg(items(alloc))?
-        .arg(every(alloc))?
-        .arg(count(alloc)?)?
-        .arg(timeout(alloc))?
-        .arg(retries(alloc))?
-        .arg(format(alloc))?
-        .arg(plan(alloc))
+    let count = count(alloc)?;
+    let words = vec![in alloc;
+        device(alloc),
+        unit(alloc),
+        items(alloc),
+        every(alloc),
+        count,
+        timeout(alloc),
+        retries(alloc),
+        format(alloc),
+        plan(alloc),
+    ]?;
+    command(alloc, "poll", "Reads items, and prints their values", words)
 }
 
 fn first<'a>(alloc: Global) -> Arg<'a> {
@@ -123,13 +125,19 @@ fn values<'a>(alloc: Global) -> Arg<'a> {
 }
 
 fn write_command<'a>(alloc: Global) -> Result<Command<'a>, AllocError> {
-    Command::new(alloc, "write")
-        .about("Writes holding registers, one after another")
-        .arg(device(alloc))?
-        .arg(unit(alloc))?
-        .arg(first(alloc))?
-        .arg(values(alloc))?
-        .arg(timeout(alloc))
+    let words = vec![in alloc;
+        device(alloc),
+        unit(alloc),
+        first(alloc),
+        values(alloc),
+        timeout(alloc),
+    ]?;
+    command(
+        alloc,
+        "write",
+        "Writes holding registers, one after another",
+        words,
+    )
 }
 
 /// The states of a coil.
@@ -147,22 +155,35 @@ fn states<'a>(alloc: Global) -> Arg<'a> {
 }
 
 fn write_coils_command<'a>(alloc: Global) -> Result<Command<'a>, AllocError> {
-    Command::new(alloc, "write-coils")
-        .about("Writes coils, one after another")
-        .arg(device(alloc))?
-        .arg(unit(alloc))?
-        .arg(first(alloc))?
-        .arg(states(alloc))?
-        .arg(timeout(alloc))
+    let words = vec![in alloc;
+        device(alloc),
+        unit(alloc),
+        first(alloc),
+        states(alloc),
+        timeout(alloc),
+    ]?;
+    command(
+        alloc,
+        "write-coils",
+        "Writes coils, one after another",
+        words,
+    )
+}
+
+fn commands<'a>(alloc: Global) -> Result<Vec<Command<'a>>, AllocError> {
+    let mut commands = Vec::new(alloc);
+    commands.push(poll_command(alloc)?)?;
+    commands.push(write_command(alloc)?)?;
+    commands.push(write_coils_command(alloc)?)?;
+    Ok(commands)
 }
 
 fn whole<'a>(alloc: Global) -> Result<Command<'a>, AllocError> {
+    let commands = commands(alloc)?;
     Command::new(alloc, "modbus_poller")
         .about("Reads and writes a Modbus TCP device")
         .subcommand_required(true)
-        .subcommand(poll_command(alloc)?)?
-        .subcommand(write_command(alloc)?)?
-        .subcommand(write_coils_command(alloc)?)
+        .subcommands(commands)
 }
 
 /// Reads the words of the command line, the program's name first.

@@ -23,6 +23,8 @@ impl<'r, R: Wait> Calls for ServerCalls<'r, R> {
     ) -> Result<bool, AllocError> {
         if call.starts_with("listen") {
             listeners::answer(self.0, alloc, text, call, words)
+        } else if call == "serve_singles" {
+            servers::answer_by_bytes(alloc, text, words)
         } else {
             servers::answer(alloc, text, call, words)
         }

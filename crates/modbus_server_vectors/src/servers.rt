@@ -3,6 +3,7 @@
 //! A function that calls much is lent what it works on: the check of one that owns it takes far longer.
 
 use modbus_burst::BurstLink;
+use modbus_example::{Counter, serve_singles};
 use modbus_link::{
     Both, MemoryLink, MemorySink, MemorySource, MemoryStop, Polled, PolledMemoryLink,
     TimedMemoryLink,
@@ -21,7 +22,22 @@ use modbus_table::text::{number, push_hex};
 use std::alloc::{AllocError, Global};
 use std::fmt::{Debug, Write};
 
-/// Appends the answer of a server, its output, how many bytes the source gave, and how often the service was asked.
+/// Appends the answer of a server, its output, how many bytes the source gave, and how often it asked.
+fn push_asked<T: Debug + Drop>(
+    text: &mut String,
+    ended: T,
+    source: &MemorySource,
+    sink: &MemorySink,
+    calls: u64,
+) -> Result<bool, AllocError> {
+    write!(text, "{ended:?} ")?;
+    push_hex(text, sink.bytes())?;
+    let given = source.given();
+    write!(text, " read {given} asked {calls}")?;
+    Ok(true)
+}
+
+/// The same of a server that asked this service.
 fn push_told<T: Debug + Drop>(
     text: &mut String,
     ended: T,
@@ -29,12 +45,7 @@ fn push_told<T: Debug + Drop>(
     sink: &MemorySink,
     service: &SameWords,
 ) -> Result<bool, AllocError> {
-    write!(text, "{ended:?} ")?;
-    push_hex(text, sink.bytes())?;
-    let given = source.given();
-    let calls = service.calls;
-    write!(text, " read {given} asked {calls}")?;
-    Ok(true)
+    push_asked(text, ended, source, sink, service.calls)
 }
 
 fn served(
@@ -210,6 +221,33 @@ fn served_among_others(
     );
     let link = link.link().link();
     push_told(text, ended, link.source(), link.sink(), service)
+}
+
+/// The server of modbus_example, to which each byte is a request.
+fn served_by_bytes(
+    alloc: Global,
+    text: &mut String,
+    counter: &mut Counter,
+    outside: &mut Outside,
+) -> Result<bool, AllocError> {
+    let source = &mut outside.source;
+    let sink = &mut outside.sink;
+    let ended = serve_singles(alloc, source, sink, counter);
+    push_asked(text, ended, source, sink, counter.asked)
+}
+
+/// `serve_singles`, and the outside.
+pub fn answer_by_bytes(
+    alloc: Global,
+    text: &mut String,
+    words: &[&str],
+) -> Result<bool, AllocError> {
+    match read_outside(alloc, words)? {
+        Some(mut outside) => {
+            served_by_bytes(alloc, text, &mut Counter::new(alloc), &mut outside)
+        }
+        None => Ok(false),
+    }
 }
 
 /// The answer of the steps of a connection.

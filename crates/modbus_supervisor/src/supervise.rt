@@ -10,7 +10,7 @@ use crate::words::Task;
 use mio::net::TcpStream;
 use modbus_client::tcp::OwnAdus;
 use modbus_fleet::{Device, Fleet};
-use modbus_frame::{Response, Result as Answer};
+use modbus_frame::{ExceptionCode, Request, Response, Result as Answer};
 use modbus_ready::{MioReadiness, PolledTcpLink};
 use std::alloc::AllocError;
 use std::io::{self, Write};
@@ -51,6 +51,16 @@ fn earlier(first: Option<u64>, second: Option<u64>) -> Option<u64> {
         (Some(first), Some(second)) => Some(first.min(second)),
         (Some(time), None) | (None, Some(time)) => Some(time),
         (None, None) => None,
+    }
+}
+
+/// Whether a call was opened, which fails for want of memory alone.
+// Of any error, since letting go of one takes the longer to prove, the more its type has.
+fn is_opened<E: Drop>(asked: Option<Result<(), E>>) -> Result<bool, Fault> {
+    match asked {
+        Some(Ok(())) => Ok(true),
+        Some(Err(_)) => Err(Fault::NoMemory),
+        None => Ok(false),
     }
 }
 
@@ -128,79 +138,128 @@ impl<'l> Supervisor<'l> {
         }
     }
 
-    /// Asks the read of the device under a key that comes next, or ends its poll where none is left; its answer, where there is one at
-    /// once.
-    fn ask(&mut self, rt: &HostRuntime, key: usize) -> Result<Option<Answer<Response>>, Fault> {
-        let request = match self.devices.get(key) {
+    /// Whether the device under a key is connected, which it is from now on where it can be. If not, it is away.
+    fn is_connected(&mut self, rt: &HostRuntime, key: usize) -> Result<bool, Fault> {
+        let Err(why) = self.connect(rt, key) else {
+            return Ok(true);
+        };
+        self.note_shortage(rt, why);
+        self.leave(rt, key, why)?;
+        Ok(false)
+    }
+
+    /// The read of the device under a key that comes next; `None` where its poll is over.
+    fn next_request(&self, key: usize) -> Option<Request<'static>> {
+        match self.devices.get(key) {
             Some(device) => device.watched.request(),
             None => None,
-        };
-        let Some(request) = request else {
-            self.end(rt, key)?;
-            return Ok(None);
-        };
-        if let Err(why) = self.connect(rt, key) {
-            self.note_shortage(rt, why);
-            self.leave(rt, key, why)?;
-            return Ok(None);
         }
+    }
+
+    /// Hands a read to the device under a key. Whether that took it, as one that is connected does.
+    fn hand_on(
+        &mut self,
+        rt: &HostRuntime,
+        key: usize,
+        request: Request<'static>,
+    ) -> Result<bool, Fault> {
         let now = self.now(rt)?;
-        match self.fleet.ask(key, request, now) {
-            Some(Ok(())) => {}
-            Some(Err(_)) => return Err(Fault::NoMemory),
-            None => {
-                self.leave(rt, key, Why::NoConnection)?;
-                return Ok(None);
-            }
+        if !is_opened(self.fleet.ask(key, request, now))? {
+            return Ok(false);
         }
         if let Some(device) = self.devices.get_mut(key) {
             device.turn.ask(now.saturating_add(self.timeout));
         }
         self.note_wake(key);
-        // A link that is ready already is not told of again.
-        Ok(self.fleet.poll(key))
+        Ok(true)
+    }
+
+    /// Asks the read of the device under a key that comes next, or ends its poll where none is left. Whether a read was asked.
+    fn ask(&mut self, rt: &HostRuntime, key: usize) -> Result<bool, Fault> {
+        let Some(request) = self.next_request(key) else {
+            self.end(rt, key)?;
+            return Ok(false);
+        };
+        if !self.is_connected(rt, key)? {
+            return Ok(false);
+        }
+        let is_asked = self.hand_on(rt, key, request)?;
+        if !is_asked {
+            self.leave(rt, key, Why::NoConnection)?;
+        }
+        Ok(is_asked)
     }
 
     /// Goes on with the device under a key after a call without its answer: the read is asked again over a new connection, since the device
-    /// may have closed the last one between two polls; if this one was new, it is away.
-    fn try_anew(
-        &mut self,
-        rt: &HostRuntime,
-        key: usize,
-        why: Why,
-    ) -> Result<Option<Answer<Response>>, Fault> {
+    /// may have closed the last one between two polls; if this one was new, it is away. Whether it was asked.
+    fn try_anew(&mut self, rt: &HostRuntime, key: usize, why: Why) -> Result<bool, Fault> {
         let is_fresh = match self.devices.get(key) {
             Some(device) => device.is_fresh,
             None => true,
         };
         if is_fresh {
             self.leave(rt, key, why)?;
-            Ok(None)
+            Ok(false)
         } else {
             self.ask(rt, key)
         }
     }
 
-    /// Takes an answer of the device under a key, and asks its next read; the answer to that, where there is one at once.
+    /// Takes what the device under a key replied. Why it answers nothing that was asked, if it does not.
+    fn take_reply(
+        &mut self,
+        rt: &HostRuntime,
+        key: usize,
+        reply: &Result<Response, ExceptionCode>,
+    ) -> Result<Option<Why>, Fault> {
+        let Some(device) = self.devices.get_mut(key) else {
+            return Ok(Some(Why::Other));
+        };
+        if !device.watched.take(rt.alloc(), reply, &mut self.lines)? {
+            return Ok(Some(Why::Other));
+        }
+        device.is_fresh = false;
+        Ok(None)
+    }
+
+    /// Takes an answer of the device under a key. Why it answers nothing that was asked, if it does not.
+    fn take_answer(
+        &mut self,
+        rt: &HostRuntime,
+        key: usize,
+        answer: Answer<Response>,
+    ) -> Result<Option<Why>, Fault> {
+        match answer {
+            Ok(reply) => self.take_reply(rt, key, &reply),
+            Err(error) => Ok(Some(why_unanswered(&error))),
+        }
+    }
+
+    /// Takes an answer of the device under a key, and asks its next read. Whether one was asked.
     fn take_one(
         &mut self,
         rt: &HostRuntime,
         key: usize,
         answer: Answer<Response>,
-    ) -> Result<Option<Answer<Response>>, Fault> {
-        let reply = match answer {
-            Ok(reply) => reply,
-            Err(error) => return self.try_anew(rt, key, why_unanswered(&error)),
-        };
-        let Some(device) = self.devices.get_mut(key) else {
-            return Ok(None);
-        };
-        if device.watched.take(rt.alloc(), &reply, &mut self.lines)? {
-            device.is_fresh = false;
-            self.ask(rt, key)
-        } else {
-            self.try_anew(rt, key, Why::Other)
+    ) -> Result<bool, Fault> {
+        match self.take_answer(rt, key, answer)? {
+            None => self.ask(rt, key),
+            Some(why) => self.try_anew(rt, key, why),
         }
+    }
+
+    /// Takes the answers of the device under a key, whose read was asked just now, that come at once: a link that is ready already is not told
+    /// of again.
+    fn take_ready(&mut self, rt: &HostRuntime, key: usize) -> Result<(), Fault> {
+        for _ in 0..u64::MAX {
+            let Some(answer) = self.fleet.poll(key) else {
+                return Ok(());
+            };
+            if !self.take_one(rt, key, answer)? {
+                return Ok(());
+            }
+        }
+        Ok(())
     }
 
     /// Takes an answer of the device under a key, and those to the reads behind it that come at once.
@@ -208,14 +267,10 @@ impl<'l> Supervisor<'l> {
         &mut self,
         rt: &HostRuntime,
         key: usize,
-        first: Option<Answer<Response>>,
+        answer: Answer<Response>,
     ) -> Result<(), Fault> {
-        let mut next = first;
-        for _ in 0..u64::MAX {
-            let Some(answer) = next else {
-                return Ok(());
-            };
-            next = self.take_one(rt, key, answer)?;
+        if self.take_one(rt, key, answer)? {
+            self.take_ready(rt, key)?;
         }
         Ok(())
     }
@@ -225,14 +280,16 @@ impl<'l> Supervisor<'l> {
         if let Some(device) = self.devices.get_mut(key) {
             device.watched.begin();
         }
-        let first = self.ask(rt, key)?;
-        self.take(rt, key, first)
+        if self.ask(rt, key)? {
+            self.take_ready(rt, key)?;
+        }
+        Ok(())
     }
 
     /// Gives up the call of the device under a key, unless its answer has come.
     fn give_up(&mut self, rt: &HostRuntime, key: usize) -> Result<(), Fault> {
         match self.fleet.poll(key) {
-            Some(answer) => self.take(rt, key, Some(answer)),
+            Some(answer) => self.take(rt, key, answer),
             None => self.leave(rt, key, Why::NoAnswer),
         }
     }
@@ -334,7 +391,7 @@ impl<'l> Supervisor<'l> {
         }
         for _ in 0..u64::MAX {
             match self.fleet.next_answer() {
-                Some(told) => self.take(rt, told.key, Some(told.answer))?,
+                Some(told) => self.take(rt, told.key, told.answer)?,
                 None => return Ok(()),
             }
         }

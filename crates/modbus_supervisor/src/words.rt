@@ -1,7 +1,7 @@
 //! The words of the command line.
 
 use clap::{Arg, ArgMatches, Command, Error, value_parser};
-use modbus_command::{flag, option, positional};
+use modbus_command::{command, flag, option, positional};
 use std::alloc::{AllocError, Global};
 
 /// What the words ask for.
@@ -72,14 +72,20 @@ fn plan<'a>(alloc: Global) -> Arg<'a> {
 }
 
 // Each word is a function of its own: a function that owns several is proved for minutes.
-fn command<'a>(alloc: Global) -> Result<Command<'a>, AllocError> {
-    Command::new(alloc, "modbus_supervisor")
-        .about("Polls many Modbus TCP devices, and prints what changes")
-        .arg(file(alloc))?
-        .arg(every(alloc))?
-        .arg(timeout(alloc))?
-        .arg(count(alloc))?
-        .arg(plan(alloc))
+fn whole<'a>(alloc: Global) -> Result<Command<'a>, AllocError> {
+    let words = vec![in alloc;
+        file(alloc),
+        every(alloc),
+        timeout(alloc),
+        count(alloc),
+        plan(alloc),
+    ]?;
+    command(
+        alloc,
+        "modbus_supervisor",
+        "Polls many Modbus TCP devices, and prints what changes",
+        words,
+    )
 }
 
 /// Reads the words of the command line, the program's name first.
@@ -87,7 +93,7 @@ fn command<'a>(alloc: Global) -> Result<Command<'a>, AllocError> {
 /// # Errors
 /// What clap has to say: the help that was asked for, or the word that cannot be read.
 pub fn parse<'a>(alloc: Global, words: &'a [String]) -> Result<ArgMatches<'a>, Error> {
-    command(alloc)?.try_get_matches_from(words)
+    whole(alloc)?.try_get_matches_from(words)
 }
 
 /// What the words ask for that were read.

@@ -1,6 +1,7 @@
 //! Two connections whose requests are interleaved, by a schedule that the test sets.
 
 use crate::check::check;
+use crate::links::Pair;
 use modbus_hub::{EventServer, Limits};
 use modbus_link::{MemoryLink, MemorySink, MemorySource, MemoryStop, Polled};
 use modbus_ready::{Ready, ScheduledAcceptor, ScheduledReadiness};
@@ -41,6 +42,14 @@ fn link(alloc: Global, input: &[u8]) -> Result<MemoryLink, AllocError> {
     Ok(MemoryLink::new(source, sink, false))
 }
 
+/// Links of both masters.
+fn links(alloc: Global) -> Result<Pair, AllocError> {
+    Ok(Pair {
+        near: link(alloc, &FIRST)?,
+        far: link(alloc, &SECOND)?,
+    })
+}
+
 /// A device with tables of eight entries.
 fn device(alloc: Global) -> Result<RegisterStore, StoreError> {
     let sizes = Sizes {
@@ -58,15 +67,14 @@ type TwoLinks<'a> = EventServer<
     ScheduledReadiness,
 >;
 
-/// What accepts both links, the first of them first.
-fn acceptor<'a>(
+/// What accepts both links, the near one first.
+fn acceptor(
     alloc: Global,
-    first: &'a mut MemoryLink,
-    second: &'a mut MemoryLink,
-) -> Result<ScheduledAcceptor<&'a mut MemoryLink>, AllocError> {
+    links: &mut Pair,
+) -> Result<ScheduledAcceptor<&mut MemoryLink>, AllocError> {
     let mut answers = Vec::new(alloc);
-    answers.push(Ok(Polled::Ready(first)))?;
-    answers.push(Ok(Polled::Ready(second)))?;
+    answers.push(Ok(Polled::Ready(&mut links.near)))?;
+    answers.push(Ok(Polled::Ready(&mut links.far)))?;
     Ok(ScheduledAcceptor::new(answers))
 }
 
@@ -105,11 +113,10 @@ fn serve<R: Wait + Clock + Abort>(
 fn serve_both<R: Wait + Clock + Abort>(
     rt: &R,
     alloc: Global,
-    first: &mut MemoryLink,
-    second: &mut MemoryLink,
+    links: &mut Pair,
     service: &mut InTurn<RegisterStore>,
 ) -> Result<(), AllocError> {
-    let acceptor = acceptor(alloc, first, second)?;
+    let acceptor = acceptor(alloc, links)?;
     serve(rt, &mut server(alloc, acceptor)?, service);
     Ok(())
 }
@@ -123,13 +130,12 @@ fn has_got(link: &MemoryLink, bytes: &[u8]) -> bool {
 fn take_turns<R: Wait + Clock + Abort>(
     rt: &R,
     alloc: Global,
-    first: &mut MemoryLink,
-    second: &mut MemoryLink,
+    links: &mut Pair,
 ) -> Result<(), Fail> {
-    serve_both(rt, alloc, first, second, &mut InTurn::new(device(alloc)?))?;
+    serve_both(rt, alloc, links, &mut InTurn::new(device(alloc)?))?;
     let replied = (
-        has_got(first, &FIRST_REPLIES),
-        has_got(second, &SECOND_REPLIES),
+        has_got(&links.near, &FIRST_REPLIES),
+        has_got(&links.far, &SECOND_REPLIES),
     );
     check(rt, replied, (true, true));
     Ok(())
@@ -137,6 +143,5 @@ fn take_turns<R: Wait + Clock + Abort>(
 
 #[test]
 fn two_connections_take_turns(rt: HostRuntime) -> Result<(), Fail> {
-    let first = &mut link(rt.alloc(), &FIRST)?;
-    take_turns(&rt, rt.alloc(), first, &mut link(rt.alloc(), &SECOND)?)
+    take_turns(&rt, rt.alloc(), &mut links(rt.alloc())?)
 }

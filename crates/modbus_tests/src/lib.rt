@@ -7,8 +7,6 @@ mod check;
 #[cfg(test)]
 mod context;
 #[cfg(test)]
-mod example;
-#[cfg(test)]
 mod fleet;
 #[cfg(test)]
 mod hub;

@@ -35,14 +35,20 @@ pub fn peer() -> SocketAddr {
     SocketAddr::from(([127, 0, 0, 1], 502))
 }
 
+/// Two links as one value, since the check of a function that owns one takes less than of one that owns both.
+#[derive(Drop)]
+pub struct Pair {
+    pub near: MemoryLink,
+    pub far: MemoryLink,
+}
+
 /// An acceptor of two links.
-pub fn accepting<'l>(
+pub fn accepting(
     alloc: Global,
-    near: &'l mut MemoryLink,
-    far: &'l mut MemoryLink,
-) -> Result<MemoryAcceptor<&'l mut MemoryLink>, AllocError> {
+    pair: &mut Pair,
+) -> Result<MemoryAcceptor<&mut MemoryLink>, AllocError> {
     let mut links = Vec::new(alloc);
-    links.push((near, peer()))?;
-    links.push((far, peer()))?;
+    links.push((&mut pair.near, peer()))?;
+    links.push((&mut pair.far, peer()))?;
     Ok(MemoryAcceptor::new(links))
 }

@@ -3,7 +3,7 @@
 //! A function that calls much is lent what it works on: the check of one that owns it takes far longer.
 
 use crate::check::check;
-use crate::links::{ONE, READ_ADU, READ_ONE, REPLY_ADU, accepting, link_of, peer};
+use crate::links::{ONE, Pair, READ_ADU, READ_ONE, REPLY_ADU, accepting, link_of, peer};
 use modbus_frame::{ExceptionCode, Response, SlaveRequest, Words};
 use modbus_link::{
     Acceptor, Failed, MemoryAcceptor, MemoryLink, MemoryStop, Spawner, TcpAcceptor, TcpLink, Worker,
@@ -158,25 +158,28 @@ fn serve_late<R: Wait>(
 }
 
 /// Two links, each of which asks for one register.
-fn two_links(alloc: Global) -> Result<(MemoryLink, MemoryLink), AllocError> {
-    Ok((
-        link_of(alloc, &READ_ONE, &[])?,
-        link_of(alloc, &READ_ONE, &[])?,
-    ))
+fn two_links(alloc: Global) -> Result<Pair, AllocError> {
+    Ok(Pair {
+        near: link_of(alloc, &READ_ONE, &[])?,
+        far: link_of(alloc, &READ_ONE, &[])?,
+    })
 }
 
 /// How a listener over two links ended whose workers run after it, and what these read then.
 fn served_late<R: Wait>(
     rt: &R,
     alloc: Global,
-    near: &mut MemoryLink,
-    far: &mut MemoryLink,
+    links: &mut Pair,
     room: usize,
     looks: u64,
 ) -> Result<(Result<Terminated, ServeError<u8>>, usize, usize), AllocError> {
-    let acceptor = accepting(alloc, &mut *near, &mut *far)?;
+    let acceptor = accepting(alloc, &mut *links)?;
     let answer = serve_late(rt, alloc, acceptor, room, looks);
-    Ok((answer, near.source().given(), far.source().given()))
+    Ok((
+        answer,
+        links.near.source().given(),
+        links.far.source().given(),
+    ))
 }
 
 /// The same over links of its own.
@@ -186,8 +189,7 @@ fn ended_late<R: Wait>(
     room: usize,
     looks: u64,
 ) -> Result<(Result<Terminated, ServeError<u8>>, usize, usize), AllocError> {
-    let (mut near, mut far) = two_links(alloc)?;
-    served_late(rt, alloc, &mut near, &mut far, room, looks)
+    served_late(rt, alloc, &mut two_links(alloc)?, room, looks)
 }
 
 /// A listener raises the flag of its workers however it ends: one that runs after it serves nothing.
@@ -324,11 +326,10 @@ impl<'c, A: Acceptor> Acceptor for Patient<'c, A> {
 /// A patient acceptor of two links.
 fn accepting_patiently<'l>(
     alloc: Global,
-    near: &'l mut MemoryLink,
-    far: &'l mut MemoryLink,
+    links: &'l mut Pair,
     asked: &'l AtomicU64,
 ) -> Result<Patient<'l, MemoryAcceptor<&'l mut MemoryLink>>, AllocError> {
-    let acceptor = accepting(alloc, near, far)?;
+    let acceptor = accepting(alloc, links)?;
     Ok(Patient { acceptor, asked })
 }
 
@@ -336,12 +337,11 @@ fn accepting_patiently<'l>(
 fn served_at_once<R: Threads + Wait>(
     rt: &R,
     alloc: Global,
-    near: &mut MemoryLink,
-    far: &mut MemoryLink,
+    links: &mut Pair,
 ) -> Result<Result<(), ServeError<u8>>, AllocError> {
     let count = AtomicU64::new(0);
     let asked = &count;
-    let acceptor = accepting_patiently(alloc, near, far, asked)?;
+    let acceptor = accepting_patiently(alloc, links, asked)?;
     Ok(thread::scope(
         thread::scope_env(),
         rt,
@@ -369,11 +369,10 @@ fn is_sent(link: &MemoryLink) -> bool {
 fn served_both<R: Threads + Wait>(
     rt: &R,
     alloc: Global,
-    near: &mut MemoryLink,
-    far: &mut MemoryLink,
+    links: &mut Pair,
 ) -> Result<(Result<(), ServeError<u8>>, bool, bool), AllocError> {
-    let answer = served_at_once(rt, alloc, &mut *near, &mut *far)?;
-    Ok((answer, is_sent(near), is_sent(far)))
+    let answer = served_at_once(rt, alloc, &mut *links)?;
+    Ok((answer, is_sent(&links.near), is_sent(&links.far)))
 }
 
 /// The same over links of its own.
@@ -381,8 +380,7 @@ fn served_both_at_once<R: Threads + Wait>(
     rt: &R,
     alloc: Global,
 ) -> Result<(Result<(), ServeError<u8>>, bool, bool), AllocError> {
-    let (mut near, mut far) = two_links(alloc)?;
-    served_both(rt, alloc, &mut near, &mut far)
+    served_both(rt, alloc, &mut two_links(alloc)?)
 }
 
 #[test]

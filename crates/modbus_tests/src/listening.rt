@@ -1,7 +1,7 @@
 //! Connections over memory that share one store.
 
 use crate::check::check;
-use crate::links::{ONE, READ_ADU, READ_ONE, REPLY_ADU, accepting, link_of};
+use crate::links::{ONE, Pair, READ_ADU, READ_ONE, REPLY_ADU, accepting, link_of};
 use modbus_app::{Framing, StoreServices, open_shared, run_listen};
 use modbus_link::{InlineSpawner, MemoryAcceptor, MemoryLink, MemorySink};
 use modbus_server::ProcessError;
@@ -49,11 +49,10 @@ fn serve_both<R: Wait + Sync>(
     rt: &R,
     alloc: Global,
     framing: Framing,
-    first: &mut MemoryLink,
-    second: &mut MemoryLink,
+    links: &mut Pair,
     errors: &mut MemorySink,
 ) -> Result<u8, Fail> {
-    let mut acceptor = accepting(alloc, first, second)?;
+    let mut acceptor = accepting(alloc, links)?;
     serve(rt, alloc, framing, &mut acceptor, errors)
 }
 
@@ -62,11 +61,10 @@ fn ends<R: Wait + Abort + Sync>(
     rt: &R,
     alloc: Global,
     framing: Framing,
-    first: &mut MemoryLink,
-    second: &mut MemoryLink,
+    links: &mut Pair,
 ) -> Result<(), Fail> {
     let mut errors = MemorySink::new(alloc, 64, 64, &[])?;
-    let status = serve_both(rt, alloc, framing, first, second, &mut errors)?;
+    let status = serve_both(rt, alloc, framing, links, &mut errors)?;
     check(rt, status, 12);
     check(rt, errors.bytes(), b"modbus: accept fault\n".as_slice());
     Ok(())
@@ -77,23 +75,21 @@ fn replies<R: Wait + Abort + Sync>(
     rt: &R,
     alloc: Global,
     framing: Framing,
-    first: &mut MemoryLink,
-    second: &mut MemoryLink,
+    links: &mut Pair,
     near: &[u8],
     far: &[u8],
 ) -> Result<(), Fail> {
-    ends(rt, alloc, framing, first, second)?;
-    check(rt, first.sink().bytes(), near);
-    check(rt, second.sink().bytes(), far);
+    ends(rt, alloc, framing, links)?;
+    check(rt, links.near.sink().bytes(), near);
+    check(rt, links.far.sink().bytes(), far);
     Ok(())
 }
 
-fn two_links(
-    alloc: Global,
-    near: &[u8],
-    far: &[u8],
-) -> Result<(MemoryLink, MemoryLink), AllocError> {
-    Ok((link_of(alloc, near, &[])?, link_of(alloc, far, &[])?))
+fn two_links(alloc: Global, near: &[u8], far: &[u8]) -> Result<Pair, AllocError> {
+    Ok(Pair {
+        near: link_of(alloc, near, &[])?,
+        far: link_of(alloc, far, &[])?,
+    })
 }
 
 /// Over links that give the first of these, the replies are the second.
@@ -104,11 +100,8 @@ fn expect<R: Wait + Abort + Sync>(
     near: (&[u8], &[u8]),
     far: (&[u8], &[u8]),
 ) -> Result<(), Fail> {
-    let (mut first, mut second) = two_links(alloc, near.0, far.0)?;
-    let ended = replies(rt, alloc, framing, &mut first, &mut second, near.1, far.1);
-    drop(first);
-    drop(second);
-    ended
+    let links = &mut two_links(alloc, near.0, far.0)?;
+    replies(rt, alloc, framing, links, near.1, far.1)
 }
 
 #[test]
