@@ -1,10 +1,17 @@
 //! What a command line may have.
+ghost use Rattle.std.specs.Prelude.{◌≡◌, ◌∷◌, [], Some, false, IfOk};
+ghost use Rattle.clap.specs.Words.{IsPlainArg, items_of, rule_of};
+ghost use Rattle.modbus_command.specs.Arguments.{HasWords, flag_rule, option_rule, positional_rule};
 
 use clap::{Arg, ArgAction, Command};
 use std::alloc::{AllocError, Global};
 
 /// A word that stands at its place and must be there.
-pub fn positional<'a>(alloc: Global, name: &'a str, value: &'a str, help: &'a str) -> Arg<'a> {
+pub fn positional<'a>(alloc: Global, name: &'a str, value: &'a str, help: &'a str) -> Arg<'a>
+    ensures rule { rule_of result ≡ positional_rule name.entry.now }
+    ensures shown { (result.help ≡ Some help.entry) × (items_of result.val_names ≡ value.entry ∷ []) }
+    ensures plain { IsPlainArg result × (result.global ≡ false) }
+{
     Arg::new(alloc, name)
         .value_name(value)
         .required(true)
@@ -12,7 +19,11 @@ pub fn positional<'a>(alloc: Global, name: &'a str, value: &'a str, help: &'a st
 }
 
 /// An option that takes a value.
-pub fn option<'a>(alloc: Global, name: &'a str, value: &'a str, help: &'a str) -> Arg<'a> {
+pub fn option<'a>(alloc: Global, name: &'a str, value: &'a str, help: &'a str) -> Arg<'a>
+    ensures rule { rule_of result ≡ option_rule name.entry.now }
+    ensures shown { (result.help ≡ Some help.entry) × (items_of result.val_names ≡ value.entry ∷ []) }
+    ensures plain { IsPlainArg result × (result.global ≡ false) }
+{
     Arg::new(alloc, name)
         .long(name)
         .value_name(value)
@@ -20,7 +31,11 @@ pub fn option<'a>(alloc: Global, name: &'a str, value: &'a str, help: &'a str) -
 }
 
 /// An option that is there or not.
-pub fn flag<'a>(alloc: Global, name: &'a str, help: &'a str) -> Arg<'a> {
+pub fn flag<'a>(alloc: Global, name: &'a str, help: &'a str) -> Arg<'a>
+    ensures rule { rule_of result ≡ flag_rule name.entry.now }
+    ensures shown { result.help ≡ Some help.entry }
+    ensures plain { IsPlainArg result × (result.global ≡ false) }
+{
     Arg::new(alloc, name)
         .long(name)
         .action(ArgAction::SetTrue)
@@ -37,6 +52,8 @@ pub fn command<'a>(
     name: &'a str,
     about: &'a str,
     words: Vec<Arg<'a>>,
-) -> Result<Command<'a>, AllocError> {
+) -> Result<Command<'a>, AllocError>
+    ensures words { IfOk result (HasWords name.entry about.entry words.entry.items) }
+{
     Command::new(alloc, name).about(about).args(words)
 }

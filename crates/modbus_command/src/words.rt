@@ -1,4 +1,7 @@
 //! The words of a command line, and what a program says and tells that can't go on from them.
+ghost use Rattle.std.specs.Prelude.{◌≡◌, ◌≢◌, ◌⊎◌, IfErr};
+ghost use Rattle.clap.specs.Words.{kind_of};
+ghost use Rattle.modbus_command.specs.declared.words.TheConstants.{FAILED, USAGE};
 
 use clap::error::{Error, ErrorKind};
 use modbus_poll::PointError;
@@ -10,8 +13,15 @@ pub const FAILED: u8 = 1;
 /// The status of words that can't be read.
 pub const USAGE: u8 = 2;
 
-/// Tells what clap has to say to the user of this program, and gives the status.
-pub fn say(rt: &HostRuntime, program: &str, error: &Error) -> u8 {
+/// Tells what clap has to say to the user of this program, and gives the status: 0 where the help was asked for and could be told.
+pub fn say(rt: &HostRuntime, program: &str, error: &Error) -> u8
+    ensures memory { kind_of error.now ≡ ErrorKind.OutOfMemory → result ≡ FAILED }
+    ensures usage { kind_of error.now ≢ ErrorKind.OutOfMemory
+        → kind_of error.now ≢ ErrorKind.DisplayHelp
+        → kind_of error.now ≢ ErrorKind.DisplayVersion → result ≡ USAGE }
+    ensures shown { (kind_of error.now ≡ ErrorKind.DisplayHelp)
+        ⊎ (kind_of error.now ≡ ErrorKind.DisplayVersion) → (result ≡ 0) ⊎ (result ≡ FAILED) }
+{
     if error.kind() == ErrorKind::OutOfMemory {
         let _ = eprintln!(rt; "{program}: no memory");
         return FAILED;
@@ -31,7 +41,9 @@ fn collected(rt: &HostRuntime) -> io::Result<Vec<String>> {
 }
 
 /// The words of the command line; or the status where they are not in UTF-8 or memory is refused, which is told.
-pub fn words_of(rt: &HostRuntime, program: &str) -> Result<Vec<String>, u8> {
+pub fn words_of(rt: &HostRuntime, program: &str) -> Result<Vec<String>, u8>
+    ensures err { IfErr result (λ status. (status ≡ USAGE) ⊎ (status ≡ FAILED)) }
+{
     match collected(rt) {
         Ok(words) => Ok(words),
         Err(error) if error.kind() == io::ErrorKind::InvalidData => {
