@@ -1,10 +1,12 @@
 -- What becomes of many devices, each under a key.
-use Rattle.std.specs.Prelude.{◌≡◌, ◌≢◌, ℕ, ◌==◌, List, [], ◌∷◌, ◌++◌, Option, Some, None, Result, if◌then◌else◌}
+use Rattle.std.specs.Prelude.{◌≡◌, ◌≢◌, ℕ, ◌==◌, List, [], ◌∷◌, ◌++◌, Option, Some, None, Result, drop, if◌then◌else◌}
 use Rattle.modbus_frame.specs.Meaning.{Asked}
 use Rattle.modbus_frame.specs.declared.fault.Error.{Error}
 use Rattle.modbus_client.specs.Protocol.{Protocol, Heading}
 use Rattle.modbus_client.specs.Matches.{Answer}
 use Rattle.slab.specs.Slab.{Slab, get}
+use Rattle.modbus_ready.specs.declared.readiness.Ready.{Ready}
+use Rattle.modbus_ready.specs.declared.readiness.Ready.TheVariants.{Peer, Link}
 use Rattle.modbus_fleet.specs.declared.conversation.Stand.TheVariants.{Away, Idle}
 use Rattle.modbus_fleet.specs.declared.fleet.Told.{Told}
 use Rattle.modbus_fleet.specs.Device.{DeviceState, FleetMeaning, Begins, Polls, IsDue}
@@ -12,6 +14,8 @@ use Rattle.modbus_fleet.specs.Device.{DeviceState, FleetMeaning, Begins, Polls, 
 pub record FleetState (I L S : Type 0) : Type 0 where
   pub devices : Slab (DeviceState I L)
   pub readiness : S
+  -- how many of those were taken that its last wait found
+  pub taken : ℕ
 
 abbrev pub answer_list : Option Answer → List Answer
 answer_list None = []
@@ -44,15 +48,35 @@ PollsAt m None told new = (told ≡ None) × (new ≡ None)
 PollsAt m (Some old) told None = ⊥
 PollsAt m (Some old) told (Some new) = Polls m old told new
 
+-- every other key has what it had
+abbrev pub OthersStay : {X : Type 0} → ℕ → Slab X → Slab X → Type 0
+OthersStay key old new = (other : ℕ) → other ≢ key → get new other ≡ get old other
+
+-- the answer of such a poll, with the key of its device
+abbrev pub told_at : ℕ → Option Answer → Option Told
+told_at key None = None
+told_at key (Some answer) = Some (record { key = key; answer = answer })
+
+-- Of what was found ready one is taken: the device under the key of a link is polled once, and no other changes; a peer is nothing to it.
+abbrev pub TakesReady : {H I L : Type 0} → FleetMeaning H L → Ready → Slab (DeviceState I L) → Option Told → Slab (DeviceState I L) → Type 0
+TakesReady m Peer old told new = (told ≡ None) × (new ≡ old)
+TakesReady m (Link key) old told new = (answer : Option Answer) × (told ≡ told_at key answer) × PollsAt m (get old key) answer (get new key) × OthersStay key old new
+
+-- What was found ready is taken in order, until one answers, which is told, and the rest is left; or all of it, and none answered.
+pub data TakesInTurn {H I L : Type 0} (m : FleetMeaning H L) : Slab (DeviceState I L) → List Ready → Option Told → List Ready → Slab (DeviceState I L) → Type 0 where
+  none_left : (devices : Slab (DeviceState I L)) → TakesInTurn m devices [] None [] devices
+  one_answers : (old new : Slab (DeviceState I L)) (ready : Ready) (left : List Ready) (told : Told) → TakesReady m ready old (Some told) new → TakesInTurn m old (ready ∷ left) (Some told) left new
+  goes_on : (old mid new : Slab (DeviceState I L)) (ready : Ready) (rest left : List Ready) (told : Option Told) → TakesReady m ready old None mid → TakesInTurn m mid rest told left new → TakesInTurn m old (ready ∷ rest) told left new
+
+-- what the last wait found ready and was not taken since
+abbrev pub waiting : {I L S : Type 0} → (S → List Ready) → FleetState I L S → List Ready
+waiting found fleet = drop fleet.taken (found fleet.readiness)
+
 -- a call is begun there
 abbrev pub BeginsAt : {H I L : Type 0} → Protocol H → Heading H I → Asked → ℕ → Option (DeviceState I L) → Option (Result (Unit {0}) Error) → Option (DeviceState I L) → Type 0
 BeginsAt P N asked now None told new = (told ≡ None) × (new ≡ None)
 BeginsAt P N asked now (Some old) told None = ⊥
 BeginsAt P N asked now (Some old) told (Some new) = Begins P N asked now old told new
-
--- every other key has what it had
-abbrev pub OthersStay : {X : Type 0} → ℕ → Slab X → Slab X → Type 0
-OthersStay key old new = (other : ℕ) → other ≢ key → get new other ≡ get old other
 
 -- a device under a key has a new link, on which nothing was sent
 abbrev pub with_link : {I L : Type 0} → L → Option (DeviceState I L) → Option (DeviceState I L)

@@ -5,7 +5,7 @@ ghost use Rattle.modbus_link.specs.Line.{meaning_of};
 ghost use Rattle.modbus_link.specs.Outside.{Rose};
 ghost use Rattle.slab.specs.Slab.{get, slab_len, Updates, SameValues};
 ghost use Rattle.modbus_fleet.specs.Device.{fleet_by};
-ghost use Rattle.modbus_fleet.specs.Fleet.{EachGoes, PollsAt, BeginsAt, OthersStay, with_link, IsDueAt, given_up, ExpiresOne};
+ghost use Rattle.modbus_fleet.specs.Fleet.{EachGoes, PollsAt, BeginsAt, OthersStay, TakesReady, TakesInTurn, waiting, with_link, IsDueAt, given_up, ExpiresOne};
 
 use crate::device::Device;
 use modbus_client::Protocol;
@@ -29,18 +29,18 @@ pub struct Told {
 pub struct Fleet<'a, P: Protocol, L, S> {
     devices: Slab<Device<'a, P, L>>,
     readiness: S,
-    // how many of those were polled that the last wait found ready
-    polled: usize,
+    // how many of those were taken that the last wait found ready
+    taken: usize,
     alloc: Global,
 }
 
-/// A contract sees the devices and the source of readiness.
+/// A contract sees the devices, the source of readiness, and how many were taken that it found.
 impl<'a, P: Protocol, L, S> Model for Fleet<'a, P, L, S> {
     ghost use Rattle.modbus_fleet.specs.Fleet.{FleetState};
 
     ghost Value = { FleetState P.Ids L S };
 
-    ghost view = { λ it. record { devices = it.devices; readiness = it.readiness } };
+    ghost view = { λ it. record { devices = it.devices; readiness = it.readiness; taken = it.taken } };
 }
 
 impl<'a, P: Protocol, L: PolledLink + Drop, S: Readiness<L>> Fleet<'a, P, L, S> {
@@ -48,11 +48,12 @@ impl<'a, P: Protocol, L: PolledLink + Drop, S: Readiness<L>> Fleet<'a, P, L, S> 
     pub fn new(alloc: Global, readiness: S) -> Fleet<'a, P, L, S>
         ensures empty { result.devices.slots ≡ [] }
         ensures readiness { result.readiness ≡ readiness }
+        ensures waiting { waiting S.found result ≡ S.found readiness }
     {
         Fleet {
             devices: Slab::new(alloc),
             readiness,
-            polled: 0,
+            taken: 0,
             alloc,
         }
     }
@@ -87,7 +88,7 @@ impl<'a, P: Protocol, L: PolledLink + Drop, S: Readiness<L>> Fleet<'a, P, L, S> 
         ensures added { IfOk result (λ key.
             Updates self.old.devices self.new.devices key (Some device.entry)) }
         ensures stays { OnErr result (SameValues self.old.devices self.new.devices) }
-        ensures readiness { self.new.readiness ≡ self.old.readiness }
+        ensures rest { self.new ≡ record self.old { devices = self.new.devices } }
     {
         if self.devices.reserve(1).is_err() {
             return Err(AllocError);
@@ -105,6 +106,7 @@ impl<'a, P: Protocol, L: PolledLink + Drop, S: Readiness<L>> Fleet<'a, P, L, S> 
             ≡ with_link link (get self.old.devices key)) }
         ensures others { OthersStay key self.old.devices self.new.devices }
         ensures stays { OnErr result (SameValues self.old.devices self.new.devices) }
+        ensures waiting { waiting S.found self.new ≡ waiting S.found self.old }
         ensures later { S.faults self.old.readiness ≤ S.faults self.new.readiness }
         ensures cause { OnErr result (Rose (S.faults self.old.readiness)
             (S.faults self.new.readiness)) }
@@ -129,7 +131,7 @@ impl<'a, P: Protocol, L: PolledLink + Drop, S: Readiness<L>> Fleet<'a, P, L, S> 
         ensures begins { BeginsAt P.protocol P.heading (meaning request.entry) now
             (get self.old.devices key) result (get self.new.devices key) }
         ensures others { OthersStay key self.old.devices self.new.devices }
-        ensures readiness { self.new.readiness ≡ self.old.readiness }
+        ensures rest { self.new ≡ record self.old { devices = self.new.devices } }
     {
         match self.devices.get_mut(key) {
             Some(device) => device.begin(self.alloc, request, now),
@@ -143,7 +145,7 @@ impl<'a, P: Protocol, L: PolledLink + Drop, S: Readiness<L>> Fleet<'a, P, L, S> 
             (fleet_by P.protocol (meaning_of L.input L.output L.line) L.not_ready)
             (get self.old.devices key) result (get self.new.devices key) }
         ensures others { OthersStay key self.old.devices self.new.devices }
-        ensures readiness { self.new.readiness ≡ self.old.readiness }
+        ensures rest { self.new ≡ record self.old { devices = self.new.devices } }
     {
         let Some(device) = self.devices.get_mut(key) else {
             return None;
@@ -154,46 +156,57 @@ impl<'a, P: Protocol, L: PolledLink + Drop, S: Readiness<L>> Fleet<'a, P, L, S> 
     /// Waits until something may be ready, or the time is up; `None` for any time.
     ///
     /// # Errors
-    /// `Failed`, only where the count of faults of the source of readiness rose.
+    /// `Failed`, only where the count of faults of the source of readiness rose; then nothing was found.
     pub fn wait(&mut self, timeout: Option<Duration>) -> Result<(), Failed>
         ensures devices { self.new.devices ≡ self.old.devices }
+        ensures found { waiting S.found self.new ≡ S.found self.new.readiness }
+        ensures nothing { OnErr result (waiting S.found self.new ≡ []) }
         ensures later { S.faults self.old.readiness ≤ S.faults self.new.readiness }
         ensures cause { OnErr result (Rose (S.faults self.old.readiness)
             (S.faults self.new.readiness)) }
     {
-        self.polled = 0;
+        self.taken = 0;
         self.readiness.wait(timeout)
     }
 
     // Polls the device that this tells of, where it tells of one.
-    fn poll_ready(&mut self, ready: Option<Ready>) -> Option<Told>
-        ensures each { EachGoes (fleet_by P.protocol (meaning_of L.input L.output L.line) L.not_ready)
+    fn take_ready(&mut self, ready: Ready) -> Option<Told>
+        ensures takes { TakesReady
+            (fleet_by P.protocol (meaning_of L.input L.output L.line) L.not_ready)
+            ready self.old.devices result self.new.devices }
+        ensures each { EachGoes
+            (fleet_by P.protocol (meaning_of L.input L.output L.line) L.not_ready)
             self.old.devices result self.new.devices }
-        ensures readiness { self.new.readiness ≡ self.old.readiness }
+        ensures rest { self.new ≡ record self.old { devices = self.new.devices } }
     {
         match ready {
-            Some(Ready::Link(key)) => match self.poll(key) {
+            Ready::Link(key) => match self.poll(key) {
                 Some(answer) => Some(Told { key, answer }),
                 None => None,
             },
-            _ => None,
+            Ready::Peer => None,
         }
     }
 
-    /// Polls the devices that the last wait found ready, until one answers, which is told with its key; the next call goes on from there.
-    /// `None` once each was polled.
+    /// Polls the devices that the last wait found ready, in the order in which it tells of them, until one answers, which is told with its
+    /// key; the next call goes on from there. `None` once each was polled.
     ///
     /// Whatever the source of readiness tells: each device goes on by polls of its own call over its own link, and what is told with its
     /// key is what that call answered.
     pub fn next_answer(&mut self) -> Option<Told>
-        ensures each { EachGoes (fleet_by P.protocol (meaning_of L.input L.output L.line) L.not_ready)
+        ensures takes { TakesInTurn
+            (fleet_by P.protocol (meaning_of L.input L.output L.line) L.not_ready)
+            self.old.devices (waiting S.found self.old) result (waiting S.found self.new)
+            self.new.devices }
+        ensures each { EachGoes
+            (fleet_by P.protocol (meaning_of L.input L.output L.line) L.not_ready)
             self.old.devices result self.new.devices }
         ensures readiness { self.new.readiness ≡ self.old.readiness }
     {
-        'ready: for index in self.polled..self.readiness.ready().len() {
-            self.polled = index.saturating_add(1);
-            let ready = self.readiness.ready().get(index).copied();
-            match self.poll_ready(ready) {
+        'ready: for index in self.taken..self.readiness.ready().len() {
+            self.taken = index.saturating_add(1);
+            let ready = self.readiness.ready()[index];
+            match self.take_ready(ready) {
                 Some(told) => return Some(told),
                 None => {}
             }
@@ -207,7 +220,7 @@ impl<'a, P: Protocol, L: PolledLink + Drop, S: Readiness<L>> Fleet<'a, P, L, S> 
         ensures gives_up { get self.new.devices key
             ≡ (if result then given_up (get self.old.devices key) else get self.old.devices key) }
         ensures others { OthersStay key self.old.devices self.new.devices }
-        ensures readiness { self.new.readiness ≡ self.old.readiness }
+        ensures rest { self.new ≡ record self.old { devices = self.new.devices } }
     {
         match self.devices.get_mut(key) {
             Some(device) => device.expire(now),
@@ -219,7 +232,7 @@ impl<'a, P: Protocol, L: PolledLink + Drop, S: Readiness<L>> Fleet<'a, P, L, S> 
     /// such a call.
     pub fn expire(&mut self, now: u64) -> Option<usize>
         ensures expires { ExpiresOne now self.old.devices result self.new.devices }
-        ensures readiness { self.new.readiness ≡ self.old.readiness }
+        ensures rest { self.new ≡ record self.old { devices = self.new.devices } }
     {
         'keys: for key in 0..self.devices.capacity() {
             if self.expire_at(key, now) {

@@ -1,12 +1,13 @@
 -- Histories of what happened to many connections.
-use Rattle.std.proofs.Common.{◌≡◌, ◌≢◌, ℕ, ◌==◌, Bool, List, [], ◌∷◌, ◌++◌, Some, None, IsSome, refl, sym, ap, ◌∙◌, subst, append_assoc, append-nil, eq-eqb, ne_eqb}
+use Rattle.std.proofs.Common.{◌≡◌, ◌≢◌, inl, inr, ℕ, ◌==◌, Bool, List, [], ◌∷◌, ◌++◌, Option, Some, None, IsSome, refl, sym, ap, ◌∙◌, subst, append_assoc, append-nil, eq-eqb, ne_eqb}
+use Rattle.std.proofs.lemmas.Bool.{cases_eq}
 use Rattle.std.specs.Prelude.{if◌then◌else◌}
-use Rattle.modbus_link.specs.Line.{LinkMeaning}
 use Rattle.modbus_service.specs.Answering.{Answering}
 use Rattle.modbus_server.specs.Framing.{Framing}
+use Rattle.modbus_turn.specs.declared.turn.Turn.{Turn}
 use Rattle.modbus_turn.specs.InTurn.{Said, RunOver}
-use Rattle.modbus_hub.specs.Events.{Event, came, refused, told, turned, dropped, KeyAccount, told_more, account_after, account_of, by_key, HasAnyTurn, links_of}
-use Rattle.modbus_hub.specs.Seats.{RunsOn}
+use Rattle.modbus_hub.specs.Events.{Event, came, refused, told, turned, dropped, Account, KeyAccount, told_more, after_turn, account_after, account_of, by_key, HasAnyTurn, links_of}
+use Rattle.modbus_hub.specs.Seats.{PolledMeaning, RunsOn, IsTurnOf, StaysOrTurns, DropsNone, ServesInTurn}
 
 module _ {L : Type 0} where
   pub at_key : (key j : ℕ) (here there : KeyAccount L) → j ≡ key → (if j == key then here else there) ≡ here
@@ -19,16 +20,13 @@ module _ {L : Type 0} where
   account_more key account [] ys = refl
   account_more key account (x ∷ xs) ys = account_more key (account_after key account x) xs ys
 
-  abbrev account : L → List Said → KeyAccount L
-  account first own = Some (first, own)
-
   -- the account of a key after what its connection was told
-  pub account_told : (key : ℕ) (first : L) (own fresh : List Said) → account_of key (Some (first, own)) (by_key key fresh) ≡ Some (first, own ++ fresh)
-  account_told key first own [] = ap (λ (l : List Said). account first l) (sym (append-nil own))
-  account_told key first own (x ∷ xs) =
-      ap (λ (a : KeyAccount L). account_of key a (by_key key xs)) (at_key key key (Some (first, own ++ x ∷ [])) (Some (first, own)) refl)
-      ∙ account_told key first (own ++ x ∷ []) xs
-      ∙ ap (λ (l : List Said). account first l) (append_assoc own (x ∷ []) xs)
+  pub account_told : (key : ℕ) (account : Account L) (fresh : List Said) → account_of key (Some account) (by_key key fresh) ≡ Some (record account { own = account.own ++ fresh })
+  account_told key account [] = ap (λ (l : List Said). Some (record account { own = l })) (sym (append-nil account.own))
+  account_told key account (x ∷ xs) =
+      ap (λ (a : KeyAccount L). account_of key a (by_key key xs)) (at_key key key (told_more x (Some account)) (Some account) refl)
+      ∙ account_told key (record account { own = account.own ++ x ∷ [] }) xs
+      ∙ ap (λ (l : List Said). Some (record account { own = l })) (append_assoc account.own (x ∷ []) xs)
 
   -- and after what another was told
   pub account_other : (key j : ℕ) (account : KeyAccount L) (fresh : List Said) → j ≢ key → account_of key account (by_key j fresh) ≡ account
@@ -57,22 +55,79 @@ module _ {L : Type 0} where
   turn_after key xs ys (earlier, later, link, turn, e) =
       (earlier, later ++ ys, link, turn, ap (λ (l : List (Event L)). l ++ ys) e ∙ append_assoc earlier (turned key link turn ∷ later) ys)
 
-module _ (F : Framing) {S : Type 0} (A : Answering S) {L : Type 0} (M : LinkMeaning L) where
+  -- where nothing happens each connection stays
+  pub stays_none : (history : List (Event L)) → StaysOrTurns history []
+  stays_none history key here = inr (subst (λ (h : List (Event L)). IsSome (account_of key None h)) (sym (append-nil history)) here)
+
+  stays_both : (history xs ys : List (Event L)) → StaysOrTurns history xs → StaysOrTurns (history ++ xs) ys → StaysOrTurns history (xs ++ ys)
+  stays_both history xs ys first second key here =
+      elim (first key here) [
+        | inl had ↦ inl (turn_after key xs ys had)
+        | inr there ↦
+            elim (second key there) [
+              | inl had ↦ inl (turn_before key xs ys had)
+              | inr stays ↦ inr (subst (λ (h : List (Event L)). IsSome (account_of key None h)) (append_assoc history xs ys) stays)
+            ]
+      ]
+
+  pub none_both : (xs ys : List (Event L)) → DropsNone xs → DropsNone ys → DropsNone (xs ++ ys)
+  none_both [] ys first second = second
+  none_both (came key link ∷ xs) ys first second = none_both xs ys first second
+  none_both (refused cause link ∷ xs) ys first second = none_both xs ys first second
+  none_both (told key x ∷ xs) ys first second = none_both xs ys first second
+  none_both (turned key link turn ∷ xs) ys first second = none_both xs ys first second
+  none_both (dropped key ∷ xs) ys first second = absurd first
+
+  none_turned : (key : ℕ) (last : L) (turn : Turn) (fresh : List Said) → DropsNone (by_key key fresh ++ turned key last turn ∷ [])
+  none_turned key last turn [] = tt
+  none_turned key last turn (x ∷ xs) = none_turned key last turn xs
+
+  pub serves_both : (history xs ys : List (Event L)) → ServesInTurn history xs → ServesInTurn (history ++ xs) ys → ServesInTurn history (xs ++ ys)
+  serves_both history xs ys first second = (
+    links_more xs ys ∙ ap (λ (l : List L). l ++ links_of ys) first.0 ∙ second.0,
+    stays_both history xs ys first.1 second.1,
+    none_both xs ys first.2 second.2,
+  )
+
+  -- what the turn of one key does to the account of another
+  other_account : (key k : ℕ) (turn : Turn) (last : L) (fresh : List Said) (history : List (Event L)) → k ≢ key
+      → account_of k None (history ++ (by_key key fresh ++ turned key last turn ∷ [])) ≡ account_of k None history
+  other_account key k turn last fresh history differs =
+      account_more k None history (by_key key fresh ++ turned key last turn ∷ [])
+      ∙ account_more k (account_of k None history) (by_key key fresh) (turned key last turn ∷ [])
+      ∙ ap (λ (a : KeyAccount L). account_of k a (turned key last turn ∷ [])) (account_other k key (account_of k None history) fresh (λ e. differs (sym e)))
+      ∙ off_key k key (after_turn last turn (account_of k None history)) (account_of k None history) (λ e. differs (sym e))
+
+  -- in a turn no link comes, and each other connection stays
+  pub turn_serves : (key : ℕ) (turn : Option Turn) (history more : List (Event L)) → IsTurnOf key turn history more → ServesInTurn history more
+  turn_serves key None history more (none, account) = subst (λ (l : List (Event L)). ServesInTurn history l) (sym none) (refl, stays_none history, tt)
+  turn_serves key (Some turn) history more (fresh, last, e) =
+      subst (λ (l : List (Event L)). ServesInTurn history l) (sym e) (
+        links_more (by_key key fresh) (turned key last turn ∷ []) ∙ ap (λ (l : List L). l ++ []) (links_told key fresh),
+        λ k here.
+            elim (cases_eq k key) [
+              | inl same ↦ inl (subst (λ (n : ℕ). HasAnyTurn n (by_key key fresh ++ turned key last turn ∷ [])) (sym same) (by_key key fresh, [], last, turn, refl))
+              | inr differs ↦ inr (subst (λ (a : KeyAccount L). IsSome a) (sym (other_account key k turn last fresh history differs)) here)
+            ],
+        none_turned key last turn fresh,
+      )
+
+module _ (F : Framing) {S : Type 0} (A : Answering S) {L : Type 0} (M : PolledMeaning L) where
   pub runs_both : (earlier xs ys : List (Event L)) (a b c : S) → RunsOn F A M earlier a xs b → RunsOn F A M (earlier ++ xs) b ys c → RunsOn F A M earlier a (xs ++ ys) c
   runs_both earlier [] ys a b c first second =
       subst (λ (s : S). RunsOn F A M earlier s ys c) first (subst (λ (l : List (Event L)). RunsOn F A M l b ys c) (append-nil earlier) second)
   runs_both earlier (x ∷ xs) ys a b c (next, step, rest) second =
       (next, step, runs_both (earlier ++ x ∷ []) xs ys next b c rest (subst (λ (l : List (Event L)). RunsOn F A M l b ys c) (sym (append_assoc earlier (x ∷ []) xs)) second))
 
-  is_some : (first : L) (own : List Said) (account : KeyAccount L) → account ≡ Some (first, own) → IsSome account
-  is_some first own account e = subst (λ (a : KeyAccount L). IsSome a) (sym e) refl
+  is_some : (account : Account L) (slot : KeyAccount L) → slot ≡ Some account → IsSome slot
+  is_some account slot e = subst (λ (a : KeyAccount L). IsSome a) (sym e) refl
 
   -- the service's own run is one of the connection under a key
-  pub runs_told : (key : ℕ) (first : L) (own fresh : List Said) (earlier : List (Event L)) (a b : S) → account_of key None earlier ≡ Some (first, own) → RunOver A a fresh b
+  pub runs_told : (key : ℕ) (account : Account L) (fresh : List Said) (earlier : List (Event L)) (a b : S) → account_of key None earlier ≡ Some account → RunOver A a fresh b
       → RunsOn F A M earlier a (by_key key fresh) b
-  runs_told key first own [] earlier a b here run = run
-  runs_told key first own (x ∷ xs) earlier a b here (next, step, rest) =
-      let on : account_of key None (earlier ++ told key x ∷ []) ≡ Some (first, own ++ x ∷ []) =
-      account_more key None earlier (told key x ∷ []) ∙ ap (λ (account : KeyAccount L). account_of key account (told key x ∷ [])) here
-      ∙ at_key key key (Some (first, own ++ x ∷ [])) (Some (first, own)) refl in
-      (next, (is_some first own (account_of key None earlier) here, step), runs_told key first (own ++ x ∷ []) xs (earlier ++ told key x ∷ []) next b on rest)
+  runs_told key account [] earlier a b here run = run
+  runs_told key account (x ∷ xs) earlier a b here (next, step, rest) =
+      let on : account_of key None (earlier ++ told key x ∷ []) ≡ Some (record account { own = account.own ++ x ∷ [] }) =
+      account_more key None earlier (told key x ∷ []) ∙ ap (λ (slot : KeyAccount L). account_of key slot (told key x ∷ [])) here
+      ∙ at_key key key (told_more x (Some account)) (Some account) refl in
+      (next, (is_some account (account_of key None earlier) here, step), runs_told key (record account { own = account.own ++ x ∷ [] }) xs (earlier ++ told key x ∷ []) next b on rest)

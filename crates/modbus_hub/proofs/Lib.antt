@@ -1,3 +1,4 @@
+pub mod Counting
 pub mod Histories
 pub mod Rounding
 pub mod Rounds

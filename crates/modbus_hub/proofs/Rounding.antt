@@ -1,16 +1,18 @@
 -- One round after another, and the links that came in them.
-use Rattle.std.proofs.Common.{◌≡◌, ℕ, List, [], ◌∷◌, ◌++◌, Option, Some, None, Result, Ok, Err, ◌≤◌, refl, sym, ap, ◌∙◌, subst, arith}
+use Rattle.std.proofs.Common.{◌≡◌, ◌⊎◌, inl, inr, ℕ, List, [], ◌∷◌, ◌++◌, Option, Some, None, IsSome, Result, Ok, Err, ◌≤◌, refl, sym, ap, ◌∙◌, subst, arith}
 use Rattle.std.proofs.Math.Nat.{le_trans, le_refl}
 use Rattle.modbus_link.specs.Memory.{next_count}
 use Rattle.modbus_link.specs.declared.outside.Failed.{Failed}
 use Rattle.modbus_link.specs.declared.polled.Polled.{Polled}
-use Rattle.modbus_link.specs.declared.polled.Polled.TheVariants.{Ready, Pending}
+use Rattle.modbus_link.specs.declared.polled.Polled.TheVariants as polled
 use Rattle.modbus_turn.specs.declared.turn.Turn.{Turn}
 use Rattle.modbus_hub.specs.Accepts.{with_given, GivesByPolls, GivesLinks}
-use Rattle.modbus_hub.specs.Events.{Event, Refusal, no_watch, no_memory, came, refused, told, turned, dropped, by_key, links_of, counted_if, counted_over}
-use Rattle.modbus_hub.specs.Seats.{SeatsState, IsTurnOf, IsDrop}
-use Rattle.modbus_hub.specs.Turns.{ServerState, ServesInTurn, CountsDrops, Brings, ServesLeft, Comes, TakesRound}
-use Rattle.modbus_hub.proofs.Histories.{links_more, links_told, turn_after}
+use Rattle.modbus_ready.specs.declared.readiness.Ready.{Ready}
+use Rattle.modbus_ready.specs.declared.readiness.Ready.TheVariants.{Peer, Link}
+use Rattle.modbus_hub.specs.Events.{Event, Refusal, no_watch, no_memory, came, refused, told, turned, dropped, KeyAccount, account_of, by_key, HasAnyTurn, links_of, counted_if, counted_over}
+use Rattle.modbus_hub.specs.Seats.{SeatsState, IsTurnOf, DropsNone, ServesInTurn, IsDrop}
+use Rattle.modbus_hub.specs.Turns.{ServerState, IsFound, TurnsFound, ServesFound, CountsDrops, Brings, ServesLeft, Accepts, Comes, TakesRound}
+use Rattle.modbus_hub.proofs.Histories.{links_more, none_both, turn_before, turn_after, stays_none, serves_both, turn_serves}
 
 counted_up : (a b : ℕ) → a ≤ b → next_count a ≤ next_count b
 counted_up a b h = grind (arith)
@@ -19,17 +21,82 @@ counted_up a b h = grind (arith)
 abbrev pub state : {A S L : Type 0} → A → S → SeatsState L → ℕ → ServerState A S L
 state acceptor readiness seats unseated = record { acceptor = acceptor; readiness = readiness; seats = seats; unseated = unseated }
 
+no_link : (key : ℕ) → Peer ≡ Link key → ⊥
+no_link key e = cc
+
+found_in : (key : ℕ) (first second : List Ready) → IsFound key (first ++ second) → IsFound key first ⊎ IsFound key second
+found_in key [] second is = inr is
+found_in key (ready ∷ first) second (inl e) = inl (inl e)
+found_in key (ready ∷ first) second (inr is) =
+    elim (found_in key first second is) [
+      | inl there ↦ inl (inr there)
+      | inr there ↦ inr there
+    ]
+
 module _ {L : Type 0} where
-  pub turn_serves : (key : ℕ) (turn : Option Turn) (history more : List (Event L)) → IsTurnOf key turn history more → ServesInTurn history more
-  turn_serves key None history more (none, account) = ap links_of none
-  turn_serves key (Some turn) history more (fresh, last, e) =
-      ap links_of e ∙ links_more (by_key key fresh) (turned key last turn ∷ []) ∙ ap (λ (l : List L). l ++ []) (links_told key fresh)
+  not_some : (account : KeyAccount L) → account ≡ None → IsSome account → ⊥
+  not_some None e is = cc
+  not_some (Some account) e is = cc
 
-  pub serves_both : (history xs ys : List (Event L)) → ServesInTurn history xs → ServesInTurn (history ++ xs) ys → ServesInTurn history (xs ++ ys)
-  serves_both history xs ys first second = links_more xs ys ∙ ap (λ (l : List L). l ++ links_of ys) first ∙ second
+  -- a connection that was found ready has its turn
+  pub found_turn : (key : ℕ) (turn : Option Turn) (history more : List (Event L)) → IsTurnOf key turn history more → ServesFound (Link key ∷ []) history more
+  found_turn key None history more (none, account) = (
+    turn_serves key None history more (none, account),
+    λ k is here.
+        elim is [
+          | inl e ↦ let same : k ≡ key = cc in absurd (not_some (account_of k None history) (subst (λ (n : ℕ). account_of n None history ≡ None) (sym same) account) here)
+          | inr never ↦ absurd never
+        ],
+  )
+  found_turn key (Some turn) history more (fresh, last, e) = (
+    turn_serves key (Some turn) history more (fresh, last, e),
+    λ k is here.
+        elim is [
+          | inl same ↦ let there : k ≡ key = cc in subst (λ (n : ℕ). HasAnyTurn n more) (sym there) (by_key key fresh, [], last, turn, e)
+          | inr never ↦ absurd never
+        ],
+  )
 
-  pub left_both : (seats : SeatsState L) (history xs ys : List (Event L)) → ServesLeft seats history xs → ServesInTurn (history ++ xs) ys → ServesLeft seats history (xs ++ ys)
-  left_both seats history xs ys first second = (serves_both history xs ys first.0 second, λ left key spent. turn_after key xs ys (first.1 left key spent))
+  pub found_peer : (history : List (Event L)) → ServesFound (Peer ∷ []) history []
+  found_peer history = (
+    (refl, stays_none history, tt),
+    λ key is here.
+        elim is [
+          | inl e ↦ absurd (no_link key e)
+          | inr never ↦ absurd never
+        ],
+  )
+
+  pub found_nothing : (history : List (Event L)) → ServesFound [] history []
+  found_nothing history = ((refl, stays_none history, tt), λ key is here. absurd is)
+
+  -- those that were found, and then those
+  turns_both : (first second : List Ready) (history xs ys : List (Event L)) → ServesInTurn history xs → TurnsFound first history xs → TurnsFound second (history ++ xs) ys
+      → TurnsFound (first ++ second) history (xs ++ ys)
+  turns_both first second history xs ys serves had has key is here =
+      elim (found_in key first second is) [
+        | inl there ↦ turn_after key xs ys (had key there here)
+        | inr there ↦
+            elim (serves.1 key here) [
+              | inl turns ↦ turn_after key xs ys turns
+              | inr stays ↦ turn_before key xs ys (has key there stays)
+            ]
+      ]
+
+  pub found_both : (first second : List Ready) (history xs ys : List (Event L)) → ServesFound first history xs → ServesFound second (history ++ xs) ys
+      → ServesFound (first ++ second) history (xs ++ ys)
+  found_both first second history xs ys had has = (serves_both history xs ys had.0 has.0, turns_both first second history xs ys had.0 had.1 has.1)
+
+  -- a round before the peers are accepted
+  abbrev pub ServesRound : SeatsState L → List Ready → List (Event L) → List (Event L) → Type 0
+  ServesRound seats found history more = ServesLeft seats history more × TurnsFound found history more
+
+  pub left_both : (seats : SeatsState L) (found : List Ready) (history xs ys : List (Event L)) → ServesLeft seats history xs → ServesFound found (history ++ xs) ys
+      → ServesRound seats found history (xs ++ ys)
+  left_both seats found history xs ys first second = (
+    (serves_both history xs ys first.0 second.0, λ left key spent. turn_after key xs ys (first.1 left key spent)),
+    turns_both [] found history xs ys first.0 (λ key is here. absurd is) second.1,
+  )
 
   pub drops_links : (history more : List (Event L)) → IsDrop history more → links_of more ≡ []
   drops_links history [] s = refl
@@ -98,6 +165,7 @@ module _ {A S L : Type 0} (faults : S → ℕ) where
       watch = subst (λ (l : List (Event L)). counted_over no_watch l (faults a.readiness) ≤ faults b.readiness) (sym e) later;
       memory = subst (λ (l : List (Event L)). b.unseated ≡ counted_over no_memory l a.unseated) (sym e) count;
     };
+    none = subst (λ (l : List (Event L)). DropsNone l) (sym e) tt;
   }
 
   -- one that could not be watched
@@ -109,6 +177,7 @@ module _ {A S L : Type 0} (faults : S → ℕ) where
       watch = subst (λ (l : List (Event L)). counted_over no_watch l (faults a.readiness) ≤ faults b.readiness) (sym e) rose;
       memory = subst (λ (l : List (Event L)). b.unseated ≡ counted_over no_memory l a.unseated) (sym e) count;
     };
+    none = subst (λ (l : List (Event L)). DropsNone l) (sym e) tt;
   }
 
   -- one for which memory was refused
@@ -120,6 +189,7 @@ module _ {A S L : Type 0} (faults : S → ℕ) where
       watch = subst (λ (l : List (Event L)). counted_over no_watch l (faults a.readiness) ≤ faults b.readiness) (sym e) later;
       memory = subst (λ (l : List (Event L)). b.unseated ≡ counted_over no_memory l a.unseated) (sym e) count;
     };
+    none = subst (λ (l : List (Event L)). DropsNone l) (sym e) tt;
   }
 
 module _ {A L : Type 0} (accepts : A → Result (Polled L) Failed → A → Type 0) where
@@ -127,8 +197,8 @@ module _ {A L : Type 0} (accepts : A → Result (Polled L) Failed → A → Type
   none_given a = ([], (refl, refl))
 
   given_more : (poll : Result (Polled L) Failed) (later ys : List L) → with_given poll later ++ ys ≡ with_given poll (later ++ ys)
-  given_more (Ok (Ready link)) later ys = refl
-  given_more (Ok Pending) later ys = refl
+  given_more (Ok (polled.Ready link)) later ys = refl
+  given_more (Ok polled.Pending) later ys = refl
   given_more (Err failed) later ys = refl
 
   pub gives_both : (a b c : A) (polls : List (Result (Polled L) Failed)) (xs ys : List L) → GivesByPolls accepts a polls xs b → GivesLinks accepts b ys c → GivesLinks accepts a (xs ++ ys) c
@@ -145,12 +215,18 @@ module _ {A S L : Type 0} (accepts : A → Result (Polled L) Failed → A → Ty
   abbrev Came : Server → Server → List (Event L) → List (Event L) → Type 0
   Came a b history more = Comes accepts faults a b history more
 
+  abbrev Accepted : Server → Server → List (Event L) → List (Event L) → Type 0
+  Accepted a b history more = Accepts accepts faults a b history more
+
   pub comes_both : (a b c : Server) (history xs ys : List (Event L)) → Came a b history xs → Came b c (history ++ xs) ys → Came a c history (xs ++ ys)
   comes_both a b c history xs ys first second = record {
     gives = subst (λ (l : List L). GivesLinks accepts a.acceptor l c.acceptor) (sym (links_more xs ys))
         (gives_both accepts a.acceptor b.acceptor c.acceptor first.gives.0 (links_of xs) (links_of ys) first.gives.1 second.gives);
     counts = counts_both faults a b c xs ys first.counts second.counts;
   }
+
+  pub accepts_both : (a b c : Server) (history xs ys : List (Event L)) → Accepted a b history xs → Accepted b c (history ++ xs) ys → Accepted a c history (xs ++ ys)
+  accepts_both a b c history xs ys first second = (comes_both a b c history xs ys first.0 second.0, none_both xs ys first.1 second.1)
 
   -- where no link came the acceptor is as it was
   pub none_come : (a b : Server) (history more : List (Event L)) → b.acceptor ≡ a.acceptor → faults a.readiness ≤ faults b.readiness → b.unseated ≡ a.unseated → links_of more ≡ []
@@ -162,10 +238,10 @@ module _ {A S L : Type 0} (accepts : A → Result (Polled L) Failed → A → Ty
   }
 
   -- one poll
-  pub brings : (a now b : Server) (link : L) (history more : List (Event L)) → accepts a.acceptor (Ok (Ready link)) now.acceptor → b.acceptor ≡ now.acceptor
+  pub brings : (a now b : Server) (link : L) (history more : List (Event L)) → accepts a.acceptor (Ok (polled.Ready link)) now.acceptor → b.acceptor ≡ now.acceptor
       → faults now.readiness ≡ faults a.readiness → now.unseated ≡ a.unseated → Brings faults link now b history more → Came a b history more
   brings a now b link history more accepted same later count e = record {
-    gives = subst (λ (x : A). GivesLinks accepts a.acceptor (links_of more) x) (sym same) (Ok (Ready link) ∷ [], (now.acceptor, [], accepted, e.links, (refl, refl)));
+    gives = subst (λ (x : A). GivesLinks accepts a.acceptor (links_of more) x) (sym same) (Ok (polled.Ready link) ∷ [], (now.acceptor, [], accepted, e.links, (refl, refl)));
     counts = record {
       watch = subst (λ (n : ℕ). counted_over no_watch more n ≤ faults b.readiness) later e.counts.watch;
       memory = subst (λ (n : ℕ). b.unseated ≡ counted_over no_memory more n) count e.counts.memory;
@@ -179,15 +255,17 @@ module _ {A S L : Type 0} (accepts : A → Result (Polled L) Failed → A → Ty
     counts = counts_none faults a b [] refl later count;
   }
 
-  pub round_of : (a now b : Server) (history xs ys : List (Event L)) → now.acceptor ≡ a.acceptor → faults a.readiness ≤ faults now.readiness → now.unseated ≡ a.unseated
-      → ServesLeft a.seats history xs → Came now b (history ++ xs) ys → TakesRound accepts faults a b (Ok tt) history (xs ++ ys)
-  round_of a now b history xs ys same later count first second = (
-    comes_both a now b history xs ys (none_come a now history xs same later count first.0) second,
-    λ left key spent. turn_after key xs ys (first.1 left key spent),
+  pub round_of : (found : S → List Ready) (a now b : Server) (history xs ys : List (Event L)) → now.acceptor ≡ a.acceptor → faults a.readiness ≤ faults now.readiness
+      → now.unseated ≡ a.unseated → ServesRound a.seats (found b.readiness) history xs → Accepted now b (history ++ xs) ys
+      → TakesRound accepts faults found a b (Ok tt) history (xs ++ ys)
+  round_of found a now b history xs ys same later count first second = (
+    (comes_both a now b history xs ys (none_come a now history xs same later count first.0.0.0) second.0, none_both xs ys first.0.0.2 second.1),
+    λ left key spent. turn_after key xs ys (first.0.1 left key spent),
+    λ key is here. turn_after key xs ys (first.1 key is here),
   )
 
-  pub then_drops : (a now b : Server) (history xs ys : List (Event L)) → b.acceptor ≡ now.acceptor → b.readiness ≡ now.readiness → b.unseated ≡ now.unseated
-      → TakesRound accepts faults a now (Ok tt) history xs → IsDrop (history ++ xs) ys → Came a b history (xs ++ ys)
-  then_drops a now b history xs ys same ready count first second =
+  pub then_drops : (found : S → List Ready) (a now b : Server) (history xs ys : List (Event L)) → b.acceptor ≡ now.acceptor → b.readiness ≡ now.readiness → b.unseated ≡ now.unseated
+      → TakesRound accepts faults found a now (Ok tt) history xs → IsDrop (history ++ xs) ys → Came a b history (xs ++ ys)
+  then_drops found a now b history xs ys same ready count first second =
       let later : faults now.readiness ≤ faults b.readiness = subst (λ (s : S). faults now.readiness ≤ faults s) (sym ready) (le_refl (faults now.readiness)) in
-      comes_both a now b history xs ys first.0 (none_come now b (history ++ xs) ys same later count (drops_links (history ++ xs) ys second))
+      comes_both a now b history xs ys first.0.0 (none_come now b (history ++ xs) ys same later count (drops_links (history ++ xs) ys second))

@@ -2,14 +2,14 @@
 use Rattle.std.proofs.Common.{◌≡◌, ◌≢◌, inl, inr, ◌<◌, ◌≤◌, ◌+◌, ℕ, List, [], ◌∷◌, ◌++◌, Option, ap, ◌∙◌, sym, subst, arith, IsTrue}
 use Rattle.std.proofs.lemmas.Bool.{cases_eq}
 use Rattle.slab.specs.Slab.{Slab, get, Updates}
-use Rattle.modbus_hub.specs.Events.{Event, came, refused, told, turned, dropped, Place, HasAnyTurn, links_of}
-use Rattle.modbus_hub.specs.Seats.{is_spent_at, IsDrop, TurnsIfSpent, kept}
-use Rattle.modbus_hub.proofs.Histories.{links_more, turn_before, turn_after}
+use Rattle.modbus_hub.specs.Events.{Event, came, refused, told, turned, dropped, Place, HasAnyTurn}
+use Rattle.modbus_hub.specs.Seats.{is_spent_at, IsDrop, ServesInTurn, TurnsIfSpent, kept}
+use Rattle.modbus_hub.proofs.Histories.{serves_both, turn_before, turn_after}
 
 module _ {L : Type 0} where
   -- those below a key had their turn
   abbrev pub ServesBelow : ℕ → Slab (Place L) → List (Event L) → List (Event L) → Type 0
-  ServesBelow below old history more = (links_of more ≡ []) × ((key : ℕ) → key < below → IsTrue (is_spent_at (get old key)) → HasAnyTurn key more)
+  ServesBelow below old history more = ServesInTurn history more × ((key : ℕ) → key < below → IsTrue (is_spent_at (get old key)) → HasAnyTurn key more)
 
   abbrev LikeAbove : ℕ → Slab (Place L) → Slab (Place L) → Type 0
   LikeAbove key old now = (k : ℕ) → key ≤ k → get now k ≡ get old k
@@ -20,7 +20,7 @@ module _ {L : Type 0} where
   pub serves_below : (old now : Slab (Place L)) (key : ℕ) → LikeAbove key old now → (history xs ys : List (Event L)) → ServesBelow key old history xs
       → TurnsIfSpent key (get now key) (history ++ xs) ys → ServesBelow (key + 1) old history (xs ++ ys)
   serves_below old now key above history xs ys first second = (
-    links_more xs ys ∙ ap (λ (l : List L). l ++ links_of ys) first.0 ∙ second.0,
+    serves_both history xs ys first.0 second.0,
     λ k low spent.
         elim (cases_eq k key) [
           | inl same ↦

@@ -2,20 +2,18 @@
 use Rattle.std.proofs.Common.{◌≡◌, ◌≢◌, inl, inr, ℕ, List, [], ◌∷◌, ◌++◌, Option, Some, None, refl, sym, ap, ◌∙◌, subst, append_assoc, append-nil, Ok, arith, Bool, true, false, IsTrue}
 use Rattle.std.proofs.lemmas.Bool.{cases_eq}
 use Rattle.std.proofs.lemmas.List.Elements.{All-nil}
-use Rattle.modbus_link.specs.Line.{LinkMeaning}
 use Rattle.modbus_link.specs.Passes.{Passes, passes_none}
 use Rattle.modbus_server.specs.Framing.{Framing}
 use Rattle.modbus_server.specs.Exchanges.{ReplyFits}
 use Rattle.modbus_service.specs.Answering.{Answering}
 use Rattle.modbus_turn.specs.declared.turn.Turn.{Turn}
 use Rattle.modbus_turn.specs.declared.turn.Turn.TheVariants.{Waiting, Spent, Over}
-use Rattle.modbus_turn.specs.InTurn.{Said}
-use Rattle.modbus_turn.specs.Turn.{StandsAlone, TurnLeaves, TakesTurn, is_going_on}
+use Rattle.modbus_turn.specs.Turn.{StandsAlone, TurnLeaves, TakesTurn, is_going_on, is_spent}
 use Rattle.slab.specs.Slab.{Slab, get, Updates}
-use Rattle.modbus_hub.specs.Events.{Event, Refusal, came, refused, turned, dropped, Place, KeyAccount, after_turn, account_of, by_key, HasAnyTurn, links_of}
-use Rattle.modbus_hub.specs.Seats.{turns, EndsTurn, RunsOn, IsSeatedAs, AreSeated, SeatsGoOn, IsTurnOf, Admits, IsDrop, is_spent_at}
-use Rattle.modbus_hub.proofs.Histories.{at_key, off_key, account_more, account_told, account_other, runs_both, runs_told, links_more, links_told}
-use Rattle.modbus_link.specs.Outside.{outside}
+use Rattle.modbus_hub.specs.Events.{Event, Refusal, came, refused, turned, dropped, Place, Account, begun_with, KeyAccount, after_turn, account_of, by_key, HasAnyTurn}
+use Rattle.modbus_hub.specs.Seats.{PolledMeaning, turns, EndsTurn, RunsOn, IsSeatedAs, AreSeated, SeatsGoOn, IsTurnOf, ServesInTurn, Admits, IsDrop, is_spent_at}
+use Rattle.modbus_hub.proofs.Histories.{at_key, off_key, account_more, account_told, account_other, runs_both, runs_told, turn_serves}
+use Rattle.modbus_link.specs.Outside.{outside, Rose}
 
 -- the seat that a turn leaves
 abbrev pub left_by : {L : Type 0} → Turn → Place L → Option (Place L)
@@ -27,16 +25,21 @@ left_by (Over result) place = None
 pub updates_both : {X : Type 0} (a b c : Slab X) (key : ℕ) (x y : Option X) → Updates a b key x → Updates b c key y → Updates a c key y
 updates_both a b c key x y first second = record { changed = second.changed; others = λ other differs. second.others other differs ∙ first.others other differs }
 
-module _ (F : Framing) {S : Type 0} (A : Answering S) {L : Type 0} (M : LinkMeaning L) where
+module _ (F : Framing) {S : Type 0} (A : Answering S) {L : Type 0} (M : PolledMeaning L) where
   abbrev Seated : KeyAccount L → Option (Place L) → Type 0
   Seated account slot = IsSeatedAs F A M account slot
 
-  abbrev Entry : KeyAccount L → Place L → Type 0
-  Entry account place = (first : L) × (own : List Said) × (account ≡ Some (first, own)) × IsTrue place.seat.process.connection.is_open × StandsAlone F A M turns first own place.seat
+  record Entry (slot : KeyAccount L) (place : Place L) : Type 0 where
+    account : Account L
+    is : slot ≡ Some account
+    is_open : IsTrue place.seat.process.connection.is_open
+    stands : StandsAlone F A M.link turns account.first account.own place.seat
+    last : place.seat.link ≡ account.last
+    spent : place.is_spent ≡ account.is_spent
 
   seated_some : (account : KeyAccount L) (place : Place L) → Seated account (Some place) → Entry account place
   seated_some None place s = absurd s
-  seated_some (Some (first, own)) place (is_open, stands) = (first, own, refl, is_open, stands)
+  seated_some (Some account) place (is_open, stands, last, spent) = record { account = account; is = refl; is_open = is_open; stands = stands; last = last; spent = spent }
 
   seated_none : (account : KeyAccount L) → Seated account None → account ≡ None
   seated_none None s = refl
@@ -93,12 +96,12 @@ module _ (F : Framing) {S : Type 0} (A : Answering S) {L : Type 0} (M : LinkMean
 
   -- a connection that begins
   begun : (link : L) (place : Place L) → place.seat.link ≡ link → place.seat.process.connection.held ≡ [] → place.seat.process.connection.waiting ≡ []
-      → place.seat.process.left ≡ turns → F.StandsFor [] [] [] [] → StandsAlone F A M turns link [] place.seat
+      → place.seat.process.left ≡ turns → F.StandsFor [] [] [] [] → StandsAlone F A M.link turns link [] place.seat
   begun link place is held waiting left stands = record {
     bytes = [];
     made = [];
     written = [];
-    passes = subst (λ (l : L). Passes (outside (M.input link) (M.output link)) (outside (M.input l) (M.output l)) [] [] []) (sym is) (passes_none (outside (M.input link) (M.output link)));
+    passes = subst (λ (l : L). Passes (outside (M.link.input link) (M.link.output link)) (outside (M.link.input l) (M.link.output l)) [] [] []) (sym is) (passes_none (outside (M.link.input link) (M.link.output link)));
     stands = λ service. record {
       exchanges = [];
       stands = record {
@@ -118,15 +121,15 @@ module _ (F : Framing) {S : Type 0} (A : Answering S) {L : Type 0} (M : LinkMean
 
   pub admitted : (E : Type 0) (link : L) (key : ℕ) (place : Place L) (olds news : Slab (Place L)) (s : S) → Updates olds news key (Some place) → get olds key ≡ None
       → place.seat.link ≡ link → place.seat.process.connection.held ≡ [] → place.seat.process.connection.waiting ≡ [] → IsTrue place.seat.process.connection.is_open
-      → place.seat.process.left ≡ turns → F.StandsFor [] [] [] [] → SeatsGoOn F A M (Admits {E = E} link (Ok key)) olds news s s
-  admitted E link key place olds news s u vacant is held waiting is_open left stands start history all =
+      → place.seat.process.left ≡ turns → place.is_spent ≡ false → F.StandsFor [] [] [] [] → SeatsGoOn F A M (Admits {E = E} link (Ok key)) olds news s s
+  admitted E link key place olds news s u vacant is held waiting is_open left unspent stands start history all =
       let none : account_of key None history ≡ None =
       seated_none (account_of key None history) (subst (λ (p : Option (Place L)). Seated (account_of key None history) p) vacant (all.each key)) in
-      let account = at_key key key (Some (link, [])) (account_of key None history) refl in (
+      let account = at_key key key (Some (begun_with link)) (account_of key None history) refl in (
         came key link ∷ [],
         one_event (came key link) key olds news (Some place) s start history u all (s, (none, refl), refl)
-            (λ k differs. off_key k key (Some (link, [])) (account_of k None history) (λ e. differs (sym e)))
-            (subst (λ (a : KeyAccount L). Seated a (Some place)) (sym account) (is_open, begun link place is held waiting left stands)),
+            (λ k differs. off_key k key (Some (begun_with link)) (account_of k None history) (λ e. differs (sym e)))
+            (subst (λ (a : KeyAccount L). Seated a (Some place)) (sym account) (is_open, begun link place is held waiting left stands, is, unspent)),
         refl,
       )
 
@@ -177,7 +180,7 @@ module _ (F : Framing) {S : Type 0} (A : Answering S) {L : Type 0} (M : LinkMean
     where
       unmarked : (account : KeyAccount L) → Seated account (Some place) → Seated account (Some (record place { is_fresh = false }))
       unmarked None s = absurd s
-      unmarked (Some account) s = (s.0, s.1)
+      unmarked (Some account) s = (s.0, s.1, s.2, s.3)
 
   -- there is no connection under the key that goes on
   pub is_absent : (key : ℕ) (olds news : Slab (Place L)) (s : S) → get olds key ≡ None → ((k : ℕ) → get news k ≡ get olds k) → SeatsGoOn F A M (IsTurnOf key None) olds news s s
@@ -197,14 +200,14 @@ module _ (F : Framing) {S : Type 0} (A : Answering S) {L : Type 0} (M : LinkMean
 
   -- the turn of a key is one of a connection that is there
   abbrev pub Turned : ℕ → List (Event L) → List (Event L) → Type 0
-  Turned key history more = (links_of more ≡ []) × HasAnyTurn key more
+  Turned key history more = ServesInTurn history more × HasAnyTurn key more
 
   turned_by : (key : ℕ) (turn : Option Turn) (olds : Slab (Place L)) (history more : List (Event L)) → ((key : ℕ) → Seated (account_of key None history) (get olds key))
       → IsTrue (is_spent_at (get olds key)) → IsTurnOf key turn history more → Turned key history more
   turned_by key None olds history more each spent (none, account) =
       absurd (unspent (get olds key) (none_seated (get olds key) (subst (λ (a : KeyAccount L). Seated a (get olds key)) account (each key))) spent)
   turned_by key (Some turn) olds history more each spent (fresh, last, e) = (
-    ap links_of e ∙ links_more (by_key key fresh) (turned key last turn ∷ []) ∙ ap (λ (l : List L). l ++ []) (links_told key fresh),
+    turn_serves key (Some turn) history more (fresh, last, e),
     (by_key key fresh, [], last, turn, e),
   )
 
@@ -218,53 +221,54 @@ module _ (F : Framing) {S : Type 0} (A : Answering S) {L : Type 0} (M : LinkMean
   is_closed key olds news s place here shut same =
       go_same (IsTurnOf key None) olds news s same (λ start history all.
       let entry = seated_some (account_of key None history) place (subst (λ (p : Option (Place L)). Seated (account_of key None history) p) here (all.each key)) in
-      absurd (no_open place.seat.process.connection.is_open shut entry.3))
+      absurd (no_open place.seat.process.connection.is_open shut entry.is_open))
 
   -- the connection under a key had its turn
   module _ (key : ℕ) (olds news : Slab (Place L)) (old new : Place L) (before after : S) (here : get olds key ≡ Some old) where
-    ends_so : (first : L) (own : List Said) (ends : S) (turn : Turn) → TurnLeaves F A M turns first own new.seat ends after turn
-        → EndsTurn F A M (Some (first, own)) new.seat.link ends after turn
-    ends_so first own ends Waiting leaves = leaves.0
-    ends_so first own ends Spent leaves = leaves.0
-    ends_so first own ends (Over result) leaves = leaves
+    ends_so : (account : Account L) (ends : S) (turn : Turn) → old.seat.link ≡ account.last → (turn ≡ Waiting → Rose (M.not_ready old.seat.link) (M.not_ready new.seat.link))
+        → TurnLeaves F A M.link turns account.first account.own new.seat ends after turn → EndsTurn F A M (Some account) new.seat.link ends after turn
+    ends_so account ends Waiting last waited leaves = (leaves.0, subst (λ (l : L). Rose (M.not_ready l) (M.not_ready new.seat.link)) last (waited refl))
+    ends_so account ends Spent last waited leaves = leaves.0
+    ends_so account ends (Over result) last waited leaves = leaves
 
-    sits_so : (first : L) (own : List Said) (ends : S) (turn : Turn) → new.seat.process.connection.is_open ≡ is_going_on turn
-        → TurnLeaves F A M turns first own new.seat ends after turn → Seated (after_turn turn (Some (first, own))) (left_by turn new)
-    sits_so first own ends Waiting is_open leaves = (is_open, leaves.1)
-    sits_so first own ends Spent is_open leaves = (is_open, leaves.1)
-    sits_so first own ends (Over result) is_open leaves = tt
+    sits_so : (account : Account L) (ends : S) (turn : Turn) → new.seat.process.connection.is_open ≡ is_going_on turn → new.is_spent ≡ is_spent turn
+        → TurnLeaves F A M.link turns account.first account.own new.seat ends after turn → Seated (after_turn new.seat.link turn (Some account)) (left_by turn new)
+    sits_so account ends Waiting is_open spent leaves = (is_open, leaves.1, refl, spent)
+    sits_so account ends Spent is_open spent leaves = (is_open, leaves.1, refl, spent)
+    sits_so account ends (Over result) is_open spent leaves = tt
 
-    pub served : (turn : Turn) → TakesTurn F A M old.seat new.seat before after turn → new.seat.process.connection.is_open ≡ is_going_on turn
+    pub served : (turn : Turn) → TakesTurn F A M.link old.seat new.seat before after turn → new.seat.process.connection.is_open ≡ is_going_on turn
+        → (turn ≡ Waiting → Rose (M.not_ready old.seat.link) (M.not_ready new.seat.link)) → new.is_spent ≡ is_spent turn
         → Updates olds news key (left_by turn new) → SeatsGoOn F A M (IsTurnOf key (Some turn)) olds news before after
-    served turn takes is_open u start history all =
+    served turn takes is_open waited spent u start history all =
         let entry = seated_some (account_of key None history) old (subst (λ (p : Option (Place L)). Seated (account_of key None history) p) here (all.each key)) in
-        let first = entry.0 in
-        let on = takes turns first entry.1 entry.4 in
+        let was = entry.account in
+        let on = takes turns was.first was.own entry.stands in
         let fresh = on.0 in
-        let own = entry.1 ++ fresh in
+        let now : Account L = record was { own = was.own ++ fresh } in
         let last : List (Event L) = turned key new.seat.link turn ∷ [] in
         let more : List (Event L) = by_key key fresh ++ last in
-        let then_told : account_of key None (history ++ by_key key fresh) ≡ Some (first, own) =
-        account_more key None history (by_key key fresh) ∙ ap (λ (a : KeyAccount L). account_of key a (by_key key fresh)) entry.2 ∙ account_told key first entry.1 fresh in
-        let then_ends : account_of key None (history ++ more) ≡ after_turn turn (Some (first, own)) =
+        let then_told : account_of key None (history ++ by_key key fresh) ≡ Some now =
+        account_more key None history (by_key key fresh) ∙ ap (λ (a : KeyAccount L). account_of key a (by_key key fresh)) entry.is ∙ account_told key was fresh in
+        let then_ends : account_of key None (history ++ more) ≡ after_turn new.seat.link turn (Some now) =
         ap (λ (h : List (Event L)). account_of key None h) (sym (append_assoc history (by_key key fresh) last))
         ∙ account_more key None (history ++ by_key key fresh) last ∙ ap (λ (a : KeyAccount L). account_of key a last) then_told
-        ∙ at_key key key (after_turn turn (Some (first, own))) (Some (first, own)) refl in
+        ∙ at_key key key (after_turn new.seat.link turn (Some now)) (Some now) refl in
         let others : (k : ℕ) → k ≢ key → account_of k None (history ++ more) ≡ account_of k None history =
         λ k differs. account_more k None history more ∙ account_more k (account_of k None history) (by_key key fresh) last
         ∙ ap (λ (a : KeyAccount L). account_of k a last) (account_other k key (account_of k None history) fresh (λ e. differs (sym e)))
-        ∙ off_key k key (after_turn turn (account_of k None history)) (account_of k None history) (λ e. differs (sym e)) in
-        let ending = subst (λ (a : KeyAccount L). EndsTurn F A M a new.seat.link on.1 after turn) (sym then_told) (ends_so first own on.1 turn on.3) in (
+        ∙ off_key k key (after_turn new.seat.link turn (account_of k None history)) (account_of k None history) (λ e. differs (sym e)) in
+        let ending = subst (λ (a : KeyAccount L). EndsTurn F A M a new.seat.link on.1 after turn) (sym then_told) (ends_so now on.1 turn entry.last waited on.3) in (
           more,
           record {
             run = runs_both F A M [] history more start before after all.run
-                (runs_both F A M history (by_key key fresh) last before on.1 after (runs_told F A M key first entry.1 fresh history before on.1 entry.2 on.2) (after, ending, refl));
+                (runs_both F A M history (by_key key fresh) last before on.1 after (runs_told F A M key was fresh history before on.1 entry.is on.2) (after, ending, refl));
             each = λ k.
                 elim (cases_eq k key) [
                   | inl same ↦
                       subst (λ (n : ℕ). Seated (account_of n None (history ++ more)) (get news n)) (sym same)
-                      (reseated (after_turn turn (Some (first, own))) (account_of key None (history ++ more)) (left_by turn new) (get news key)
-                      (sym then_ends) (sym u.changed) (sits_so first own on.1 turn is_open on.3))
+                      (reseated (after_turn new.seat.link turn (Some now)) (account_of key None (history ++ more)) (left_by turn new) (get news key)
+                      (sym then_ends) (sym u.changed) (sits_so now on.1 turn is_open spent on.3))
                   | inr differs ↦
                       reseated (account_of k None history) (account_of k None (history ++ more)) (get olds k) (get news k)
                       (sym (others k differs)) (sym (u.others k differs)) (all.each k)

@@ -1,5 +1,5 @@
 -- What happens to the connections of one thread, in order, and what that says of the connection under each key.
-use Rattle.std.specs.Prelude.{◌≡◌, ℕ, ◌==◌, List, [], ◌∷◌, ◌++◌, map, Option, Some, None, Bool, if◌then◌else◌}
+use Rattle.std.specs.Prelude.{◌≡◌, ℕ, ◌==◌, List, [], ◌∷◌, ◌++◌, map, Option, Some, None, Bool, true, false, if◌then◌else◌}
 use Rattle.modbus_link.specs.Memory.{next_count}
 use Rattle.modbus_turn.specs.declared.turn.Turn.{Turn}
 use Rattle.modbus_turn.specs.declared.turn.Turn.TheVariants.{Waiting, Spent, Over}
@@ -33,26 +33,43 @@ pub record Place (L : Type 0) : Type 0 where
   -- whether the reads of its last turn were used up
   pub is_spent : Bool
 
--- The account of a key: the link with which its connection came, and all that it was told since; none where there is no connection.
+-- The account of a connection: the link with which it came, all that it was told since, its link after its last turn, and whether the reads
+-- of that were used up.
+pub record Account (L : Type 0) : Type 0 where
+  pub first : L
+  pub own : List Said
+  pub last : L
+  pub is_spent : Bool
+
+-- one that came with this link
+abbrev pub begun_with : {L : Type 0} → L → Account L
+begun_with link = record { first = link; own = []; last = link; is_spent = false }
+
+-- of a key: none where there is no connection
 abbrev pub KeyAccount : Type 0 → Type 0
-KeyAccount L = Option (L × List Said)
+KeyAccount L = Option (Account L)
 
 -- it was told this too
 abbrev pub told_more : {L : Type 0} → Said → KeyAccount L → KeyAccount L
 told_more x None = None
-told_more x (Some account) = Some (account.0, account.1 ++ x ∷ [])
+told_more x (Some account) = Some (record account { own = account.own ++ x ∷ [] })
+
+-- its turn left this link
+abbrev pub left_with : {L : Type 0} → L → Bool → KeyAccount L → KeyAccount L
+left_with link spent None = None
+left_with link spent (Some account) = Some (record account { last = link; is_spent = spent })
 
 -- a connection that is over has no account any more
-abbrev pub after_turn : {L : Type 0} → Turn → KeyAccount L → KeyAccount L
-after_turn Waiting account = account
-after_turn Spent account = account
-after_turn (Over result) account = None
+abbrev pub after_turn : {L : Type 0} → L → Turn → KeyAccount L → KeyAccount L
+after_turn link Waiting account = left_with link false account
+after_turn link Spent account = left_with link true account
+after_turn link (Over result) account = None
 
 abbrev pub account_after : {L : Type 0} → ℕ → KeyAccount L → Event L → KeyAccount L
-account_after key account (came j link) = if j == key then Some (link, []) else account
+account_after key account (came j link) = if j == key then Some (begun_with link) else account
 account_after key account (refused cause link) = account
 account_after key account (told j x) = if j == key then told_more x account else account
-account_after key account (turned j link turn) = if j == key then after_turn turn account else account
+account_after key account (turned j link turn) = if j == key then after_turn link turn account else account
 account_after key account (dropped j) = if j == key then None else account
 
 -- the account of a key after these events

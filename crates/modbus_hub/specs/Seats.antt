@@ -1,7 +1,7 @@
 -- What connections that take turns at one service stand for.
-use Rattle.std.specs.Prelude.{◌≡◌, ℕ, ◌-◌, ◌^◌, ◌≤◌, List, [], ◌∷◌, ◌++◌, length, Option, Some, None, IsSome, Result, Ok, Err, Bool, false, if◌then◌else◌, IsTrue}
+use Rattle.std.specs.Prelude.{◌≡◌, ◌⊎◌, ℕ, ◌+◌, ◌-◌, ◌^◌, ◌≤◌, List, [], ◌∷◌, ◌++◌, length, Option, Some, None, IsSome, Result, Ok, Err, Bool, false, if◌then◌else◌, IsTrue}
 use Rattle.modbus_link.specs.Line.{LinkMeaning}
-use Rattle.modbus_link.specs.Outside.{cuts_made}
+use Rattle.modbus_link.specs.Outside.{cuts_made, Rose}
 use Rattle.modbus_server.specs.Framing.{Framing}
 use Rattle.modbus_service.specs.Answering.{Answering}
 use Rattle.modbus_service.specs.Exchange.{GivesOutcome}
@@ -9,7 +9,7 @@ use Rattle.modbus_turn.specs.declared.turn.Turn.{Turn}
 use Rattle.modbus_turn.specs.declared.turn.Turn.TheVariants.{Waiting, Spent, Over}
 use Rattle.modbus_turn.specs.InTurn.{Said}
 use Rattle.modbus_turn.specs.Turn.{StandsAlone, RanAlone}
-use Rattle.slab.specs.Slab.{Slab, get}
+use Rattle.slab.specs.Slab.{Slab, get, slab_len}
 use Rattle.modbus_hub.specs.Events.{Event, came, refused, told, turned, dropped, no_memory, Place, KeyAccount, account_of, by_key, HasAnyTurn, links_of}
 
 -- the connections of one thread
@@ -19,19 +19,41 @@ pub record SeatsState (L : Type 0) : Type 0 where
   pub has_spent : Bool
   -- how many reads of a turn may give bytes
   pub reads : ℕ
+  -- how many connections there may be at a time
+  pub most : ℕ
+
+-- no more connections than there were, under the same limits
+abbrev pub NoMore : {L : Type 0} → SeatsState L → SeatsState L → Type 0
+NoMore old new = (new.reads ≡ old.reads) × (new.most ≡ old.most) × (slab_len new.seats ≤ slab_len old.seats)
+
+-- one more at most
+abbrev pub OneMore : {L : Type 0} → SeatsState L → SeatsState L → Type 0
+OneMore old new = (new.reads ≡ old.reads) × (new.most ≡ old.most) × (slab_len new.seats ≤ slab_len old.seats + 1)
+
+-- no more than there may be
+abbrev pub KeepsLimit : {L : Type 0} → SeatsState L → SeatsState L → Type 0
+KeepsLimit old new = (new.reads ≡ old.reads) × (new.most ≡ old.most) × (slab_len old.seats ≤ old.most → slab_len new.seats ≤ new.most)
 
 -- how many reads of a connection may give bytes in all
 abbrev pub turns : ℕ
 turns = 2 ^ 64 - 1
 
-module _ (F : Framing) {S : Type 0} (A : Answering S) {L : Type 0} (M : LinkMeaning L) where
+-- what a contract knows of a link that is polled: its ends, and how often it was not ready
+pub record PolledMeaning (L : Type 0) : Type 1 where
+  pub link : LinkMeaning L
+  pub not_ready : L → ℕ
+
+abbrev pub polled_by : {L : Type 0} → LinkMeaning L → (L → ℕ) → PolledMeaning L
+polled_by link not_ready = record { link = link; not_ready = not_ready }
+
+module _ (F : Framing) {S : Type 0} (A : Answering S) {L : Type 0} (M : PolledMeaning L) where
   -- Where the connection with this account had a turn that ended so, the service goes from one state to another. It stays, but where the
-  -- connection is over for want of memory, which may leave the service in another state.
+  -- connection is over for want of memory, which may leave the service in another state. One that waits asked its link, which was not ready.
   abbrev pub EndsTurn : KeyAccount L → L → S → S → Turn → Type 0
-  EndsTurn account last old new Waiting = new ≡ old
-  EndsTurn account last old new Spent = new ≡ old
-  EndsTurn None last old new (Over result) = ⊥
-  EndsTurn (Some account) last old new (Over result) = RanAlone F A M turns account.0 account.1 last old new result
+  EndsTurn None last old new turn = ⊥
+  EndsTurn (Some account) last old new Waiting = (new ≡ old) × Rose (M.not_ready account.last) (M.not_ready last)
+  EndsTurn (Some account) last old new Spent = new ≡ old
+  EndsTurn (Some account) last old new (Over result) = RanAlone F A M.link turns account.first account.own last old new result
 
   -- what an event after these does to the service
   abbrev pub Happens : List (Event L) → S → Event L → S → Type 0
@@ -51,7 +73,8 @@ module _ (F : Framing) {S : Type 0} (A : Answering S) {L : Type 0} (M : LinkMean
   IsSeatedAs None None = Unit {0}
   IsSeatedAs None (Some place) = ⊥
   IsSeatedAs (Some account) None = ⊥
-  IsSeatedAs (Some account) (Some place) = IsTrue place.seat.process.connection.is_open × StandsAlone F A M turns account.0 account.1 place.seat
+  IsSeatedAs (Some account) (Some place) = IsTrue place.seat.process.connection.is_open × StandsAlone F A M.link turns account.first account.own place.seat
+      × (place.seat.link ≡ account.last) × (place.is_spent ≡ account.is_spent)
 
   -- One run of the service over all that happened brought it here, and each connection stands for its account.
   pub record AreSeated (start : S) (history : List (Event L)) (seats : Slab (Place L)) (service : S) : Type 0 where
@@ -78,13 +101,27 @@ module _ {L : Type 0} where
   is_spent_at None = false
   is_spent_at (Some place) = place.is_spent
 
-  -- no link came, and the connection under a key had another turn, where the reads of its last turn were used up
-  abbrev pub TurnsIfSpent : ℕ → Option (Place L) → List (Event L) → List (Event L) → Type 0
-  TurnsIfSpent key slot history more = (links_of more ≡ []) × (IsTrue (is_spent_at slot) → HasAnyTurn key more)
+  -- each connection is still there, or had a turn
+  abbrev pub StaysOrTurns : List (Event L) → List (Event L) → Type 0
+  StaysOrTurns history more = (key : ℕ) → IsSome (account_of key None history) → HasAnyTurn key more ⊎ IsSome (account_of key None (history ++ more))
 
-  -- no link came, and each connection of which the reads were used up had another turn
+  -- no connection was let go
+  abbrev pub DropsNone : List (Event L) → Type 0
+  DropsNone [] = Unit {0}
+  DropsNone (dropped key ∷ more) = ⊥
+  DropsNone (e ∷ more) = DropsNone more
+
+  -- no link came, and no connection went but by its turn
+  abbrev pub ServesInTurn : List (Event L) → List (Event L) → Type 0
+  ServesInTurn history more = (links_of more ≡ []) × StaysOrTurns history more × DropsNone more
+
+  -- the same, and the connection under a key had another turn, where the reads of its last turn were used up
+  abbrev pub TurnsIfSpent : ℕ → Option (Place L) → List (Event L) → List (Event L) → Type 0
+  TurnsIfSpent key slot history more = ServesInTurn history more × (IsTrue (is_spent_at slot) → HasAnyTurn key more)
+
+  -- the same, and each connection of which the reads were used up had another turn
   abbrev pub ServesSpent : Slab (Place L) → List (Event L) → List (Event L) → Type 0
-  ServesSpent old history more = (links_of more ≡ []) × ((key : ℕ) → IsTrue (is_spent_at (get old key)) → HasAnyTurn key more)
+  ServesSpent old history more = ServesInTurn history more × ((key : ℕ) → IsTrue (is_spent_at (get old key)) → HasAnyTurn key more)
 
   -- a connection stays where it had a turn, or came, since this was last asked
   abbrev pub kept : Option (Place L) → Option (Place L)

@@ -1,11 +1,13 @@
 -- What a server of many connections on one thread does, round by round.
-use Rattle.std.specs.Prelude.{◌≡◌, ℕ, ◌≤◌, List, [], ◌∷◌, Result, Ok, Err, IsTrue}
+use Rattle.std.specs.Prelude.{◌≡◌, ◌⊎◌, ℕ, ◌≤◌, List, [], ◌∷◌, None, IsSome, Result, Ok, Err, IsTrue}
 use Rattle.modbus_link.specs.declared.outside.Failed.{Failed}
 use Rattle.modbus_link.specs.declared.polled.Polled.{Polled}
 use Rattle.slab.specs.Slab.{get}
+use Rattle.modbus_ready.specs.declared.readiness.Ready.{Ready}
+use Rattle.modbus_ready.specs.declared.readiness.Ready.TheVariants.{Link}
 use Rattle.modbus_hub.specs.Accepts.{GivesLinks}
-use Rattle.modbus_hub.specs.Events.{Event, no_watch, no_memory, HasAnyTurn, links_of, counted_over}
-use Rattle.modbus_hub.specs.Seats.{SeatsState, is_spent_at}
+use Rattle.modbus_hub.specs.Events.{Event, no_watch, no_memory, account_of, HasAnyTurn, links_of, counted_over}
+use Rattle.modbus_hub.specs.Seats.{SeatsState, DropsNone, ServesInTurn, is_spent_at}
 
 -- a server over such an acceptor and source of readiness, with such links
 pub record ServerState (A S L : Type 0) : Type 0 where
@@ -15,17 +17,26 @@ pub record ServerState (A S L : Type 0) : Type 0 where
   -- how many links were dropped at once, since memory was refused for their connections
   pub unseated : ℕ
 
--- no link came
-abbrev pub ServesInTurn : {L : Type 0} → List (Event L) → List (Event L) → Type 0
-ServesInTurn history more = links_of more ≡ []
+-- the link under this key was found ready
+abbrev pub IsFound : ℕ → List Ready → Type 0
+IsFound key [] = ⊥
+IsFound key (ready ∷ found) = (ready ≡ Link key) ⊎ IsFound key found
+
+-- each connection whose link was found ready had a turn
+abbrev pub TurnsFound : {L : Type 0} → List Ready → List (Event L) → List (Event L) → Type 0
+TurnsFound found history more = (key : ℕ) → IsFound key found → IsSome (account_of key None history) → HasAnyTurn key more
+
+-- the same, no link came, and no connection went but by its turn
+abbrev pub ServesFound : {L : Type 0} → List Ready → List (Event L) → List (Event L) → Type 0
+ServesFound found history more = ServesInTurn history more × TurnsFound found history more
 
 -- each connection whose reads were used up had another turn
 abbrev pub TurnsLeft : {L : Type 0} → SeatsState L → List (Event L) → Type 0
 TurnsLeft seats more = IsTrue seats.has_spent → (key : ℕ) → IsTrue (is_spent_at (get seats.seats key)) → HasAnyTurn key more
 
--- the same, and no link came
+-- the same, no link came, and no connection went but by its turn
 abbrev pub ServesLeft : {L : Type 0} → SeatsState L → List (Event L) → List (Event L) → Type 0
-ServesLeft seats history more = (links_of more ≡ []) × TurnsLeft seats more
+ServesLeft seats history more = ServesInTurn history more × TurnsLeft seats more
 
 -- Each link that was dropped at once is counted, by its cause: by the source of readiness, with its other faults, where it could not be
 -- watched; and by the server, with nothing else, where memory was refused for its connection.
@@ -37,6 +48,7 @@ pub record CountsDrops {A S L : Type 0} (faults : S → ℕ) (old new : ServerSt
 pub record Brings {A S L : Type 0} (faults : S → ℕ) (link : L) (old new : ServerState A S L) (history more : List (Event L)) : Type 0 where
   pub links : links_of more ≡ link ∷ []
   pub counts : CountsDrops faults old new more
+  pub none : DropsNone more
 
 module _ {A S L : Type 0} (accepts : A → Result (Polled L) Failed → A → Type 0) (faults : S → ℕ) where
   -- Of what happened, the links that came are just those that the acceptor gave, in order, and each is a connection then, or its cause is
@@ -45,8 +57,12 @@ module _ {A S L : Type 0} (accepts : A → Result (Polled L) Failed → A → Ty
     pub gives : GivesLinks accepts old.acceptor (links_of more) new.acceptor
     pub counts : CountsDrops faults old new more
 
-  -- One round: the links that came are just those that the acceptor gave, and each connection whose reads were used up before had another
-  -- turn. A round that fails is none.
-  abbrev pub TakesRound : ServerState A S L → ServerState A S L → Result (Unit {0}) Failed → List (Event L) → List (Event L) → Type 0
-  TakesRound old new (Ok done) history more = Comes old new history more × TurnsLeft old.seats more
-  TakesRound old new (Err failed) history more = (more ≡ []) × (new.acceptor ≡ old.acceptor) × (new.unseated ≡ old.unseated)
+  -- the same, and no connection was let go
+  abbrev pub Accepts : ServerState A S L → ServerState A S L → List (Event L) → List (Event L) → Type 0
+  Accepts old new history more = Comes old new history more × DropsNone more
+
+  -- One round: the links that came are just those that the acceptor gave, each connection whose reads were used up before had another
+  -- turn, and so had each whose link the source of readiness found ready. None was let go. A round that fails is none.
+  abbrev pub TakesRound : (S → List Ready) → ServerState A S L → ServerState A S L → Result (Unit {0}) Failed → List (Event L) → List (Event L) → Type 0
+  TakesRound found old new (Ok done) history more = Accepts old new history more × TurnsLeft old.seats more × TurnsFound (found new.readiness) history more
+  TakesRound found old new (Err failed) history more = (more ≡ []) × (new.acceptor ≡ old.acceptor) × (new.unseated ≡ old.unseated)

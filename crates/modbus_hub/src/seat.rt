@@ -47,6 +47,7 @@ impl<I: Framing, L: PolledLink + Drop> Seat<I, L> {
         ensures open { IfOk result (λ place. IsTrue place.seat.process.connection.is_open) }
         ensures left { IfOk result (λ place. place.seat.process.left ≡ turns) }
         ensures fresh { IfOk result (λ place. IsTrue place.is_fresh) }
+        ensures spent { IfOk result (λ place. place.is_spent ≡ false) }
         ensures stands { I.framing.StandsFor [] [] [] [] }
     {
         Ok(Seat {

@@ -1,9 +1,9 @@
 //! The connections of one thread.
-ghost use Rattle.std.specs.Prelude.{◌≡◌, ◌≢◌, ℕ, [], Some, IsTrue};
+ghost use Rattle.std.specs.Prelude.{◌≡◌, ◌≢◌, ◌↔◌, ℕ, ◌==◌, ◌≤◌, [], Some, IsTrue, IfOk};
 ghost use Rattle.modbus_link.specs.Line.{meaning_of};
 ghost use Rattle.modbus_turn.specs.declared.turn.Turn.TheVariants.{Spent};
-ghost use Rattle.slab.specs.Slab.{Updates, get};
-ghost use Rattle.modbus_hub.specs.Seats.{SeatsGoOn, IsTurnOf, Admits, TurnsIfSpent, ServesSpent, IsDrop, TakesFewAt, is_spent_at, kept};
+ghost use Rattle.slab.specs.Slab.{Updates, get, slab_len};
+ghost use Rattle.modbus_hub.specs.Seats.{SeatsGoOn, polled_by, IsTurnOf, Admits, TurnsIfSpent, ServesSpent, IsDrop, TakesFewAt, NoMore, OneMore, is_spent_at, kept};
 
 use crate::seat::Seat;
 use modbus_link::PolledLink;
@@ -31,13 +31,13 @@ pub struct Seats<I: Framing, L> {
     alloc: Global,
 }
 
-/// A contract sees the connections, whether one may be left whose reads were used up, and how many reads a turn has.
+/// A contract sees the connections, whether one may be left whose reads were used up, and the limits.
 impl<I: Framing, L> Model for Seats<I, L> {
     ghost use Rattle.modbus_hub.specs.Seats.{SeatsState};
 
     ghost Value = { SeatsState L };
 
-    ghost view = { λ it. record { seats = it.seats; has_spent = it.has_spent; reads = it.limits.reads } };
+    ghost view = { λ it. record { seats = it.seats; has_spent = it.has_spent; reads = it.limits.reads; most = it.limits.connections } };
 }
 
 impl<I: Framing, L: PolledLink + Drop> Seats<I, L> {
@@ -45,6 +45,7 @@ impl<I: Framing, L: PolledLink + Drop> Seats<I, L> {
     pub fn new(alloc: Global, limits: Limits) -> Seats<I, L>
         ensures empty { result.seats.slots ≡ [] }
         ensures reads { result.reads ≡ limits.reads }
+        ensures most { result.most ≡ limits.connections }
     {
         Seats {
             seats: Slab::new(alloc),
@@ -55,17 +56,23 @@ impl<I: Framing, L: PolledLink + Drop> Seats<I, L> {
     }
 
     /// How many connections there are.
-    pub fn len(&self) -> usize {
+    pub fn len(&self) -> usize
+        ensures { result ≡ slab_len self.now.seats }
+    {
         self.seats.len()
     }
 
     /// Whether there is none.
-    pub fn is_empty(&self) -> bool {
+    pub fn is_empty(&self) -> bool
+        ensures { result ≡ (slab_len self.now.seats == 0) }
+    {
         self.seats.is_empty()
     }
 
     /// Whether there are as many as there may be.
-    pub fn is_full(&self) -> bool {
+    pub fn is_full(&self) -> bool
+        ensures { IsTrue result ↔ (self.now.most ≤ slab_len self.now.seats) }
+    {
         self.seats.len() >= self.limits.connections
     }
 
@@ -77,7 +84,9 @@ impl<I: Framing, L: PolledLink + Drop> Seats<I, L> {
     }
 
     /// The key of the next connection.
-    pub fn next_key(&self) -> usize {
+    pub fn next_key(&self) -> usize
+        ensures { result ≡ self.now.seats.vacant_key }
+    {
         self.seats.vacant_key()
     }
 
@@ -87,8 +96,10 @@ impl<I: Framing, L: PolledLink + Drop> Seats<I, L> {
     /// `AllocError` where memory is refused; the link is dropped.
     pub fn admit<V: Answerer>(&mut self, link: L, service: &InTurn<V>) -> Result<usize, AllocError>
         ensures spent { self.new.has_spent ≡ self.old.has_spent }
-        ensures reads { self.new.reads ≡ self.old.reads }
-        ensures goes_on { SeatsGoOn I.framing V.answering (meaning_of L.input L.output L.line)
+        ensures one { OneMore self.old self.new }
+        ensures key { IfOk result (λ key. key ≡ self.old.seats.vacant_key) }
+        ensures goes_on { SeatsGoOn I.framing V.answering
+            (polled_by (meaning_of L.input L.output L.line) L.not_ready)
             (Admits link result) self.old.seats self.new.seats service.now.service
             service.now.service }
     {
@@ -108,7 +119,8 @@ impl<I: Framing, L: PolledLink + Drop> Seats<I, L> {
     /// `take_turn` gives it.
     pub fn serve<V: Answerer>(&mut self, key: usize, service: &mut InTurn<V>) -> Option<Turn>
         ensures own { service.new.ahead ≡ [] }
-        ensures goes_on { SeatsGoOn I.framing V.answering (meaning_of L.input L.output L.line)
+        ensures goes_on { SeatsGoOn I.framing V.answering
+            (polled_by (meaning_of L.input L.output L.line) L.not_ready)
             (IsTurnOf key result) self.old.seats self.new.seats service.old.service
             service.new.service }
         ensures others { (other : _) → other ≢ key
@@ -117,7 +129,7 @@ impl<I: Framing, L: PolledLink + Drop> Seats<I, L> {
             (get self.old.seats key) (get self.new.seats key) }
         ensures left { result ≡ Some Spent → IsTrue self.new.has_spent }
         ensures stays { IsTrue self.old.has_spent → IsTrue self.new.has_spent }
-        ensures reads { self.new.reads ≡ self.old.reads }
+        ensures no_more { NoMore self.old self.new }
     {
         let Some(seat) = self.seats.get_mut(key) else {
             let _same = service.service();
@@ -153,12 +165,13 @@ impl<I: Framing, L: PolledLink + Drop> Seats<I, L> {
     // Gives the connection under a key another turn, where the reads of its last turn were used up.
     fn serve_if_spent<V: Answerer>(&mut self, key: usize, service: &mut InTurn<V>)
         ensures own { service.new.ahead ≡ [] }
-        ensures goes_on { SeatsGoOn I.framing V.answering (meaning_of L.input L.output L.line)
+        ensures goes_on { SeatsGoOn I.framing V.answering
+            (polled_by (meaning_of L.input L.output L.line) L.not_ready)
             (TurnsIfSpent key (get self.old.seats key)) self.old.seats self.new.seats
             service.old.service service.new.service }
         ensures others { (other : ℕ) → other ≢ key
             → get self.new.seats other ≡ get self.old.seats other }
-        ensures reads { self.new.reads ≡ self.old.reads }
+        ensures no_more { NoMore self.old self.new }
     {
         if self.is_spent(key) {
             let _ = self.serve(key, service);
@@ -170,10 +183,11 @@ impl<I: Framing, L: PolledLink + Drop> Seats<I, L> {
     /// Gives each connection another turn of which the reads of its last turn were used up.
     pub fn serve_spent<V: Answerer>(&mut self, service: &mut InTurn<V>)
         ensures own { service.new.ahead ≡ [] }
-        ensures goes_on { SeatsGoOn I.framing V.answering (meaning_of L.input L.output L.line)
+        ensures goes_on { SeatsGoOn I.framing V.answering
+            (polled_by (meaning_of L.input L.output L.line) L.not_ready)
             (ServesSpent self.old.seats) self.old.seats self.new.seats service.old.service
             service.new.service }
-        ensures reads { self.new.reads ≡ self.old.reads }
+        ensures no_more { NoMore self.old self.new }
     {
         let _before = service.service();
         self.has_spent = false;
@@ -184,12 +198,13 @@ impl<I: Framing, L: PolledLink + Drop> Seats<I, L> {
 
     // Lets the connection under a key go, unless it was served since this was last asked, or is new.
     fn drop_if_idle<V: Answerer>(&mut self, key: usize, service: &InTurn<V>)
-        ensures goes_on { SeatsGoOn I.framing V.answering (meaning_of L.input L.output L.line)
+        ensures goes_on { SeatsGoOn I.framing V.answering
+            (polled_by (meaning_of L.input L.output L.line) L.not_ready)
             IsDrop self.old.seats self.new.seats service.now.service service.now.service }
         ensures lets_go { Updates self.old.seats self.new.seats key
             (kept (get self.old.seats key)) }
         ensures spent { self.new.has_spent ≡ self.old.has_spent }
-        ensures reads { self.new.reads ≡ self.old.reads }
+        ensures no_more { NoMore self.old self.new }
     {
         let _service = service;
         let Some(idle) = self.seats.get_mut(key) else {
@@ -203,11 +218,12 @@ impl<I: Framing, L: PolledLink + Drop> Seats<I, L> {
 
     /// Lets each connection go that was not served since the last call of this, and came before it. The others stay as they are.
     pub fn drop_idle<V: Answerer>(&mut self, service: &InTurn<V>)
-        ensures goes_on { SeatsGoOn I.framing V.answering (meaning_of L.input L.output L.line)
+        ensures goes_on { SeatsGoOn I.framing V.answering
+            (polled_by (meaning_of L.input L.output L.line) L.not_ready)
             IsDrop self.old.seats self.new.seats service.now.service service.now.service }
         ensures lets_go { (key : ℕ) → get self.new.seats key ≡ kept (get self.old.seats key) }
         ensures spent { self.new.has_spent ≡ self.old.has_spent }
-        ensures reads { self.new.reads ≡ self.old.reads }
+        ensures no_more { NoMore self.old self.new }
     {
         let _service = service;
         'keys: for key in 0..self.seats.capacity() {

@@ -1,10 +1,10 @@
 //! Accepting connections and serving those that are ready.
-ghost use Rattle.std.specs.Prelude.{◌≡◌, ◌≤◌, ℕ, [], Ok, OnOk, OnErr};
+ghost use Rattle.std.specs.Prelude.{◌≡◌, ◌==◌, ◌≤◌, ℕ, ◌∷◌, [], Ok, OnOk, OnErr};
 ghost use Rattle.modbus_link.specs.Line.{meaning_of};
 ghost use Rattle.modbus_link.specs.Outside.{Rose};
-ghost use Rattle.slab.specs.Slab.{get};
-ghost use Rattle.modbus_hub.specs.Seats.{SeatsGoOn, IsDrop, kept};
-ghost use Rattle.modbus_hub.specs.Turns.{Brings, Comes, ServesInTurn, ServesLeft, TakesRound};
+ghost use Rattle.slab.specs.Slab.{get, slab_len};
+ghost use Rattle.modbus_hub.specs.Seats.{SeatsGoOn, polled_by, IsDrop, NoMore, OneMore, KeepsLimit, kept};
+ghost use Rattle.modbus_hub.specs.Turns.{Accepts, Brings, Comes, ServesFound, ServesLeft, TakesRound};
 
 use crate::seats::{Limits, Seats};
 use modbus_frame::Terminated;
@@ -61,6 +61,7 @@ where
         ensures readiness { result.readiness ≡ readiness }
         ensures empty { result.seats.seats.slots ≡ [] }
         ensures reads { result.seats.reads ≡ limits.reads }
+        ensures most { result.seats.most ≡ limits.connections }
         ensures unseated { result.unseated ≡ 0 }
     {
         EventServer {
@@ -73,12 +74,16 @@ where
     }
 
     /// How many connections there are.
-    pub fn len(&self) -> usize {
+    pub fn len(&self) -> usize
+        ensures { result ≡ slab_len self.now.seats.seats }
+    {
         self.seats.len()
     }
 
     /// Whether there is none.
-    pub fn is_empty(&self) -> bool {
+    pub fn is_empty(&self) -> bool
+        ensures { result ≡ (slab_len self.now.seats.seats == 0) }
+    {
         self.seats.is_empty()
     }
 
@@ -92,9 +97,11 @@ where
     // Takes a link under the next key. One that can't be watched, or for which memory is refused, is dropped and counted.
     fn admit<V: Answerer>(&mut self, mut link: A::Link, service: &InTurn<V>)
         ensures acceptor { self.new.acceptor ≡ self.old.acceptor }
+        ensures found { S.found self.new.readiness ≡ S.found self.old.readiness }
         ensures later { S.faults self.old.readiness ≤ S.faults self.new.readiness }
+        ensures one { OneMore self.old.seats self.new.seats }
         ensures goes_on { SeatsGoOn I.framing V.answering
-            (meaning_of A.Link.input A.Link.output A.Link.line)
+            (polled_by (meaning_of A.Link.input A.Link.output A.Link.line) A.Link.not_ready)
             (Brings S.faults link self.old self.new) self.old.seats.seats self.new.seats.seats
             service.now.service service.now.service }
     {
@@ -112,10 +119,12 @@ where
 
     // Accepts the next peer that waits, where there is room; whether another may wait then. After a fault the others wait for the next try.
     fn accept_one<V: Answerer>(&mut self, service: &InTurn<V>) -> bool
+        ensures found { S.found self.new.readiness ≡ S.found self.old.readiness }
         ensures later { S.faults self.old.readiness ≤ S.faults self.new.readiness }
+        ensures limit { KeepsLimit self.old.seats self.new.seats }
         ensures goes_on { SeatsGoOn I.framing V.answering
-            (meaning_of A.Link.input A.Link.output A.Link.line)
-            (Comes A.accepts S.faults self.old self.new) self.old.seats.seats self.new.seats.seats
+            (polled_by (meaning_of A.Link.input A.Link.output A.Link.line) A.Link.not_ready)
+            (Accepts A.accepts S.faults self.old self.new) self.old.seats.seats self.new.seats.seats
             service.now.service service.now.service }
     {
         let _service = service;
@@ -137,10 +146,12 @@ where
 
     // Accepts all peers that wait, up to the limit.
     fn accept_all<V: Answerer>(&mut self, service: &InTurn<V>)
+        ensures found { S.found self.new.readiness ≡ S.found self.old.readiness }
         ensures later { S.faults self.old.readiness ≤ S.faults self.new.readiness }
+        ensures limit { KeepsLimit self.old.seats self.new.seats }
         ensures goes_on { SeatsGoOn I.framing V.answering
-            (meaning_of A.Link.input A.Link.output A.Link.line)
-            (Comes A.accepts S.faults self.old self.new) self.old.seats.seats self.new.seats.seats
+            (polled_by (meaning_of A.Link.input A.Link.output A.Link.line) A.Link.not_ready)
+            (Accepts A.accepts S.faults self.old self.new) self.old.seats.seats self.new.seats.seats
             service.now.service service.now.service }
     {
         let _service = service;
@@ -152,24 +163,23 @@ where
     }
 
     // Does what is to be done where this may be ready.
-    fn take<V: Answerer>(&mut self, ready: Option<Ready>, service: &mut InTurn<V>)
+    fn take<V: Answerer>(&mut self, ready: Ready, service: &mut InTurn<V>)
         ensures own { service.new.ahead ≡ [] }
         ensures acceptor { self.new.acceptor ≡ self.old.acceptor }
         ensures readiness { self.new.readiness ≡ self.old.readiness }
         ensures unseated { self.new.unseated ≡ self.old.unseated }
+        ensures no_more { NoMore self.old.seats self.new.seats }
         ensures goes_on { SeatsGoOn I.framing V.answering
-            (meaning_of A.Link.input A.Link.output A.Link.line) ServesInTurn self.old.seats.seats
-            self.new.seats.seats service.old.service service.new.service }
+            (polled_by (meaning_of A.Link.input A.Link.output A.Link.line) A.Link.not_ready)
+            (ServesFound (ready ∷ []))
+            self.old.seats.seats self.new.seats.seats service.old.service service.new.service }
     {
         match ready {
-            Some(Ready::Link(key)) => {
+            Ready::Link(key) => {
                 let _ = self.seats.serve(key, service);
             }
-            Some(Ready::Peer) => {
+            Ready::Peer => {
                 self.is_asked = true;
-                let _same = service.service();
-            }
-            None => {
                 let _same = service.service();
             }
         }
@@ -181,13 +191,15 @@ where
         ensures acceptor { self.new.acceptor ≡ self.old.acceptor }
         ensures readiness { self.new.readiness ≡ self.old.readiness }
         ensures unseated { self.new.unseated ≡ self.old.unseated }
+        ensures no_more { NoMore self.old.seats self.new.seats }
         ensures goes_on { SeatsGoOn I.framing V.answering
-            (meaning_of A.Link.input A.Link.output A.Link.line) ServesInTurn self.old.seats.seats
-            self.new.seats.seats service.old.service service.new.service }
+            (polled_by (meaning_of A.Link.input A.Link.output A.Link.line) A.Link.not_ready)
+            (ServesFound (S.found self.old.readiness)) self.old.seats.seats self.new.seats.seats
+            service.old.service service.new.service }
     {
         let _before = service.service();
         'ready: for index in 0..self.readiness.ready().len() {
-            let ready = self.readiness.ready().get(index).copied();
+            let ready = self.readiness.ready()[index];
             self.take(ready, service);
         }
     }
@@ -198,8 +210,10 @@ where
         ensures acceptor { self.new.acceptor ≡ self.old.acceptor }
         ensures readiness { self.new.readiness ≡ self.old.readiness }
         ensures unseated { self.new.unseated ≡ self.old.unseated }
+        ensures no_more { NoMore self.old.seats self.new.seats }
         ensures goes_on { SeatsGoOn I.framing V.answering
-            (meaning_of A.Link.input A.Link.output A.Link.line) (ServesLeft self.old.seats)
+            (polled_by (meaning_of A.Link.input A.Link.output A.Link.line) A.Link.not_ready)
+            (ServesLeft self.old.seats)
             self.old.seats.seats self.new.seats.seats service.old.service service.new.service }
     {
         if self.seats.has_spent() {
@@ -211,10 +225,12 @@ where
 
     // Accepts the peers that wait, where one may.
     fn accept_asked<V: Answerer>(&mut self, service: &InTurn<V>)
+        ensures found { S.found self.new.readiness ≡ S.found self.old.readiness }
         ensures later { S.faults self.old.readiness ≤ S.faults self.new.readiness }
+        ensures limit { KeepsLimit self.old.seats self.new.seats }
         ensures goes_on { SeatsGoOn I.framing V.answering
-            (meaning_of A.Link.input A.Link.output A.Link.line)
-            (Comes A.accepts S.faults self.old self.new) self.old.seats.seats self.new.seats.seats
+            (polled_by (meaning_of A.Link.input A.Link.output A.Link.line) A.Link.not_ready)
+            (Accepts A.accepts S.faults self.old self.new) self.old.seats.seats self.new.seats.seats
             service.now.service service.now.service }
     {
         let _service = service;
@@ -235,7 +251,8 @@ where
     }
 
     /// Waits until something may be ready, or the time is up. Then it gives each connection a turn whose last turn was cut off by its limit
-    /// of reads, and each that is ready, drops those that are over, and accepts the peers that wait. A connection that fails ends alone.
+    /// of reads, and each that is ready, drops those that are over, and accepts the peers that wait, up to the limit. A connection that fails
+    /// ends alone.
     ///
     /// # Errors
     /// `Failed`, only where the count of faults of the source of readiness rose; then nothing was done.
@@ -248,9 +265,10 @@ where
         ensures later { S.faults self.old.readiness ≤ S.faults self.new.readiness }
         ensures cause { OnErr result (Rose (S.faults self.old.readiness)
             (S.faults self.new.readiness)) }
+        ensures limit { KeepsLimit self.old.seats self.new.seats }
         ensures goes_on { SeatsGoOn I.framing V.answering
-            (meaning_of A.Link.input A.Link.output A.Link.line)
-            (TakesRound A.accepts S.faults self.old self.new result) self.old.seats.seats
+            (polled_by (meaning_of A.Link.input A.Link.output A.Link.line) A.Link.not_ready)
+            (TakesRound A.accepts S.faults S.found self.old self.new result) self.old.seats.seats
             self.new.seats.seats service.old.service service.new.service }
     {
         let _before = service.service();
@@ -271,8 +289,10 @@ where
         ensures acceptor { self.new.acceptor ≡ self.old.acceptor }
         ensures readiness { self.new.readiness ≡ self.old.readiness }
         ensures unseated { self.new.unseated ≡ self.old.unseated }
+        ensures no_more { NoMore self.old.seats self.new.seats }
         ensures goes_on { SeatsGoOn I.framing V.answering
-            (meaning_of A.Link.input A.Link.output A.Link.line) IsDrop self.old.seats.seats
+            (polled_by (meaning_of A.Link.input A.Link.output A.Link.line) A.Link.not_ready) IsDrop
+            self.old.seats.seats
             self.new.seats.seats service.now.service service.now.service }
         ensures lets_go { (key : ℕ) → get self.new.seats.seats key
             ≡ kept (get self.old.seats.seats key) }
@@ -292,8 +312,9 @@ where
         ensures later { S.faults self.old.readiness ≤ S.faults self.new.readiness }
         ensures cause { OnErr result (Rose (S.faults self.old.readiness)
             (S.faults self.new.readiness)) }
+        ensures limit { KeepsLimit self.old.seats self.new.seats }
         ensures goes_on { SeatsGoOn I.framing V.answering
-            (meaning_of A.Link.input A.Link.output A.Link.line)
+            (polled_by (meaning_of A.Link.input A.Link.output A.Link.line) A.Link.not_ready)
             (Comes A.accepts S.faults self.old self.new) self.old.seats.seats self.new.seats.seats
             service.old.service service.new.service }
     {
@@ -332,8 +353,9 @@ where
             × Rose (X.stops abort_signal.old) (X.stops abort_signal.new)) }
         ensures cause { OnErr result (Rose (S.faults self.old.readiness)
             (S.faults self.new.readiness)) }
+        ensures limit { KeepsLimit self.old.seats self.new.seats }
         ensures goes_on { SeatsGoOn I.framing V.answering
-            (meaning_of A.Link.input A.Link.output A.Link.line)
+            (polled_by (meaning_of A.Link.input A.Link.output A.Link.line) A.Link.not_ready)
             (Comes A.accepts S.faults self.old self.new) self.old.seats.seats self.new.seats.seats
             service.old.service service.new.service }
     {

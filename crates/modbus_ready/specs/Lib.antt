@@ -1,2 +1,3 @@
 pub mod Accepts
+pub mod Found
 pub mod Polls

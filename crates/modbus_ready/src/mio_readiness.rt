@@ -1,6 +1,7 @@
 //! Which links over TCP may be ready, by epoll.
-ghost use Rattle.std.specs.Prelude.{◌≡◌, ◌≤◌, IfOk, OnErr};
+ghost use Rattle.std.specs.Prelude.{◌≡◌, ◌≤◌, [], false, IfOk, OnErr};
 ghost use Rattle.modbus_link.specs.Outside.{Rose};
+ghost use Rattle.modbus_ready.specs.Found.{nothing_found};
 
 use crate::readiness::{Readiness, Ready};
 use crate::tcp_acceptor::PolledTcpAcceptor;
@@ -22,7 +23,7 @@ const PEER: Token = Token(usize::MAX);
 
 /// A source of readiness over epoll, which tells each change once (edge-triggered).
 ///
-/// It counts its faults, and tells nothing else: what the system reports is trusted no further than that something may be ready.
+/// It counts its faults, and tells what its last wait found: what the system reports is trusted no further than that something may be ready.
 #[derive(Drop)]
 pub struct MioReadiness {
     poll: Poll,
@@ -31,13 +32,13 @@ pub struct MioReadiness {
     faults: u64,
 }
 
-/// What a contract knows of it is how often it failed.
+/// What a contract knows of it is how often it failed, and what its last wait found.
 impl Model for MioReadiness {
-    ghost use Rattle.std.specs.Prelude.{ℕ};
+    ghost use Rattle.modbus_ready.specs.Found.{ReadinessState};
 
-    ghost Value = { ℕ };
+    ghost Value = { ReadinessState };
 
-    ghost view = { λ it. it.faults };
+    ghost view = { λ it. record { faults = it.faults; found = it.ready.items } };
 }
 
 impl MioReadiness {
@@ -46,7 +47,7 @@ impl MioReadiness {
     /// # Errors
     /// Where the system or memory is refused.
     pub fn new<R: Net + AllocGlobal>(rt: &R) -> io::Result<MioReadiness>
-        ensures { IfOk result (λ it. it ≡ 0) }
+        ensures { IfOk result (λ it. it ≡ nothing_found) }
     {
         let alloc: Global = rt.alloc();
         Ok(MioReadiness {
@@ -58,8 +59,9 @@ impl MioReadiness {
     }
 
     fn count_fault(&mut self) -> Failed
-        ensures later { self.old ≤ self.new }
-        ensures rose { Rose self.old self.new }
+        ensures found { self.new.found ≡ self.old.found }
+        ensures later { self.old.faults ≤ self.new.faults }
+        ensures rose { Rose self.old.faults self.new.faults }
     {
         self.faults = self.faults.saturating_add(1);
         Failed
@@ -71,8 +73,9 @@ impl MioReadiness {
     /// `Failed`, only where the count of faults rose: the system refuses.
     pub fn watch_acceptor(&mut self, acceptor: &mut PolledTcpAcceptor) -> Result<(), Failed>
         ensures acceptor { acceptor.new ≡ acceptor.old }
-        ensures later { self.old ≤ self.new }
-        ensures cause { OnErr result (Rose self.old self.new) }
+        ensures found { self.new.found ≡ self.old.found }
+        ensures later { self.old.faults ≤ self.new.faults }
+        ensures cause { OnErr result (Rose self.old.faults self.new.faults) }
     {
         match acceptor.register(self.poll.registry(), PEER) {
             Ok(()) => Ok(()),
@@ -80,9 +83,10 @@ impl MioReadiness {
         }
     }
 
-    // Keeps what the poll found; false where memory is refused.
+    // Keeps what the poll found; nothing, and false, where memory is refused.
     fn take_events(&mut self) -> bool
-        ensures { self.new ≡ self.old }
+        ensures faults { self.new.faults ≡ self.old.faults }
+        ensures nothing { result ≡ false → self.new.found ≡ [] }
     {
         for event in &self.events {
             let ready = match event.token() {
@@ -90,6 +94,7 @@ impl MioReadiness {
                 Token(key) => Ready::Link(key),
             };
             if self.ready.push(ready).is_err() {
+                self.ready.clear();
                 return false;
             }
         }
@@ -98,7 +103,9 @@ impl MioReadiness {
 }
 
 impl Readiness<PolledTcpLink> for MioReadiness {
-    ghost faults = { λ it. it };
+    ghost faults = { λ it. it.faults };
+
+    ghost found = { λ it. it.found };
 
     fn watch(&mut self, link: &mut PolledTcpLink, key: usize) -> Result<(), Failed> {
         match link.register(self.poll.registry(), Token(key)) {

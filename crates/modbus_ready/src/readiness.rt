@@ -1,6 +1,7 @@
 //! Which links may be ready.
-ghost use Rattle.std.specs.Prelude.{◌≡◌, ℕ, ◌≤◌, IfOk, OnErr};
+ghost use Rattle.std.specs.Prelude.{◌≡◌, ℕ, ◌≤◌, List, [], false, IfOk, OnErr};
 ghost use Rattle.modbus_link.specs.Outside.{Rose};
+ghost use Rattle.modbus_ready.specs.Found.{nothing_found};
 
 use modbus_link::Failed;
 use std::alloc::{AllocError, Global};
@@ -21,8 +22,12 @@ pub enum Ready {
 /// It may tell of a link that is not ready, and of a key that is watched no more. One that is not asked until it is not ready need not be
 /// told of again.
 pub trait Readiness<L> {
+    ghost use Rattle.modbus_ready.specs.declared.readiness.Ready.{Ready};
+
     // how often it failed
     ghost faults: { Self → ℕ };
+    // what its last wait found
+    ghost found: { Self → List Ready };
 
     /// Watches a link under a key, and does nothing else to it. A link that is dropped is watched no more.
     ///
@@ -30,6 +35,7 @@ pub trait Readiness<L> {
     /// `Failed`, only where the count of faults rose: the link can't be watched.
     fn watch(&mut self, link: &mut L, key: usize) -> Result<(), Failed>
         ensures link { link.new ≡ link.old }
+        ensures found { found self.new ≡ found self.old }
         ensures later { faults self.old ≤ faults self.new }
         ensures cause { OnErr result (Rose (faults self.old) (faults self.new)) };
 
@@ -38,11 +44,13 @@ pub trait Readiness<L> {
     /// # Errors
     /// `Failed`, only where the count of faults rose; then nothing is ready.
     fn wait(&mut self, timeout: Option<Duration>) -> Result<(), Failed>
+        ensures nothing { OnErr result (found self.new ≡ []) }
         ensures later { faults self.old ≤ faults self.new }
         ensures cause { OnErr result (Rose (faults self.old) (faults self.new)) };
 
     /// What the last wait found.
-    fn ready(&self) -> &[Ready];
+    fn ready(&self) -> &[Ready]
+        ensures { result.now ≡ found self.now };
 }
 
 /// A source of readiness in memory, for tests: each wait finds what stands next in its schedule, whatever is ready, and fails after the
@@ -55,13 +63,13 @@ pub struct ScheduledReadiness {
     faults: u64,
 }
 
-/// What a contract knows of it is how often it failed.
+/// What a contract knows of it is how often it failed, and what its last wait found.
 impl Model for ScheduledReadiness {
-    ghost use Rattle.std.specs.Prelude.{ℕ};
+    ghost use Rattle.modbus_ready.specs.Found.{ReadinessState};
 
-    ghost Value = { ℕ };
+    ghost Value = { ReadinessState };
 
-    ghost view = { λ it. it.faults };
+    ghost view = { λ it. record { faults = it.faults; found = it.now.items } };
 }
 
 impl ScheduledReadiness {
@@ -70,7 +78,7 @@ impl ScheduledReadiness {
     /// # Errors
     /// `AllocError` where memory is refused.
     pub fn new(alloc: Global, schedule: &[Ready]) -> Result<ScheduledReadiness, AllocError>
-        ensures { IfOk result (λ it. it ≡ 0) }
+        ensures { IfOk result (λ it. it ≡ nothing_found) }
     {
         Ok(ScheduledReadiness {
             schedule: Vec::from_slice(alloc, schedule)?,
@@ -80,9 +88,10 @@ impl ScheduledReadiness {
         })
     }
 
-    // What stands next in the schedule.
+    // Finds what stands next in the schedule; nothing, and false, where that has ended, or memory is refused.
     fn advance(&mut self) -> bool
-        ensures { self.new ≡ self.old }
+        ensures faults { self.new.faults ≡ self.old.faults }
+        ensures nothing { result ≡ false → self.new.found ≡ [] }
     {
         self.now.clear();
         let Some(next) = self.schedule.get(self.round) else {
@@ -94,7 +103,9 @@ impl ScheduledReadiness {
 }
 
 impl<L> Readiness<L> for ScheduledReadiness {
-    ghost faults = { λ it. it };
+    ghost faults = { λ it. it.faults };
+
+    ghost found = { λ it. it.found };
 
     fn watch(&mut self, _link: &mut L, _key: usize) -> Result<(), Failed> {
         Ok(())

@@ -1,10 +1,23 @@
 use Rattle.modbus_link.specs.Line.{meaning_of}
 use Rattle.slab.specs.Slab.{get}
-use Rattle.modbus_hub.specs.Seats.{TurnsIfSpent}
-use Rattle.modbus_hub.proofs.Seating.{go_both}
+use Rattle.modbus_hub.specs.Seats.{polled_by, TurnsIfSpent}
+use Rattle.modbus_hub.proofs.Histories.{stays_none}
+use Rattle.modbus_hub.proofs.Seating.{go_both, go_same}
+use Rattle.modbus_hub.proofs.Counting.{none_more}
 use Rattle.modbus_hub.proofs.Rounds.{ServesBelow, serves_below, same_above}
-use Rattle.std.proofs.Common.{◌+◌, ◌∙◌}
+use Rattle.std.proofs.Common.{◌+◌, refl, arith}
 use Rattle.modbus_hub.proofs.seats.Seats.serve_spent.Goals as goal
+
+pub keys-init : goal.keys-init
+keys-init g c =
+    let old = c.args.self.now.seats in
+    rw (← c.self.view_is) (
+      c.service-before.ensures.own,
+      (refl, refl, omega arith),
+      go_same g.I.Framing.framing g.V.Answerer.answering (polled_by (meaning_of g.L.Ends.input g.L.Ends.output g.L.Ends.line) g.L.PolledLink.not_ready) (ServesBelow 0 c.self.inside.seats)
+          c.self.inside.seats c.self.inside.seats c.args.service.now.service (λ key. refl) (λ start history all. ((refl, stays_none history, tt), λ key low. absurd (omega (arith, low)))),
+      λ key high. refl,
+    )
 
 pub keys-preserved : goal.keys-preserved
 keys-preserved g c =
@@ -12,8 +25,8 @@ keys-preserved g c =
     let now = c.keys.self.seats in
     let key = c.keys.key in (
       c.serve_if_spent.ensures.own,
-      c.serve_if_spent.ensures.reads ∙ c.keys.invariant.1,
-      go_both g.I.Framing.framing g.V.Answerer.answering (meaning_of g.L.Ends.input g.L.Ends.output g.L.Ends.line) (ServesBelow key old) (TurnsIfSpent key (get now key)) (ServesBelow (key + 1) old)
+      none_more c.args.self.now c.keys.self c.serve_if_spent.new.self c.keys.invariant.1 c.serve_if_spent.ensures.no_more,
+      go_both g.I.Framing.framing g.V.Answerer.answering (polled_by (meaning_of g.L.Ends.input g.L.Ends.output g.L.Ends.line) g.L.PolledLink.not_ready) (ServesBelow key old) (TurnsIfSpent key (get now key)) (ServesBelow (key + 1) old)
           old now c.serve_if_spent.new.self.seats c.args.service.now.service c.keys.service.service c.serve_if_spent.new.service.service
           c.keys.invariant.2 c.serve_if_spent.ensures.goes_on (serves_below old now key c.keys.invariant.3),
       same_above old now c.serve_if_spent.new.self.seats key c.serve_if_spent.ensures.others c.keys.invariant.3,

@@ -1,8 +1,10 @@
-use Rattle.std.proofs.Common.{arith}
+use Rattle.std.proofs.Common.{arith, ◌∙◌}
 use Rattle.modbus_link.specs.Line.{meaning_of}
-use Rattle.modbus_hub.specs.Turns.{Comes}
+use Rattle.modbus_hub.specs.Seats.{polled_by}
+use Rattle.modbus_hub.specs.Turns.{Accepts}
+use Rattle.modbus_hub.proofs.Counting.{within_both}
 use Rattle.modbus_hub.proofs.Seating.{go_both}
-use Rattle.modbus_hub.proofs.Rounding.{comes_both}
+use Rattle.modbus_hub.proofs.Rounding.{accepts_both}
 use Rattle.modbus_hub.proofs.server.EventServer.accept_all.Goals as goal
 
 pub returns-then-not-accept_one-clause-goes_on : goal.returns-then-not-accept_one-clause-goes_on
@@ -13,10 +15,10 @@ returns-then-not-accept_one-clause-goes_on g c =
     let now = c.peers.self in
     let next = c.accept_one.new.self in
     let service = c.args.service.now.service in
-    go_both g.I.Framing.framing g.V.Answerer.answering (meaning_of g.A.Link.Ends.input g.A.Link.Ends.output g.A.Link.Ends.line)
-    (Comes accepts faults first now) (Comes accepts faults now next) (Comes accepts faults first next)
-    first.seats.seats now.seats.seats next.seats.seats service service service c.peers.invariant.1 c.accept_one.ensures.goes_on
-    (comes_both accepts faults first now next)
+    go_both g.I.Framing.framing g.V.Answerer.answering (polled_by (meaning_of g.A.Link.Ends.input g.A.Link.Ends.output g.A.Link.Ends.line) g.A.Link.PolledLink.not_ready)
+    (Accepts accepts faults first now) (Accepts accepts faults now next) (Accepts accepts faults first next)
+    first.seats.seats now.seats.seats next.seats.seats service service service c.peers.invariant.3 c.accept_one.ensures.goes_on
+    (accepts_both accepts faults first now next)
 
 pub peers-preserved : goal.peers-preserved
 peers-preserved g c =
@@ -26,9 +28,11 @@ peers-preserved g c =
     let now = c.peers.self in
     let next = c.accept_one.new.self in
     let service = c.args.service.now.service in (
-      omega (arith, c.peers.invariant.0, c.accept_one.ensures.later),
-      go_both g.I.Framing.framing g.V.Answerer.answering (meaning_of g.A.Link.Ends.input g.A.Link.Ends.output g.A.Link.Ends.line)
-          (Comes accepts faults first now) (Comes accepts faults now next) (Comes accepts faults first next)
-          first.seats.seats now.seats.seats next.seats.seats service service service c.peers.invariant.1 c.accept_one.ensures.goes_on
-          (comes_both accepts faults first now next),
+      within_both first.seats now.seats next.seats c.peers.invariant.0 c.accept_one.ensures.limit,
+      c.accept_one.ensures.found ∙ c.peers.invariant.1,
+      omega (arith, c.peers.invariant.2, c.accept_one.ensures.later),
+      go_both g.I.Framing.framing g.V.Answerer.answering (polled_by (meaning_of g.A.Link.Ends.input g.A.Link.Ends.output g.A.Link.Ends.line) g.A.Link.PolledLink.not_ready)
+          (Accepts accepts faults first now) (Accepts accepts faults now next) (Accepts accepts faults first next)
+          first.seats.seats now.seats.seats next.seats.seats service service service c.peers.invariant.3 c.accept_one.ensures.goes_on
+          (accepts_both accepts faults first now next),
     )

@@ -3,7 +3,7 @@ use Rattle.std.specs.declared.alloc.AllocError.{AllocError}
 use Rattle.std.specs.Prelude.{Ok, Err}
 use Rattle.modbus_link.specs.Line.{meaning_of}
 use Rattle.modbus_hub.specs.Events.{came, refused, no_watch, no_memory}
-use Rattle.modbus_hub.specs.Seats.{Admits}
+use Rattle.modbus_hub.specs.Seats.{polled_by, Admits}
 use Rattle.modbus_hub.specs.Turns.{Brings}
 use Rattle.modbus_hub.proofs.Seating.{Refuses, turned_away, go_as}
 use Rattle.modbus_hub.proofs.Rounding.{state, brings_seat, brings_unwatched, brings_unseated}
@@ -11,7 +11,7 @@ use Rattle.modbus_hub.proofs.server.EventServer.admit.Goals as goal
 
 pub returns-in-Err-clause-goes_on : goal.returns-in-Err-clause-goes_on
 returns-in-Err-clause-goes_on g c =
-    let meaning = meaning_of g.A.Link.Ends.input g.A.Link.Ends.output g.A.Link.Ends.line in
+    let meaning = polled_by (meaning_of g.A.Link.Ends.input g.A.Link.Ends.output g.A.Link.Ends.line) g.A.Link.PolledLink.not_ready in
     let faults = g.S.Readiness.faults in
     let seats = c.self.inside.seats in
     let service = c.args.service.now.service in
@@ -24,7 +24,7 @@ returns-in-Err-clause-goes_on g c =
 
 pub returns-in-Ok-admit-clause-goes_on : goal.returns-in-Ok-admit-clause-goes_on
 returns-in-Ok-admit-clause-goes_on g c =
-    let meaning = meaning_of g.A.Link.Ends.input g.A.Link.Ends.output g.A.Link.Ends.line in
+    let meaning = polled_by (meaning_of g.A.Link.Ends.input g.A.Link.Ends.output g.A.Link.Ends.line) g.A.Link.PolledLink.not_ready in
     let faults = g.S.Readiness.faults in
     let seats = c.self.inside.seats in
     let now = c.admit.new.self in
@@ -39,7 +39,7 @@ returns-in-Ok-admit-clause-goes_on g c =
 
 pub returns-in-Err-admit-clause-goes_on : goal.returns-in-Err-admit-clause-goes_on
 returns-in-Err-admit-clause-goes_on g c =
-    let meaning = meaning_of g.A.Link.Ends.input g.A.Link.Ends.output g.A.Link.Ends.line in
+    let meaning = polled_by (meaning_of g.A.Link.Ends.input g.A.Link.Ends.output g.A.Link.Ends.line) g.A.Link.PolledLink.not_ready in
     let faults = g.S.Readiness.faults in
     let seats = c.self.inside.seats in
     let now = c.admit.new.self in

@@ -1,6 +1,6 @@
 use Rattle.std.proofs.Common.{Ok}
 use Rattle.modbus_link.specs.Line.{meaning_of}
-use Rattle.modbus_hub.specs.Seats.{IsDrop}
+use Rattle.modbus_hub.specs.Seats.{polled_by, IsDrop}
 use Rattle.modbus_hub.specs.Turns.{Comes, TakesRound}
 use Rattle.modbus_hub.proofs.Seating.{go_both}
 use Rattle.modbus_hub.proofs.Rounding.{then_drops}
@@ -10,11 +10,12 @@ pub returns-then-is_due-clause-goes_on : goal.returns-then-is_due-clause-goes_on
 returns-then-is_due-clause-goes_on g c =
     let accepts = g.A.PolledAcceptor.accepts in
     let faults = g.S.Readiness.faults in
+    let found = g.S.Readiness.found in
     let first = c.args.self.now in
     let now = c.turn.new.self in
     let last = c.drop_idle.new.self in
     let after = c.turn.new.service.service in
-    go_both g.I.Framing.framing g.V.Answerer.answering (meaning_of g.A.Link.Ends.input g.A.Link.Ends.output g.A.Link.Ends.line)
-    (TakesRound accepts faults first now (Ok tt)) IsDrop (Comes accepts faults first last)
+    go_both g.I.Framing.framing g.V.Answerer.answering (polled_by (meaning_of g.A.Link.Ends.input g.A.Link.Ends.output g.A.Link.Ends.line) g.A.Link.PolledLink.not_ready)
+    (TakesRound accepts faults found first now (Ok tt)) IsDrop (Comes accepts faults first last)
     first.seats.seats now.seats.seats last.seats.seats c.args.service.now.service after after c.in-Ok.ensures.goes_on c.drop_idle.ensures.goes_on
-    (λ history xs ys first_round drops. then_drops accepts faults first now last history xs ys c.drop_idle.ensures.acceptor c.drop_idle.ensures.readiness c.drop_idle.ensures.unseated first_round drops)
+    (λ history xs ys first_round drops. then_drops accepts faults found first now last history xs ys c.drop_idle.ensures.acceptor c.drop_idle.ensures.readiness c.drop_idle.ensures.unseated first_round drops)

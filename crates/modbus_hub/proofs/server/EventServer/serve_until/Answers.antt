@@ -1,16 +1,19 @@
 use Rattle.std.proofs.Common.{refl, arith, []}
 use Rattle.modbus_link.specs.Line.{meaning_of}
+use Rattle.modbus_hub.specs.Seats.{polled_by}
 use Rattle.modbus_hub.specs.Turns.{Comes}
+use Rattle.modbus_hub.proofs.Counting.{within_both}
 use Rattle.modbus_hub.proofs.Seating.{go_both, go_same}
 use Rattle.modbus_hub.proofs.Rounding.{comes_both, none_come}
 use Rattle.modbus_hub.proofs.server.EventServer.serve_until.Goals as goal
 
 pub rounds-init : goal.rounds-init
 rounds-init g c = (
+  (refl, refl, λ within. within),
   c.service-before.ensures.own,
   omega arith,
   omega arith,
-  go_same g.I.Framing.framing g.V.Answerer.answering (meaning_of g.A.Link.Ends.input g.A.Link.Ends.output g.A.Link.Ends.line)
+  go_same g.I.Framing.framing g.V.Answerer.answering (polled_by (meaning_of g.A.Link.Ends.input g.A.Link.Ends.output g.A.Link.Ends.line) g.A.Link.PolledLink.not_ready)
       (Comes g.A.PolledAcceptor.accepts g.S.Readiness.faults c.args.self.now c.args.self.now) c.args.self.now.seats.seats c.args.self.now.seats.seats c.args.service.now.service
       (λ key. refl) (λ start history all. none_come g.A.PolledAcceptor.accepts g.S.Readiness.faults c.args.self.now c.args.self.now history [] refl (omega arith) refl refl),
 )
@@ -22,13 +25,14 @@ rounds-preserved g c =
     let first = c.args.self.now in
     let now = c.rounds.self in
     let next = c.round.new.self in (
+      within_both first.seats now.seats next.seats c.rounds.invariant.0 c.round.ensures.limit,
       c.round.ensures.own,
-      omega (arith, c.rounds.invariant.1, c.round.ensures.later),
-      omega (arith, c.rounds.invariant.2, c.is_set.ensures.later),
-      go_both g.I.Framing.framing g.V.Answerer.answering (meaning_of g.A.Link.Ends.input g.A.Link.Ends.output g.A.Link.Ends.line)
+      omega (arith, c.rounds.invariant.2, c.round.ensures.later),
+      omega (arith, c.rounds.invariant.3, c.is_set.ensures.later),
+      go_both g.I.Framing.framing g.V.Answerer.answering (polled_by (meaning_of g.A.Link.Ends.input g.A.Link.Ends.output g.A.Link.Ends.line) g.A.Link.PolledLink.not_ready)
           (Comes accepts faults first now) (Comes accepts faults now next) (Comes accepts faults first next)
           first.seats.seats now.seats.seats next.seats.seats c.args.service.now.service c.rounds.service.service c.round.new.service.service
-          c.rounds.invariant.3 c.round.ensures.goes_on (comes_both accepts faults first now next),
+          c.rounds.invariant.4 c.round.ensures.goes_on (comes_both accepts faults first now next),
     )
 
 pub returns-in-Err-clause-goes_on : goal.returns-in-Err-clause-goes_on
@@ -38,7 +42,7 @@ returns-in-Err-clause-goes_on g c =
     let first = c.args.self.now in
     let now = c.rounds.self in
     let next = c.round.new.self in
-    go_both g.I.Framing.framing g.V.Answerer.answering (meaning_of g.A.Link.Ends.input g.A.Link.Ends.output g.A.Link.Ends.line)
+    go_both g.I.Framing.framing g.V.Answerer.answering (polled_by (meaning_of g.A.Link.Ends.input g.A.Link.Ends.output g.A.Link.Ends.line) g.A.Link.PolledLink.not_ready)
     (Comes accepts faults first now) (Comes accepts faults now next) (Comes accepts faults first next)
     first.seats.seats now.seats.seats next.seats.seats c.args.service.now.service c.rounds.service.service c.round.new.service.service
-    c.rounds.invariant.3 c.round.ensures.goes_on (comes_both accepts faults first now next)
+    c.rounds.invariant.4 c.round.ensures.goes_on (comes_both accepts faults first now next)

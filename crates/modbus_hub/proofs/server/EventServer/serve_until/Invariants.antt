@@ -1,11 +1,11 @@
 use Rattle.std.proofs.Common.{◌≡◌, ◌≤◌, []}
 use Rattle.modbus_link.specs.Line.{meaning_of}
-use Rattle.modbus_hub.specs.Seats.{SeatsGoOn}
+use Rattle.modbus_hub.specs.Seats.{polled_by, KeepsLimit, SeatsGoOn}
 use Rattle.modbus_hub.specs.Turns.{Comes}
 use Rattle.modbus_hub.proofs.server.EventServer.serve_until.Given as goal
 
 abbrev pub invariant-rounds : goal.invariant-rounds
-invariant-rounds g l = (l.service.ahead ≡ []) × (g.S.Readiness.faults l.fn.self.readiness ≤ g.S.Readiness.faults l.self.readiness)
+invariant-rounds g l = KeepsLimit l.fn.self.seats l.self.seats × (l.service.ahead ≡ []) × (g.S.Readiness.faults l.fn.self.readiness ≤ g.S.Readiness.faults l.self.readiness)
     × (g.X.Stop.stops l.fn.abort_signal ≤ g.X.Stop.stops l.abort_signal)
-    × SeatsGoOn g.I.Framing.framing g.V.Answerer.answering (meaning_of g.A.Link.Ends.input g.A.Link.Ends.output g.A.Link.Ends.line) (Comes g.A.PolledAcceptor.accepts g.S.Readiness.faults l.fn.self l.self)
+    × SeatsGoOn g.I.Framing.framing g.V.Answerer.answering (polled_by (meaning_of g.A.Link.Ends.input g.A.Link.Ends.output g.A.Link.Ends.line) g.A.Link.PolledLink.not_ready) (Comes g.A.PolledAcceptor.accepts g.S.Readiness.faults l.fn.self l.self)
     l.fn.self.seats.seats l.self.seats.seats l.fn.service.service l.service.service

@@ -1,13 +1,14 @@
-use Rattle.std.proofs.Common.{◌∙◌, Ok, sym, ◌≤◌, subst}
+use Rattle.std.proofs.Common.{◌≡◌, ◌∙◌, Ok, ap, sym, ◌≤◌, subst}
 use Rattle.modbus_link.specs.Line.{meaning_of}
-use Rattle.modbus_hub.specs.Turns.{ServesInTurn, ServesLeft, Comes, TakesRound}
+use Rattle.modbus_hub.specs.Seats.{polled_by}
+use Rattle.modbus_hub.specs.Turns.{ServesFound, ServesLeft, Accepts, TakesRound}
 use Rattle.modbus_hub.proofs.Seating.{go_both}
-use Rattle.modbus_hub.proofs.Rounding.{state, left_both, round_of}
+use Rattle.modbus_hub.proofs.Rounding.{state, ServesRound, left_both, round_of}
 use Rattle.modbus_hub.proofs.server.EventServer.turn.Goals as goal
 
 pub returns-in-Ok-clause-goes_on : goal.returns-in-Ok-clause-goes_on
 returns-in-Ok-clause-goes_on g c =
-    let meaning = meaning_of g.A.Link.Ends.input g.A.Link.Ends.output g.A.Link.Ends.line in
+    let meaning = polled_by (meaning_of g.A.Link.Ends.input g.A.Link.Ends.output g.A.Link.Ends.line) g.A.Link.PolledLink.not_ready in
     let accepts = g.A.PolledAcceptor.accepts in
     let faults = g.S.Readiness.faults in
     let seats = c.self.inside.seats in
@@ -20,10 +21,12 @@ returns-in-Ok-clause-goes_on g c =
     let after = c.serve_ready.new.service.service in
     let waited : faults c.self.inside.readiness ≤ faults ready.readiness =
     subst (λ r. faults c.self.inside.readiness ≤ faults r) (sym (c.serve_ready.ensures.readiness ∙ c.serve_left.ensures.readiness)) c.wait.ensures.later in
-    rw (← c.self.view_is) (go_both g.I.Framing.framing g.V.Answerer.answering meaning (ServesLeft seats) (Comes accepts faults ready last) (TakesRound accepts faults first last (Ok tt))
+    let found = g.S.Readiness.found in
+    let same : found last.readiness ≡ found c.serve_left.new.self.readiness = c.accept_asked.ensures.found ∙ ap found c.serve_ready.ensures.readiness in
+    rw (← c.self.view_is) (go_both g.I.Framing.framing g.V.Answerer.answering meaning (ServesRound seats (found last.readiness)) (Accepts accepts faults ready last) (TakesRound accepts faults found first last (Ok tt))
     seats.seats ready.seats.seats last.seats.seats service after after
-    (go_both g.I.Framing.framing g.V.Answerer.answering meaning (ServesLeft seats) ServesInTurn (ServesLeft seats) seats.seats served ready.seats.seats service now after
-    c.serve_left.ensures.goes_on c.serve_ready.ensures.goes_on (left_both seats))
+    (go_both g.I.Framing.framing g.V.Answerer.answering meaning (ServesLeft seats) (ServesFound (found last.readiness)) (ServesRound seats (found last.readiness)) seats.seats served ready.seats.seats service now after
+    c.serve_left.ensures.goes_on (rw (same) c.serve_ready.ensures.goes_on) (left_both seats (found last.readiness)))
     c.accept_asked.ensures.goes_on
-    (λ history xs ys some more. round_of accepts faults first ready last history xs ys (c.serve_ready.ensures.acceptor ∙ c.serve_left.ensures.acceptor) waited
+    (λ history xs ys some more. round_of accepts faults found first ready last history xs ys (c.serve_ready.ensures.acceptor ∙ c.serve_left.ensures.acceptor) waited
     (c.serve_ready.ensures.unseated ∙ c.serve_left.ensures.unseated) some more))
