@@ -1,5 +1,5 @@
 //! Tests that need code: threads, sockets, hooks, boxes, and a schedule of readiness. Each module is named for what it tests; what has bytes in
-//! and an answer out is in the crates of tables, crates/modbus_*_vectors.
+//! and an answer out is in the table, crates/modbus_vectors.
 #![tactic(auto)]
 
 #[cfg(test)]
@@ -16,7 +16,5 @@ mod link;
 mod links;
 #[cfg(test)]
 mod listeners;
-#[cfg(test)]
-mod listening;
 #[cfg(test)]
 mod store;

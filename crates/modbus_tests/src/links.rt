@@ -42,6 +42,14 @@ pub struct Pair {
     pub far: MemoryLink,
 }
 
+/// Links that give these bytes.
+pub fn pair_of(alloc: Global, near: &[u8], far: &[u8]) -> Result<Pair, AllocError> {
+    Ok(Pair {
+        near: link_of(alloc, near, &[])?,
+        far: link_of(alloc, far, &[])?,
+    })
+}
+
 /// An acceptor of two links.
 pub fn accepting(
     alloc: Global,

@@ -3,7 +3,7 @@
 //! A function that calls much is lent what it works on: the check of one that owns it takes far longer.
 
 use crate::check::check;
-use crate::links::{ONE, Pair, READ_ADU, READ_ONE, REPLY_ADU, accepting, link_of, peer};
+use crate::links::{ONE, Pair, READ_ADU, READ_ONE, REPLY_ADU, accepting, link_of, pair_of, peer};
 use modbus_frame::{ExceptionCode, Response, SlaveRequest, Words};
 use modbus_link::{
     Acceptor, Failed, MemoryAcceptor, MemoryLink, MemoryStop, Spawner, TcpAcceptor, TcpLink, Worker,
@@ -157,14 +157,6 @@ fn serve_late<R: Wait>(
     answer
 }
 
-/// Two links, each of which asks for one register.
-fn two_links(alloc: Global) -> Result<Pair, AllocError> {
-    Ok(Pair {
-        near: link_of(alloc, &READ_ONE, &[])?,
-        far: link_of(alloc, &READ_ONE, &[])?,
-    })
-}
-
 /// How a listener over two links ended whose workers run after it, and what these read then.
 fn served_late<R: Wait>(
     rt: &R,
@@ -189,7 +181,13 @@ fn ended_late<R: Wait>(
     room: usize,
     looks: u64,
 ) -> Result<(Result<Terminated, ServeError<u8>>, usize, usize), AllocError> {
-    served_late(rt, alloc, &mut two_links(alloc)?, room, looks)
+    served_late(
+        rt,
+        alloc,
+        &mut pair_of(alloc, &READ_ONE, &READ_ONE)?,
+        room,
+        looks,
+    )
 }
 
 /// A listener raises the flag of its workers however it ends: one that runs after it serves nothing.
@@ -380,7 +378,7 @@ fn served_both_at_once<R: Threads + Wait>(
     rt: &R,
     alloc: Global,
 ) -> Result<(Result<(), ServeError<u8>>, bool, bool), AllocError> {
-    served_both(rt, alloc, &mut two_links(alloc)?)
+    served_both(rt, alloc, &mut pair_of(alloc, &READ_ONE, &READ_ONE)?)
 }
 
 #[test]

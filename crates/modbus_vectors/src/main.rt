@@ -1,0 +1,44 @@
+//! A table of calls: each line of the input names a call and its arguments, and the output has its answer on the line of the same number.
+//! Empty lines and those that begin with `#` are copied.
+//!
+//! Byte strings are hexadecimal, and `-` is the empty one. A value is shown as its `Debug` text.
+#![tactic(auto)]
+
+// the table, and what its lines are made of
+mod calls;
+mod outside;
+mod same_words;
+mod table;
+mod text;
+
+// codecs
+mod codecs;
+mod faults;
+mod pdus;
+mod values;
+
+// clients over links in memory, and what stands on them
+mod clients;
+mod connecting;
+mod gateway;
+mod left;
+mod one_call;
+mod reconnect;
+mod typed;
+
+// servers and listeners over memory, by each driver
+mod listeners;
+mod servers;
+
+// the program over memory, its device, and polls
+mod asking;
+mod polls;
+mod program;
+mod store;
+mod units;
+
+use std::process::ExitCode;
+
+fn main(rt: HostRuntime) -> ExitCode {
+    table::answer_table(&rt, &rt)
+}

@@ -1,0 +1,119 @@
+//! Requests to a register store.
+
+use crate::asking::ask_all;
+use crate::text::{bytes, push_outcome};
+use modbus_app::{Form, Mode, open};
+use modbus_client::exchange;
+use modbus_frame::Slave;
+use modbus_pdu::decode_request;
+use modbus_store::{RegisterStore, Sizes, StoreError};
+use std::alloc::{AllocError, Global};
+
+/// The greatest size that the words of the program may name.
+const MOST_ENTRIES: u32 = 0x10000;
+
+/// The device of the program, or for a size that its words don't name what the store itself says of that.
+fn store_of(alloc: Global, form: Form) -> Result<RegisterStore, StoreError> {
+    if form.size <= MOST_ENTRIES {
+        return open(alloc, form);
+    }
+    let sizes = Sizes {
+        coils: form.size,
+        discrete_inputs: form.size,
+        holding_registers: form.size,
+        input_registers: form.size,
+    };
+    RegisterStore::new(alloc, sizes, false)
+}
+
+/// The answer of a store to a request, with no link.
+fn exchange_with(
+    alloc: Global,
+    text: &mut String,
+    slave: Slave,
+    pdu: &[u8],
+    store: &mut RegisterStore,
+) -> Result<bool, AllocError> {
+    let Ok(request) = decode_request(alloc, pdu) else {
+        return Ok(false);
+    };
+    push_outcome(text, exchange(alloc, slave, request, store))?;
+    Ok(true)
+}
+
+/// The same of a seeded store of eight entries a table, which takes part in broadcasts.
+fn exchange_seeded(
+    alloc: Global,
+    text: &mut String,
+    slave: Slave,
+    pdu: &[u8],
+) -> Result<bool, AllocError> {
+    let form = Form {
+        mode: Mode::Rtu,
+        size: 8,
+        seeded: true,
+    };
+    match open(alloc, form) {
+        Ok(mut store) => exchange_with(alloc, text, slave, pdu, &mut store),
+        Err(_) => Err(AllocError),
+    }
+}
+
+fn exchanged(alloc: Global, text: &mut String, words: &[&str]) -> Result<bool, AllocError> {
+    let &[slave, pdu] = words else {
+        return Ok(false);
+    };
+    let Ok(slave) = slave.parse::<u8>() else {
+        return Ok(false);
+    };
+    match bytes(alloc, pdu)? {
+        Some(pdu) => exchange_seeded(alloc, text, Slave(slave), pdu.as_slice()),
+        None => Ok(false),
+    }
+}
+
+/// The form of a store that words tell.
+fn form_of(mode: &str, size: &str, contents: &str) -> Option<Form> {
+    let mode = match mode {
+        "rtu" => Mode::Rtu,
+        "tcp" => Mode::Tcp,
+        _ => return None,
+    };
+    Some(Form {
+        mode,
+        size: size.parse().ok()?,
+        seeded: contents == "seeded",
+    })
+}
+
+/// The answers of the store that the words tell.
+fn stored(alloc: Global, text: &mut String, words: &[&str]) -> Result<bool, AllocError> {
+    let &[mode, size, contents, ref requests @ ..] = words else {
+        return Ok(false);
+    };
+    let Some(form) = form_of(mode, size, contents) else {
+        return Ok(false);
+    };
+    match store_of(alloc, form) {
+        Ok(mut store) => ask_all(alloc, text, &mut store, requests),
+        Err(error) => {
+            write!(text, "{error:?}: {error}")?;
+            Ok(true)
+        }
+    }
+}
+
+/// `store rtu 8 seeded 1 0300010001`: a store of a mode, a size and contents, and the requests to it; `exchange 1 0300010001`: one request
+/// by the call of a client that has no link.
+pub fn answer(
+    alloc: Global,
+    text: &mut String,
+    call: &str,
+    words: &[&str],
+) -> Result<bool, AllocError> {
+    match call {
+        "store" => stored(alloc, text, words),
+        "exchange" => exchanged(alloc, text, words),
+        _ => Ok(false),
+    }
+}
