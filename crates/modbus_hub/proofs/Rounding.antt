@@ -11,7 +11,7 @@ use Rattle.modbus_ready.specs.declared.readiness.Ready.{Ready}
 use Rattle.modbus_ready.specs.declared.readiness.Ready.TheVariants.{Peer, Link}
 use Rattle.modbus_hub.specs.Events.{Event, Refusal, no_watch, no_memory, came, refused, told, turned, dropped, KeyAccount, account_of, by_key, HasAnyTurn, links_of, counted_if, counted_over}
 use Rattle.modbus_hub.specs.Seats.{SeatsState, IsTurnOf, DropsNone, ServesInTurn, IsDrop}
-use Rattle.modbus_hub.specs.Turns.{ServerState, IsFound, TurnsFound, ServesFound, CountsDrops, Brings, ServesLeft, Accepts, Comes, TakesRound}
+use Rattle.modbus_hub.specs.Turns.{ServerState, IsFound, TurnsFound, ServesFound, CountsDrops, Brings, ServesLeft, PeersCome, Comes, TakesRound}
 use Rattle.modbus_hub.proofs.Histories.{links_more, none_both, turn_before, turn_after, stays_none, serves_both, turn_serves}
 
 counted_up : (a b : ℕ) → a ≤ b → next_count a ≤ next_count b
@@ -216,7 +216,7 @@ module _ {A S L : Type 0} (accepts : A → Result (Polled L) Failed → A → Ty
   Came a b history more = Comes accepts faults a b history more
 
   abbrev Accepted : Server → Server → List (Event L) → List (Event L) → Type 0
-  Accepted a b history more = Accepts accepts faults a b history more
+  Accepted a b history more = PeersCome accepts faults a b history more
 
   pub comes_both : (a b c : Server) (history xs ys : List (Event L)) → Came a b history xs → Came b c (history ++ xs) ys → Came a c history (xs ++ ys)
   comes_both a b c history xs ys first second = record {

@@ -58,11 +58,11 @@ module _ {A S L : Type 0} (accepts : A → Result (Polled L) Failed → A → Ty
     pub counts : CountsDrops faults old new more
 
   -- the same, and no connection was let go
-  abbrev pub Accepts : ServerState A S L → ServerState A S L → List (Event L) → List (Event L) → Type 0
-  Accepts old new history more = Comes old new history more × DropsNone more
+  abbrev pub PeersCome : ServerState A S L → ServerState A S L → List (Event L) → List (Event L) → Type 0
+  PeersCome old new history more = Comes old new history more × DropsNone more
 
   -- One round: the links that came are just those that the acceptor gave, each connection whose reads were used up before had another
   -- turn, and so had each whose link the source of readiness found ready. None was let go. A round that fails is none.
   abbrev pub TakesRound : (S → List Ready) → ServerState A S L → ServerState A S L → Result (Unit {0}) Failed → List (Event L) → List (Event L) → Type 0
-  TakesRound found old new (Ok done) history more = Accepts old new history more × TurnsLeft old.seats more × TurnsFound (found new.readiness) history more
+  TakesRound found old new (Ok done) history more = PeersCome old new history more × TurnsLeft old.seats more × TurnsFound (found new.readiness) history more
   TakesRound found old new (Err failed) history more = (more ≡ []) × (new.acceptor ≡ old.acceptor) × (new.unseated ≡ old.unseated)

@@ -4,7 +4,7 @@ ghost use Rattle.modbus_link.specs.Line.{meaning_of};
 ghost use Rattle.modbus_link.specs.Outside.{Rose};
 ghost use Rattle.slab.specs.Slab.{get, slab_len};
 ghost use Rattle.modbus_hub.specs.Seats.{SeatsGoOn, polled_by, IsDrop, NoMore, OneMore, KeepsLimit, kept};
-ghost use Rattle.modbus_hub.specs.Turns.{Accepts, Brings, Comes, ServesFound, ServesLeft, TakesRound};
+ghost use Rattle.modbus_hub.specs.Turns.{PeersCome, Brings, Comes, ServesFound, ServesLeft, TakesRound};
 
 use crate::seats::{Limits, Seats};
 use modbus_frame::Terminated;
@@ -124,7 +124,7 @@ where
         ensures limit { KeepsLimit self.old.seats self.new.seats }
         ensures goes_on { SeatsGoOn I.framing V.answering
             (polled_by (meaning_of A.Link.input A.Link.output A.Link.line) A.Link.not_ready)
-            (Accepts A.accepts S.faults self.old self.new) self.old.seats.seats self.new.seats.seats
+            (PeersCome A.accepts S.faults self.old self.new) self.old.seats.seats self.new.seats.seats
             service.now.service service.now.service }
     {
         let _service = service;
@@ -151,7 +151,7 @@ where
         ensures limit { KeepsLimit self.old.seats self.new.seats }
         ensures goes_on { SeatsGoOn I.framing V.answering
             (polled_by (meaning_of A.Link.input A.Link.output A.Link.line) A.Link.not_ready)
-            (Accepts A.accepts S.faults self.old self.new) self.old.seats.seats self.new.seats.seats
+            (PeersCome A.accepts S.faults self.old self.new) self.old.seats.seats self.new.seats.seats
             service.now.service service.now.service }
     {
         let _service = service;
@@ -230,7 +230,7 @@ where
         ensures limit { KeepsLimit self.old.seats self.new.seats }
         ensures goes_on { SeatsGoOn I.framing V.answering
             (polled_by (meaning_of A.Link.input A.Link.output A.Link.line) A.Link.not_ready)
-            (Accepts A.accepts S.faults self.old self.new) self.old.seats.seats self.new.seats.seats
+            (PeersCome A.accepts S.faults self.old self.new) self.old.seats.seats self.new.seats.seats
             service.now.service service.now.service }
     {
         let _service = service;

@@ -1,7 +1,7 @@
 use Rattle.std.proofs.Common.{arith, ◌∙◌}
 use Rattle.modbus_link.specs.Line.{meaning_of}
 use Rattle.modbus_hub.specs.Seats.{polled_by}
-use Rattle.modbus_hub.specs.Turns.{Accepts}
+use Rattle.modbus_hub.specs.Turns.{PeersCome}
 use Rattle.modbus_hub.proofs.Counting.{within_both}
 use Rattle.modbus_hub.proofs.Seating.{go_both}
 use Rattle.modbus_hub.proofs.Rounding.{accepts_both}
@@ -16,7 +16,7 @@ returns-then-not-accept_one-clause-goes_on g c =
     let next = c.accept_one.new.self in
     let service = c.args.service.now.service in
     go_both g.I.Framing.framing g.V.Answerer.answering (polled_by (meaning_of g.A.Link.Ends.input g.A.Link.Ends.output g.A.Link.Ends.line) g.A.Link.PolledLink.not_ready)
-    (Accepts accepts faults first now) (Accepts accepts faults now next) (Accepts accepts faults first next)
+    (PeersCome accepts faults first now) (PeersCome accepts faults now next) (PeersCome accepts faults first next)
     first.seats.seats now.seats.seats next.seats.seats service service service c.peers.invariant.3 c.accept_one.ensures.goes_on
     (accepts_both accepts faults first now next)
 
@@ -32,7 +32,7 @@ peers-preserved g c =
       c.accept_one.ensures.found ∙ c.peers.invariant.1,
       omega (arith, c.peers.invariant.2, c.accept_one.ensures.later),
       go_both g.I.Framing.framing g.V.Answerer.answering (polled_by (meaning_of g.A.Link.Ends.input g.A.Link.Ends.output g.A.Link.Ends.line) g.A.Link.PolledLink.not_ready)
-          (Accepts accepts faults first now) (Accepts accepts faults now next) (Accepts accepts faults first next)
+          (PeersCome accepts faults first now) (PeersCome accepts faults now next) (PeersCome accepts faults first next)
           first.seats.seats now.seats.seats next.seats.seats service service service c.peers.invariant.3 c.accept_one.ensures.goes_on
           (accepts_both accepts faults first now next),
     )

@@ -1,7 +1,7 @@
 use Rattle.std.proofs.Common.{◌≡◌, ◌∙◌, Ok, ap, sym, ◌≤◌, subst}
 use Rattle.modbus_link.specs.Line.{meaning_of}
 use Rattle.modbus_hub.specs.Seats.{polled_by}
-use Rattle.modbus_hub.specs.Turns.{ServesFound, ServesLeft, Accepts, TakesRound}
+use Rattle.modbus_hub.specs.Turns.{ServesFound, ServesLeft, PeersCome, TakesRound}
 use Rattle.modbus_hub.proofs.Seating.{go_both}
 use Rattle.modbus_hub.proofs.Rounding.{state, ServesRound, left_both, round_of}
 use Rattle.modbus_hub.proofs.server.EventServer.turn.Goals as goal
@@ -23,7 +23,7 @@ returns-in-Ok-clause-goes_on g c =
     subst (λ r. faults c.self.inside.readiness ≤ faults r) (sym (c.serve_ready.ensures.readiness ∙ c.serve_left.ensures.readiness)) c.wait.ensures.later in
     let found = g.S.Readiness.found in
     let same : found last.readiness ≡ found c.serve_left.new.self.readiness = c.accept_asked.ensures.found ∙ ap found c.serve_ready.ensures.readiness in
-    rw (← c.self.view_is) (go_both g.I.Framing.framing g.V.Answerer.answering meaning (ServesRound seats (found last.readiness)) (Accepts accepts faults ready last) (TakesRound accepts faults found first last (Ok tt))
+    rw (← c.self.view_is) (go_both g.I.Framing.framing g.V.Answerer.answering meaning (ServesRound seats (found last.readiness)) (PeersCome accepts faults ready last) (TakesRound accepts faults found first last (Ok tt))
     seats.seats ready.seats.seats last.seats.seats service after after
     (go_both g.I.Framing.framing g.V.Answerer.answering meaning (ServesLeft seats) (ServesFound (found last.readiness)) (ServesRound seats (found last.readiness)) seats.seats served ready.seats.seats service now after
     c.serve_left.ensures.goes_on (rw (same) c.serve_ready.ensures.goes_on) (left_both seats (found last.readiness)))
