@@ -1,25 +1,25 @@
 -- One round after another, and the links that came in them.
-use Rattle.std.proofs.Common.{◌≡◌, ◌⊎◌, inl, inr, ℕ, List, [], ◌∷◌, ◌++◌, Option, Some, None, IsSome, Result, Ok, Err, ◌≤◌, refl, sym, ap, ◌∙◌, subst, arith}
+use Rattle.std.proofs.Common.{◌≡◌, ◌⊎◌, inl, inr, ℕ, List, [], ◌∷◌, ◌++◌, Option, Some, None, IsSome, Result, Ok, Err, Bool, true, false, IsTrue, ◌≤◌, ◌+◌, ◌-◌, ◌^◌, length, refl, sym, ap, ◌∙◌, subst, arith, length-append}
 use Rattle.std.proofs.Math.Nat.{le_trans, le_refl}
 use Rattle.modbus_link.specs.Memory.{next_count}
 use Rattle.modbus_link.specs.declared.outside.Failed.{Failed}
 use Rattle.modbus_link.specs.declared.polled.Polled.{Polled}
 use Rattle.modbus_link.specs.declared.polled.Polled.TheVariants as polled
 use Rattle.modbus_turn.specs.declared.turn.Turn.{Turn}
-use Rattle.modbus_hub.specs.Accepts.{with_given, GivesByPolls, GivesLinks}
+use Rattle.modbus_hub.specs.Accepts.{with_given, GivesByPolls, GivesLinks, EndsIn, GivesUntil, IsNobody, IsFault}
 use Rattle.modbus_ready.specs.declared.readiness.Ready.{Ready}
 use Rattle.modbus_ready.specs.declared.readiness.Ready.TheVariants.{Peer, Link}
 use Rattle.modbus_hub.specs.Events.{Event, Refusal, no_watch, no_memory, came, refused, told, turned, dropped, KeyAccount, account_of, by_key, HasAnyTurn, links_of, counted_if, counted_over}
 use Rattle.modbus_hub.specs.Seats.{SeatsState, IsTurnOf, DropsNone, ServesInTurn, IsDrop}
-use Rattle.modbus_hub.specs.Turns.{ServerState, IsFound, TurnsFound, ServesFound, CountsDrops, Brings, ServesLeft, PeersCome, Comes, TakesRound}
+use Rattle.modbus_hub.specs.Turns.{ServerState, IsPeerFound, IsFound, TurnsFound, ServesFound, CountsDrops, Brings, ServesLeft, PeersCome, Comes, AcceptsWaiting, AcceptsAsked, AcceptsNext, TakesRound}
 use Rattle.modbus_hub.proofs.Histories.{links_more, none_both, turn_before, turn_after, stays_none, serves_both, turn_serves}
 
 counted_up : (a b : ℕ) → a ≤ b → next_count a ≤ next_count b
 counted_up a b h = grind (arith)
 
 -- a server of these parts
-abbrev pub state : {A S L : Type 0} → A → S → SeatsState L → ℕ → ServerState A S L
-state acceptor readiness seats unseated = record { acceptor = acceptor; readiness = readiness; seats = seats; unseated = unseated }
+abbrev pub state : {A S L : Type 0} → A → S → SeatsState L → ℕ → Bool → ServerState A S L
+state acceptor readiness seats unseated is_asked = record { acceptor = acceptor; readiness = readiness; seats = seats; unseated = unseated; is_asked = is_asked }
 
 no_link : (key : ℕ) → Peer ≡ Link key → ⊥
 no_link key e = cc
@@ -29,6 +29,15 @@ found_in key [] second is = inr is
 found_in key (ready ∷ first) second (inl e) = inl (inl e)
 found_in key (ready ∷ first) second (inr is) =
     elim (found_in key first second is) [
+      | inl there ↦ inl (inr there)
+      | inr there ↦ inr there
+    ]
+
+pub peer_in : (first second : List Ready) → IsPeerFound (first ++ second) → IsPeerFound first ⊎ IsPeerFound second
+peer_in [] second is = inr is
+peer_in (ready ∷ first) second (inl e) = inl (inl e)
+peer_in (ready ∷ first) second (inr is) =
+    elim (peer_in first second is) [
       | inl there ↦ inl (inr there)
       | inr there ↦ inr there
     ]
@@ -208,6 +217,19 @@ module _ {A L : Type 0} (accepts : A → Result (Polled L) Failed → A → Type
       let on = gives_both next b c polls later ys rest second in
       (poll ∷ on.0, (next, later ++ ys, accepted, ap (λ (l : List L). l ++ ys) e ∙ given_more poll later ys, on.1))
 
+  ends_on : (P : Result (Polled L) Failed → Type 0) (poll : Result (Polled L) Failed) (polls : List (Result (Polled L) Failed)) → EndsIn P polls → EndsIn P (poll ∷ polls)
+  ends_on P poll [] ends = absurd ends
+  ends_on P poll (next ∷ later) ends = ends
+
+  -- some polls, and then others until one is such a one
+  gives_until : (P : Result (Polled L) Failed → Type 0) (a b c : A) (polls : List (Result (Polled L) Failed)) (xs ys : List L) → GivesByPolls accepts a polls xs b → GivesUntil P accepts b ys c
+      → GivesUntil P accepts a (xs ++ ys) c
+  gives_until P a b c [] xs ys (none, same) second =
+      subst (λ (l : List L). GivesUntil P accepts a (l ++ ys) c) (sym none) (subst (λ (x : A). GivesUntil P accepts x ys c) same second)
+  gives_until P a b c (poll ∷ polls) xs ys (next, later, accepted, e, rest) second =
+      let on = gives_until P next b c polls later ys rest second in
+      (poll ∷ on.0, (next, later ++ ys, accepted, ap (λ (l : List L). l ++ ys) e ∙ given_more poll later ys, on.1), ends_on P poll on.0 on.2)
+
 module _ {A S L : Type 0} (accepts : A → Result (Polled L) Failed → A → Type 0) (faults : S → ℕ) where
   abbrev Server : Type 0
   Server = ServerState A S L
@@ -255,13 +277,64 @@ module _ {A S L : Type 0} (accepts : A → Result (Polled L) Failed → A → Ty
     counts = counts_none faults a b [] refl later count;
   }
 
+  -- peers came, and then they were accepted until nobody waits, or another may wait still
+  waits_after : (a now b : Server) (history xs ys : List (Event L)) → Came a now history xs → AcceptsWaiting accepts faults now b ys → AcceptsWaiting accepts faults a b (xs ++ ys)
+  waits_after a now b history xs ys first second =
+      let until : (P : Result (Polled L) Failed → Type 0) → GivesUntil P accepts now.acceptor (links_of ys) b.acceptor → GivesUntil P accepts a.acceptor (links_of (xs ++ ys)) b.acceptor =
+      λ P gives. subst (λ (l : List L). GivesUntil P accepts a.acceptor l b.acceptor) (sym (links_more xs ys))
+      (gives_until accepts P a.acceptor now.acceptor b.acceptor first.gives.0 (links_of xs) (links_of ys) first.gives.1 gives) in
+      elim second [
+        | inl nobody ↦ inl (until IsNobody nobody)
+        | inr waits ↦
+            inr (
+              waits.0,
+              elim waits.1 [
+                | inl full ↦ inl full
+                | inr other ↦
+                    inr (
+                    elim other [
+                      | inl fault ↦ inl (until IsFault fault)
+                      | inr many ↦ inr (omega (arith, many, ap length (links_more xs ys), length-append (links_of xs) (links_of ys)))
+                    ]
+                    )
+              ],
+            )
+      ]
+
+  -- so many peers came, and another may wait as before
+  abbrev pub AcceptsSome : ℕ → Server → Server → List (Event L) → List (Event L) → Type 0
+  AcceptsSome count a b history more = Accepted a b history more × (length (links_of more) ≡ count) × (b.is_asked ≡ a.is_asked)
+
+  pub accepts_none : (a : Server) (history : List (Event L)) → AcceptsSome 0 a a history []
+  accepts_none a history = ((none_come a a history [] refl (le_refl (faults a.readiness)) refl refl, tt), refl, refl)
+
+  pub accepts_more : (count : ℕ) (a now b : Server) (history xs ys : List (Event L)) → AcceptsSome count a now history xs → AcceptsNext accepts faults true now b (history ++ xs) ys
+      → AcceptsSome (count + 1) a b history (xs ++ ys)
+  accepts_more count a now b history xs ys first second = (
+    accepts_both a now b history xs ys first.0 second.0,
+    omega (arith, ap length (links_more xs ys), length-append (links_of xs) (links_of ys), first.1, second.1),
+    second.2 ∙ first.2,
+  )
+
+  pub accepts_last : (count : ℕ) (a now b : Server) (history xs ys : List (Event L)) → AcceptsSome count a now history xs → AcceptsNext accepts faults false now b (history ++ xs) ys
+      → AcceptsAsked accepts faults a b history (xs ++ ys)
+  accepts_last count a now b history xs ys first second =
+      (accepts_both a now b history xs ys first.0 second.0, λ asked. waits_after a now b history xs ys first.0.0 (second.1 (subst IsTrue (sym first.2) asked)))
+
+  -- as many came as a counter counts
+  pub accepts_many : (count : ℕ) (a b : Server) (history more : List (Event L)) → 2 ^ 64 - 1 ≤ count → AcceptsSome count a b history more → AcceptsAsked accepts faults a b history more
+  accepts_many count a b history more many some =
+      (some.0, λ asked. inr (subst IsTrue (sym some.2) asked, inr (inr (omega (arith, many, some.1)))))
+
   pub round_of : (found : S → List Ready) (a now b : Server) (history xs ys : List (Event L)) → now.acceptor ≡ a.acceptor → faults a.readiness ≤ faults now.readiness
-      → now.unseated ≡ a.unseated → ServesRound a.seats (found b.readiness) history xs → Accepted now b (history ++ xs) ys
+      → now.unseated ≡ a.unseated → ServesRound a.seats (found b.readiness) history xs → (IsTrue a.is_asked ⊎ IsPeerFound (found b.readiness) → IsTrue now.is_asked)
+      → AcceptsAsked accepts faults now b (history ++ xs) ys
       → TakesRound accepts faults found a b (Ok tt) history (xs ++ ys)
-  round_of found a now b history xs ys same later count first second = (
-    (comes_both a now b history xs ys (none_come a now history xs same later count first.0.0.0) second.0, none_both xs ys first.0.0.2 second.1),
+  round_of found a now b history xs ys same later count first asks second = (
+    (comes_both a now b history xs ys (none_come a now history xs same later count first.0.0.0) second.0.0, none_both xs ys first.0.0.2 second.0.1),
     λ left key spent. turn_after key xs ys (first.0.1 left key spent),
     λ key is here. turn_after key xs ys (first.1 key is here),
+    λ asked. waits_after a now b history xs ys (none_come a now history xs same later count first.0.0.0) (second.1 (asks asked)),
   )
 
   pub then_drops : (found : S → List Ready) (a now b : Server) (history xs ys : List (Event L)) → b.acceptor ≡ now.acceptor → b.readiness ≡ now.readiness → b.unseated ≡ now.unseated

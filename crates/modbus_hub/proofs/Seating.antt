@@ -2,6 +2,7 @@
 use Rattle.std.proofs.Common.{◌≡◌, ◌≢◌, inl, inr, ℕ, List, [], ◌∷◌, ◌++◌, Option, Some, None, refl, sym, ap, ◌∙◌, subst, append_assoc, append-nil, Ok, arith, Bool, true, false, IsTrue}
 use Rattle.std.proofs.lemmas.Bool.{cases_eq}
 use Rattle.std.proofs.lemmas.List.Elements.{All-nil}
+use Rattle.modbus_link.specs.Line.{LinkMeaning}
 use Rattle.modbus_link.specs.Passes.{Passes, passes_none}
 use Rattle.modbus_server.specs.Framing.{Framing}
 use Rattle.modbus_server.specs.Exchanges.{ReplyFits}
@@ -11,7 +12,7 @@ use Rattle.modbus_turn.specs.declared.turn.Turn.TheVariants.{Waiting, Spent, Ove
 use Rattle.modbus_turn.specs.Turn.{StandsAlone, TurnLeaves, TakesTurn, is_going_on, is_spent}
 use Rattle.slab.specs.Slab.{Slab, get, Updates}
 use Rattle.modbus_hub.specs.Events.{Event, Refusal, came, refused, turned, dropped, Place, Account, begun_with, KeyAccount, after_turn, account_of, by_key, HasAnyTurn}
-use Rattle.modbus_hub.specs.Seats.{PolledMeaning, turns, EndsTurn, RunsOn, IsSeatedAs, AreSeated, SeatsGoOn, IsTurnOf, ServesInTurn, Admits, IsDrop, is_spent_at}
+use Rattle.modbus_hub.specs.Seats.{PolledMeaning, polled_by, turns, EndsTurn, RunsOn, IsSeatedAs, AreSeated, SeatsGoOn, IsTurnOf, ServesInTurn, Admits, IsDrop, UsesUp, is_spent_at}
 use Rattle.modbus_hub.proofs.Histories.{at_key, off_key, account_more, account_told, account_other, runs_both, runs_told, turn_serves}
 use Rattle.modbus_link.specs.Outside.{outside, Rose}
 
@@ -24,6 +25,11 @@ left_by (Over result) place = None
 -- a write of a value, and then another at the same key
 pub updates_both : {X : Type 0} (a b c : Slab X) (key : ℕ) (x y : Option X) → Updates a b key x → Updates b c key y → Updates a c key y
 updates_both a b c key x y first second = record { changed = second.changed; others = λ other differs. second.others other differs ∙ first.others other differs }
+
+-- a turn has as many reads as before
+pub go_under : (F : Framing) {S : Type 0} (A : Answering S) {L : Type 0} (link : LinkMeaning L) (not_ready : L → ℕ) (now then : ℕ) (P : List (Event L) → List (Event L) → Type 0)
+    (a b : Slab (Place L)) (s t : S) → now ≡ then → SeatsGoOn F A (polled_by link not_ready now) P a b s t → SeatsGoOn F A (polled_by link not_ready then) P a b s t
+go_under F A link not_ready now then P a b s t e goes = subst (λ (n : ℕ). SeatsGoOn F A (polled_by link not_ready n) P a b s t) e goes
 
 module _ (F : Framing) {S : Type 0} (A : Answering S) {L : Type 0} (M : PolledMeaning L) where
   abbrev Seated : KeyAccount L → Option (Place L) → Type 0
@@ -226,10 +232,10 @@ module _ (F : Framing) {S : Type 0} (A : Answering S) {L : Type 0} (M : PolledMe
   -- the connection under a key had its turn
   module _ (key : ℕ) (olds news : Slab (Place L)) (old new : Place L) (before after : S) (here : get olds key ≡ Some old) where
     ends_so : (account : Account L) (ends : S) (turn : Turn) → old.seat.link ≡ account.last → (turn ≡ Waiting → Rose (M.not_ready old.seat.link) (M.not_ready new.seat.link))
-        → TurnLeaves F A M.link turns account.first account.own new.seat ends after turn → EndsTurn F A M (Some account) new.seat.link ends after turn
-    ends_so account ends Waiting last waited leaves = (leaves.0, subst (λ (l : L). Rose (M.not_ready l) (M.not_ready new.seat.link)) last (waited refl))
-    ends_so account ends Spent last waited leaves = leaves.0
-    ends_so account ends (Over result) last waited leaves = leaves
+        → (turn ≡ Spent → UsesUp M.link M.reads old.seat.link new.seat.link) → TurnLeaves F A M.link turns account.first account.own new.seat ends after turn → EndsTurn F A M (Some account) new.seat.link ends after turn
+    ends_so account ends Waiting last waited used leaves = (leaves.0, subst (λ (l : L). Rose (M.not_ready l) (M.not_ready new.seat.link)) last (waited refl))
+    ends_so account ends Spent last waited used leaves = (leaves.0, subst (λ (l : L). UsesUp M.link M.reads l new.seat.link) last (used refl))
+    ends_so account ends (Over result) last waited used leaves = leaves
 
     sits_so : (account : Account L) (ends : S) (turn : Turn) → new.seat.process.connection.is_open ≡ is_going_on turn → new.is_spent ≡ is_spent turn
         → TurnLeaves F A M.link turns account.first account.own new.seat ends after turn → Seated (after_turn new.seat.link turn (Some account)) (left_by turn new)
@@ -238,9 +244,9 @@ module _ (F : Framing) {S : Type 0} (A : Answering S) {L : Type 0} (M : PolledMe
     sits_so account ends (Over result) is_open spent leaves = tt
 
     pub served : (turn : Turn) → TakesTurn F A M.link old.seat new.seat before after turn → new.seat.process.connection.is_open ≡ is_going_on turn
-        → (turn ≡ Waiting → Rose (M.not_ready old.seat.link) (M.not_ready new.seat.link)) → new.is_spent ≡ is_spent turn
+        → (turn ≡ Waiting → Rose (M.not_ready old.seat.link) (M.not_ready new.seat.link)) → (turn ≡ Spent → UsesUp M.link M.reads old.seat.link new.seat.link) → new.is_spent ≡ is_spent turn
         → Updates olds news key (left_by turn new) → SeatsGoOn F A M (IsTurnOf key (Some turn)) olds news before after
-    served turn takes is_open waited spent u start history all =
+    served turn takes is_open waited used spent u start history all =
         let entry = seated_some (account_of key None history) old (subst (λ (p : Option (Place L)). Seated (account_of key None history) p) here (all.each key)) in
         let was = entry.account in
         let on = takes turns was.first was.own entry.stands in
@@ -258,7 +264,7 @@ module _ (F : Framing) {S : Type 0} (A : Answering S) {L : Type 0} (M : PolledMe
         λ k differs. account_more k None history more ∙ account_more k (account_of k None history) (by_key key fresh) last
         ∙ ap (λ (a : KeyAccount L). account_of k a last) (account_other k key (account_of k None history) fresh (λ e. differs (sym e)))
         ∙ off_key k key (after_turn new.seat.link turn (account_of k None history)) (account_of k None history) (λ e. differs (sym e)) in
-        let ending = subst (λ (a : KeyAccount L). EndsTurn F A M a new.seat.link on.1 after turn) (sym then_told) (ends_so now on.1 turn entry.last waited on.3) in (
+        let ending = subst (λ (a : KeyAccount L). EndsTurn F A M a new.seat.link on.1 after turn) (sym then_told) (ends_so now on.1 turn entry.last waited used on.3) in (
           more,
           record {
             run = runs_both F A M [] history more start before after all.run

@@ -38,21 +38,27 @@ KeepsLimit old new = (new.reads ≡ old.reads) × (new.most ≡ old.most) × (sl
 abbrev pub turns : ℕ
 turns = 2 ^ 64 - 1
 
--- what a contract knows of a link that is polled: its ends, and how often it was not ready
+-- Of a link that tells its content: so many of its reads gave bytes, no more and no fewer.
+abbrev pub UsesUp : {L : Type 0} → LinkMeaning L → ℕ → L → L → Type 0
+UsesUp M reads old new = IsTrue (M.input old).told → length (cuts_made (M.input old) (M.input new)) ≡ reads
+
+-- what a contract knows of a link that is polled: its ends, how often it was not ready, and how many of its reads in a turn may give bytes
 pub record PolledMeaning (L : Type 0) : Type 1 where
   pub link : LinkMeaning L
   pub not_ready : L → ℕ
+  pub reads : ℕ
 
-abbrev pub polled_by : {L : Type 0} → LinkMeaning L → (L → ℕ) → PolledMeaning L
-polled_by link not_ready = record { link = link; not_ready = not_ready }
+abbrev pub polled_by : {L : Type 0} → LinkMeaning L → (L → ℕ) → ℕ → PolledMeaning L
+polled_by link not_ready reads = record { link = link; not_ready = not_ready; reads = reads }
 
 module _ (F : Framing) {S : Type 0} (A : Answering S) {L : Type 0} (M : PolledMeaning L) where
   -- Where the connection with this account had a turn that ended so, the service goes from one state to another. It stays, but where the
-  -- connection is over for want of memory, which may leave the service in another state. One that waits asked its link, which was not ready.
+  -- connection is over for want of memory, which may leave the service in another state. One that waits asked its link, which was not ready. One whose reads
+  -- were used up read as often as a turn may.
   abbrev pub EndsTurn : KeyAccount L → L → S → S → Turn → Type 0
   EndsTurn None last old new turn = ⊥
   EndsTurn (Some account) last old new Waiting = (new ≡ old) × Rose (M.not_ready account.last) (M.not_ready last)
-  EndsTurn (Some account) last old new Spent = new ≡ old
+  EndsTurn (Some account) last old new Spent = (new ≡ old) × UsesUp M.link M.reads account.last last
   EndsTurn (Some account) last old new (Over result) = RanAlone F A M.link turns account.first account.own last old new result
 
   -- what an event after these does to the service

@@ -1,11 +1,11 @@
 -- What a server of many connections on one thread does, round by round.
-use Rattle.std.specs.Prelude.{◌≡◌, ◌⊎◌, ℕ, ◌≤◌, List, [], ◌∷◌, None, IsSome, Result, Ok, Err, IsTrue}
+use Rattle.std.specs.Prelude.{◌≡◌, ◌⊎◌, ℕ, ◌-◌, ◌^◌, ◌≤◌, List, [], ◌∷◌, length, None, IsSome, Result, Ok, Err, Bool, true, false, IsTrue}
 use Rattle.modbus_link.specs.declared.outside.Failed.{Failed}
 use Rattle.modbus_link.specs.declared.polled.Polled.{Polled}
-use Rattle.slab.specs.Slab.{get}
+use Rattle.slab.specs.Slab.{get, slab_len}
 use Rattle.modbus_ready.specs.declared.readiness.Ready.{Ready}
-use Rattle.modbus_ready.specs.declared.readiness.Ready.TheVariants.{Link}
-use Rattle.modbus_hub.specs.Accepts.{GivesLinks}
+use Rattle.modbus_ready.specs.declared.readiness.Ready.TheVariants.{Peer, Link}
+use Rattle.modbus_hub.specs.Accepts.{GivesLinks, GivesUntil, IsNobody, IsFault}
 use Rattle.modbus_hub.specs.Events.{Event, no_watch, no_memory, account_of, HasAnyTurn, links_of, counted_over}
 use Rattle.modbus_hub.specs.Seats.{SeatsState, DropsNone, ServesInTurn, is_spent_at}
 
@@ -16,11 +16,18 @@ pub record ServerState (A S L : Type 0) : Type 0 where
   pub seats : SeatsState L
   -- how many links were dropped at once, since memory was refused for their connections
   pub unseated : ℕ
+  -- whether a peer may wait to be accepted
+  pub is_asked : Bool
 
 -- the link under this key was found ready
 abbrev pub IsFound : ℕ → List Ready → Type 0
 IsFound key [] = ⊥
 IsFound key (ready ∷ found) = (ready ≡ Link key) ⊎ IsFound key found
+
+-- a peer was found to wait
+abbrev pub IsPeerFound : List Ready → Type 0
+IsPeerFound [] = ⊥
+IsPeerFound (ready ∷ found) = (ready ≡ Peer) ⊎ IsPeerFound found
 
 -- each connection whose link was found ready had a turn
 abbrev pub TurnsFound : {L : Type 0} → List Ready → List (Event L) → List (Event L) → Type 0
@@ -61,8 +68,27 @@ module _ {A S L : Type 0} (accepts : A → Result (Polled L) Failed → A → Ty
   abbrev pub PeersCome : ServerState A S L → ServerState A S L → List (Event L) → List (Event L) → Type 0
   PeersCome old new history more = Comes old new history more × DropsNone more
 
+  -- Peers were accepted until nobody waits. Or another may wait still, since there are as many connections as there may be, the acceptor
+  -- failed, or as many links came as a `u64` counts.
+  abbrev pub AcceptsWaiting : ServerState A S L → ServerState A S L → List (Event L) → Type 0
+  AcceptsWaiting old new more = GivesUntil IsNobody accepts old.acceptor (links_of more) new.acceptor ⊎ (
+      IsTrue new.is_asked
+      × ((new.seats.most ≤ slab_len new.seats.seats) ⊎ GivesUntil IsFault accepts old.acceptor (links_of more) new.acceptor ⊎ (2 ^ 64 - 1 ≤ length (links_of more)))
+      )
+
+  -- peers came, and where one may wait they were accepted so
+  abbrev pub AcceptsAsked : ServerState A S L → ServerState A S L → List (Event L) → List (Event L) → Type 0
+  AcceptsAsked old new history more = PeersCome old new history more × (IsTrue old.is_asked → AcceptsWaiting old new more)
+
+  -- one came, and another may wait as before
+  abbrev pub AcceptsNext : Bool → ServerState A S L → ServerState A S L → List (Event L) → List (Event L) → Type 0
+  AcceptsNext true old new history more = PeersCome old new history more × (length (links_of more) ≡ 1) × (new.is_asked ≡ old.is_asked)
+  AcceptsNext false old new history more = AcceptsAsked old new history more
+
   -- One round: the links that came are just those that the acceptor gave, each connection whose reads were used up before had another
-  -- turn, and so had each whose link the source of readiness found ready. None was let go. A round that fails is none.
+  -- turn, and so had each whose link the source of readiness found ready. Where a peer may have waited before, or was found to, peers
+  -- were accepted until none waits, or another may wait still. None was let go. A round that fails is none.
   abbrev pub TakesRound : (S → List Ready) → ServerState A S L → ServerState A S L → Result (Unit {0}) Failed → List (Event L) → List (Event L) → Type 0
   TakesRound found old new (Ok done) history more = PeersCome old new history more × TurnsLeft old.seats more × TurnsFound (found new.readiness) history more
+      × (IsTrue old.is_asked ⊎ IsPeerFound (found new.readiness) → AcceptsWaiting old new more)
   TakesRound found old new (Err failed) history more = (more ≡ []) × (new.acceptor ≡ old.acceptor) × (new.unseated ≡ old.unseated)

@@ -5,7 +5,7 @@ ghost use Rattle.modbus_link.specs.Outside.{Rose};
 ghost use Rattle.modbus_server.specs.Polled.{Rests};
 ghost use Rattle.modbus_turn.specs.declared.turn.Turn.TheVariants.{Waiting, Spent};
 ghost use Rattle.modbus_turn.specs.Turn.{is_going_on, is_spent, TakesTurn};
-ghost use Rattle.modbus_hub.specs.Seats.{turns, TakesFew};
+ghost use Rattle.modbus_hub.specs.Seats.{turns, TakesFew, UsesUp};
 
 use modbus_link::PolledLink;
 use modbus_server::{Answerer, Framing, PolledProcess};
@@ -85,6 +85,8 @@ impl<I: Framing, L: PolledLink + Drop> Seat<I, L> {
             → Rose (L.not_ready self.old.seat.link) (L.not_ready self.new.seat.link) }
         ensures bounded { TakesFew (meaning_of L.input L.output L.line) reads self.old.seat.link
             self.new.seat.link }
+        ensures used { result ≡ Spent → UsesUp (meaning_of L.input L.output L.line) reads
+            self.old.seat.link self.new.seat.link }
         ensures fresh { self.new.is_fresh ≡ true }
         ensures spent { self.new.is_spent ≡ is_spent result }
     {

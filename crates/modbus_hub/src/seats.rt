@@ -99,7 +99,7 @@ impl<I: Framing, L: PolledLink + Drop> Seats<I, L> {
         ensures one { OneMore self.old self.new }
         ensures key { IfOk result (λ key. key ≡ self.old.seats.vacant_key) }
         ensures goes_on { SeatsGoOn I.framing V.answering
-            (polled_by (meaning_of L.input L.output L.line) L.not_ready)
+            (polled_by (meaning_of L.input L.output L.line) L.not_ready self.old.reads)
             (Admits link result) self.old.seats self.new.seats service.now.service
             service.now.service }
     {
@@ -120,7 +120,7 @@ impl<I: Framing, L: PolledLink + Drop> Seats<I, L> {
     pub fn serve<V: Answerer>(&mut self, key: usize, service: &mut InTurn<V>) -> Option<Turn>
         ensures own { service.new.ahead ≡ [] }
         ensures goes_on { SeatsGoOn I.framing V.answering
-            (polled_by (meaning_of L.input L.output L.line) L.not_ready)
+            (polled_by (meaning_of L.input L.output L.line) L.not_ready self.old.reads)
             (IsTurnOf key result) self.old.seats self.new.seats service.old.service
             service.new.service }
         ensures others { (other : _) → other ≢ key
@@ -166,7 +166,7 @@ impl<I: Framing, L: PolledLink + Drop> Seats<I, L> {
     fn serve_if_spent<V: Answerer>(&mut self, key: usize, service: &mut InTurn<V>)
         ensures own { service.new.ahead ≡ [] }
         ensures goes_on { SeatsGoOn I.framing V.answering
-            (polled_by (meaning_of L.input L.output L.line) L.not_ready)
+            (polled_by (meaning_of L.input L.output L.line) L.not_ready self.old.reads)
             (TurnsIfSpent key (get self.old.seats key)) self.old.seats self.new.seats
             service.old.service service.new.service }
         ensures others { (other : ℕ) → other ≢ key
@@ -184,7 +184,7 @@ impl<I: Framing, L: PolledLink + Drop> Seats<I, L> {
     pub fn serve_spent<V: Answerer>(&mut self, service: &mut InTurn<V>)
         ensures own { service.new.ahead ≡ [] }
         ensures goes_on { SeatsGoOn I.framing V.answering
-            (polled_by (meaning_of L.input L.output L.line) L.not_ready)
+            (polled_by (meaning_of L.input L.output L.line) L.not_ready self.old.reads)
             (ServesSpent self.old.seats) self.old.seats self.new.seats service.old.service
             service.new.service }
         ensures no_more { NoMore self.old self.new }
@@ -199,7 +199,7 @@ impl<I: Framing, L: PolledLink + Drop> Seats<I, L> {
     // Lets the connection under a key go, unless it was served since this was last asked, or is new.
     fn drop_if_idle<V: Answerer>(&mut self, key: usize, service: &InTurn<V>)
         ensures goes_on { SeatsGoOn I.framing V.answering
-            (polled_by (meaning_of L.input L.output L.line) L.not_ready)
+            (polled_by (meaning_of L.input L.output L.line) L.not_ready self.old.reads)
             IsDrop self.old.seats self.new.seats service.now.service service.now.service }
         ensures lets_go { Updates self.old.seats self.new.seats key
             (kept (get self.old.seats key)) }
@@ -219,7 +219,7 @@ impl<I: Framing, L: PolledLink + Drop> Seats<I, L> {
     /// Lets each connection go that was not served since the last call of this, and came before it. The others stay as they are.
     pub fn drop_idle<V: Answerer>(&mut self, service: &InTurn<V>)
         ensures goes_on { SeatsGoOn I.framing V.answering
-            (polled_by (meaning_of L.input L.output L.line) L.not_ready)
+            (polled_by (meaning_of L.input L.output L.line) L.not_ready self.old.reads)
             IsDrop self.old.seats self.new.seats service.now.service service.now.service }
         ensures lets_go { (key : ℕ) → get self.new.seats key ≡ kept (get self.old.seats key) }
         ensures spent { self.new.has_spent ≡ self.old.has_spent }

@@ -1,10 +1,11 @@
 //! Accepting connections and serving those that are ready.
-ghost use Rattle.std.specs.Prelude.{◌≡◌, ◌==◌, ◌≤◌, ℕ, ◌∷◌, [], Ok, OnOk, OnErr};
+ghost use Rattle.std.specs.Prelude.{◌≡◌, ◌==◌, ◌≤◌, ℕ, ◌∷◌, [], Ok, OnOk, OnErr, IsTrue};
+ghost use Rattle.modbus_ready.specs.declared.readiness.Ready.TheVariants.{Peer};
 ghost use Rattle.modbus_link.specs.Line.{meaning_of};
 ghost use Rattle.modbus_link.specs.Outside.{Rose};
 ghost use Rattle.slab.specs.Slab.{get, slab_len};
 ghost use Rattle.modbus_hub.specs.Seats.{SeatsGoOn, polled_by, IsDrop, NoMore, OneMore, KeepsLimit, kept};
-ghost use Rattle.modbus_hub.specs.Turns.{PeersCome, Brings, Comes, ServesFound, ServesLeft, TakesRound};
+ghost use Rattle.modbus_hub.specs.Turns.{AcceptsNext, AcceptsAsked, Brings, Comes, IsPeerFound, ServesFound, ServesLeft, TakesRound};
 
 use crate::seats::{Limits, Seats};
 use modbus_frame::Terminated;
@@ -34,7 +35,8 @@ pub struct EventServer<I: Framing, A: PolledAcceptor, S> {
     unseated: u64,
 }
 
-/// A contract sees the acceptor, the source of readiness, the connections, and how many links were dropped for want of memory.
+/// A contract sees the acceptor, the source of readiness, the connections, how many links were dropped for want of memory, and whether a
+/// peer may wait.
 impl<I: Framing, A: PolledAcceptor, S> Model for EventServer<I, A, S> {
     ghost use Rattle.modbus_hub.specs.Turns.{ServerState};
 
@@ -45,6 +47,7 @@ impl<I: Framing, A: PolledAcceptor, S> Model for EventServer<I, A, S> {
       readiness = it.readiness;
       seats = it.seats;
       unseated = it.unseated;
+      is_asked = it.is_asked;
     } };
 }
 
@@ -63,6 +66,7 @@ where
         ensures reads { result.seats.reads ≡ limits.reads }
         ensures most { result.seats.most ≡ limits.connections }
         ensures unseated { result.unseated ≡ 0 }
+        ensures asked { IsTrue result.is_asked }
     {
         EventServer {
             acceptor,
@@ -100,8 +104,10 @@ where
         ensures found { S.found self.new.readiness ≡ S.found self.old.readiness }
         ensures later { S.faults self.old.readiness ≤ S.faults self.new.readiness }
         ensures one { OneMore self.old.seats self.new.seats }
+        ensures asked { self.new.is_asked ≡ self.old.is_asked }
         ensures goes_on { SeatsGoOn I.framing V.answering
-            (polled_by (meaning_of A.Link.input A.Link.output A.Link.line) A.Link.not_ready)
+            (polled_by (meaning_of A.Link.input A.Link.output A.Link.line) A.Link.not_ready
+            self.old.seats.reads)
             (Brings S.faults link self.old self.new) self.old.seats.seats self.new.seats.seats
             service.now.service service.now.service }
     {
@@ -123,8 +129,10 @@ where
         ensures later { S.faults self.old.readiness ≤ S.faults self.new.readiness }
         ensures limit { KeepsLimit self.old.seats self.new.seats }
         ensures goes_on { SeatsGoOn I.framing V.answering
-            (polled_by (meaning_of A.Link.input A.Link.output A.Link.line) A.Link.not_ready)
-            (PeersCome A.accepts S.faults self.old self.new) self.old.seats.seats self.new.seats.seats
+            (polled_by (meaning_of A.Link.input A.Link.output A.Link.line) A.Link.not_ready
+            self.old.seats.reads)
+            (AcceptsNext A.accepts S.faults result self.old self.new) self.old.seats.seats
+            self.new.seats.seats
             service.now.service service.now.service }
     {
         let _service = service;
@@ -150,8 +158,10 @@ where
         ensures later { S.faults self.old.readiness ≤ S.faults self.new.readiness }
         ensures limit { KeepsLimit self.old.seats self.new.seats }
         ensures goes_on { SeatsGoOn I.framing V.answering
-            (polled_by (meaning_of A.Link.input A.Link.output A.Link.line) A.Link.not_ready)
-            (PeersCome A.accepts S.faults self.old self.new) self.old.seats.seats self.new.seats.seats
+            (polled_by (meaning_of A.Link.input A.Link.output A.Link.line) A.Link.not_ready
+            self.old.seats.reads)
+            (AcceptsAsked A.accepts S.faults self.old self.new) self.old.seats.seats
+            self.new.seats.seats
             service.now.service service.now.service }
     {
         let _service = service;
@@ -169,8 +179,11 @@ where
         ensures readiness { self.new.readiness ≡ self.old.readiness }
         ensures unseated { self.new.unseated ≡ self.old.unseated }
         ensures no_more { NoMore self.old.seats self.new.seats }
+        ensures waits { IsTrue self.old.is_asked → IsTrue self.new.is_asked }
+        ensures asked { ready ≡ Peer → IsTrue self.new.is_asked }
         ensures goes_on { SeatsGoOn I.framing V.answering
-            (polled_by (meaning_of A.Link.input A.Link.output A.Link.line) A.Link.not_ready)
+            (polled_by (meaning_of A.Link.input A.Link.output A.Link.line) A.Link.not_ready
+            self.old.seats.reads)
             (ServesFound (ready ∷ []))
             self.old.seats.seats self.new.seats.seats service.old.service service.new.service }
     {
@@ -192,8 +205,11 @@ where
         ensures readiness { self.new.readiness ≡ self.old.readiness }
         ensures unseated { self.new.unseated ≡ self.old.unseated }
         ensures no_more { NoMore self.old.seats self.new.seats }
+        ensures waits { IsTrue self.old.is_asked → IsTrue self.new.is_asked }
+        ensures asked { IsPeerFound (S.found self.old.readiness) → IsTrue self.new.is_asked }
         ensures goes_on { SeatsGoOn I.framing V.answering
-            (polled_by (meaning_of A.Link.input A.Link.output A.Link.line) A.Link.not_ready)
+            (polled_by (meaning_of A.Link.input A.Link.output A.Link.line) A.Link.not_ready
+            self.old.seats.reads)
             (ServesFound (S.found self.old.readiness)) self.old.seats.seats self.new.seats.seats
             service.old.service service.new.service }
     {
@@ -211,8 +227,10 @@ where
         ensures readiness { self.new.readiness ≡ self.old.readiness }
         ensures unseated { self.new.unseated ≡ self.old.unseated }
         ensures no_more { NoMore self.old.seats self.new.seats }
+        ensures asked { self.new.is_asked ≡ self.old.is_asked }
         ensures goes_on { SeatsGoOn I.framing V.answering
-            (polled_by (meaning_of A.Link.input A.Link.output A.Link.line) A.Link.not_ready)
+            (polled_by (meaning_of A.Link.input A.Link.output A.Link.line) A.Link.not_ready
+            self.old.seats.reads)
             (ServesLeft self.old.seats)
             self.old.seats.seats self.new.seats.seats service.old.service service.new.service }
     {
@@ -229,8 +247,10 @@ where
         ensures later { S.faults self.old.readiness ≤ S.faults self.new.readiness }
         ensures limit { KeepsLimit self.old.seats self.new.seats }
         ensures goes_on { SeatsGoOn I.framing V.answering
-            (polled_by (meaning_of A.Link.input A.Link.output A.Link.line) A.Link.not_ready)
-            (PeersCome A.accepts S.faults self.old self.new) self.old.seats.seats self.new.seats.seats
+            (polled_by (meaning_of A.Link.input A.Link.output A.Link.line) A.Link.not_ready
+            self.old.seats.reads)
+            (AcceptsAsked A.accepts S.faults self.old self.new) self.old.seats.seats
+            self.new.seats.seats
             service.now.service service.now.service }
     {
         let _service = service;
@@ -267,7 +287,8 @@ where
             (S.faults self.new.readiness)) }
         ensures limit { KeepsLimit self.old.seats self.new.seats }
         ensures goes_on { SeatsGoOn I.framing V.answering
-            (polled_by (meaning_of A.Link.input A.Link.output A.Link.line) A.Link.not_ready)
+            (polled_by (meaning_of A.Link.input A.Link.output A.Link.line) A.Link.not_ready
+            self.old.seats.reads)
             (TakesRound A.accepts S.faults S.found self.old self.new result) self.old.seats.seats
             self.new.seats.seats service.old.service service.new.service }
     {
@@ -291,7 +312,8 @@ where
         ensures unseated { self.new.unseated ≡ self.old.unseated }
         ensures no_more { NoMore self.old.seats self.new.seats }
         ensures goes_on { SeatsGoOn I.framing V.answering
-            (polled_by (meaning_of A.Link.input A.Link.output A.Link.line) A.Link.not_ready) IsDrop
+            (polled_by (meaning_of A.Link.input A.Link.output A.Link.line) A.Link.not_ready
+            self.old.seats.reads) IsDrop
             self.old.seats.seats
             self.new.seats.seats service.now.service service.now.service }
         ensures lets_go { (key : ℕ) → get self.new.seats.seats key
@@ -314,7 +336,8 @@ where
             (S.faults self.new.readiness)) }
         ensures limit { KeepsLimit self.old.seats self.new.seats }
         ensures goes_on { SeatsGoOn I.framing V.answering
-            (polled_by (meaning_of A.Link.input A.Link.output A.Link.line) A.Link.not_ready)
+            (polled_by (meaning_of A.Link.input A.Link.output A.Link.line) A.Link.not_ready
+            self.old.seats.reads)
             (Comes A.accepts S.faults self.old self.new) self.old.seats.seats self.new.seats.seats
             service.old.service service.new.service }
     {
@@ -355,7 +378,8 @@ where
             (S.faults self.new.readiness)) }
         ensures limit { KeepsLimit self.old.seats self.new.seats }
         ensures goes_on { SeatsGoOn I.framing V.answering
-            (polled_by (meaning_of A.Link.input A.Link.output A.Link.line) A.Link.not_ready)
+            (polled_by (meaning_of A.Link.input A.Link.output A.Link.line) A.Link.not_ready
+            self.old.seats.reads)
             (Comes A.accepts S.faults self.old self.new) self.old.seats.seats self.new.seats.seats
             service.old.service service.new.service }
     {

@@ -14,8 +14,8 @@ keys-preserved g c =
     let u = c.drop_if_idle.ensures.lets_go in (
       c.drop_if_idle.ensures.spent ∙ c.keys.invariant.0,
       none_more c.args.self.now c.keys.self c.drop_if_idle.new.self c.keys.invariant.1 c.drop_if_idle.ensures.no_more,
-      go_both g.I.Framing.framing g.V.Answerer.answering (polled_by (meaning_of g.L.Ends.input g.L.Ends.output g.L.Ends.line) g.L.PolledLink.not_ready) IsDrop IsDrop IsDrop old now next c.args.service.now.service c.args.service.now.service c.args.service.now.service
-          c.keys.invariant.2 c.drop_if_idle.ensures.goes_on drops_both,
+      go_both g.I.Framing.framing g.V.Answerer.answering (polled_by (meaning_of g.L.Ends.input g.L.Ends.output g.L.Ends.line) g.L.PolledLink.not_ready c.args.self.now.reads) IsDrop IsDrop IsDrop old now next c.args.service.now.service c.args.service.now.service c.args.service.now.service
+          c.keys.invariant.2 (rw (c.keys.invariant.1.0) at c.drop_if_idle.ensures.goes_on) drops_both,
       drops_below old now next c.keys.key u c.keys.invariant.3 c.keys.invariant.4,
       same_above old now next c.keys.key u.others c.keys.invariant.4,
     )

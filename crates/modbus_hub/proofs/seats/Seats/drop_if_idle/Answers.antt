@@ -11,12 +11,12 @@ returns-then-take_fresh-clause-goes_on g c =
     let olds = c.self.inside.seats in
     let here : get olds c.args.key ≡ Some c.in-Some.idle.now = search rules in
     let present : ContainsKey olds c.args.key = search rules in
-    rw (← c.self.view_is) (kept_fresh g.I.Framing.framing g.V.Answerer.answering (polled_by (meaning_of g.L.Ends.input g.L.Ends.output g.L.Ends.line) g.L.PolledLink.not_ready) c.args.key olds _ c.in-Some.idle.now c.take_fresh.new.self c.args.service.now.service here
+    rw (← c.self.view_is) (kept_fresh g.I.Framing.framing g.V.Answerer.answering (polled_by (meaning_of g.L.Ends.input g.L.Ends.output g.L.Ends.line) g.L.PolledLink.not_ready c.self.inside.limits.reads) c.args.key olds _ c.in-Some.idle.now c.take_fresh.new.self c.args.service.now.service here
     c.take_fresh.ensures.now (Updates-with_value olds c.args.key c.take_fresh.new.self present))
 
 pub returns-clause-goes_on : goal.returns-clause-goes_on
 returns-clause-goes_on g c =
     let olds = c.self.inside.seats in
     let present : ContainsKey olds c.args.key = search rules in
-    rw (← c.self.view_is) (let_go g.I.Framing.framing g.V.Answerer.answering (polled_by (meaning_of g.L.Ends.input g.L.Ends.output g.L.Ends.line) g.L.PolledLink.not_ready) c.args.key olds c.try_remove.new.self c.args.service.now.service
+    rw (← c.self.view_is) (let_go g.I.Framing.framing g.V.Answerer.answering (polled_by (meaning_of g.L.Ends.input g.L.Ends.output g.L.Ends.line) g.L.PolledLink.not_ready c.self.inside.limits.reads) c.args.key olds c.try_remove.new.self c.args.service.now.service
     (updates_both olds _ c.try_remove.new.self c.args.key _ _ (Updates-with_value olds c.args.key c.take_fresh.new.self present) c.try_remove.ensures.updates))

@@ -8,7 +8,7 @@ use Rattle.modbus_hub.proofs.seats.Seats.serve_if_spent.Goals as goal
 
 pub returns-then-is_spent-clause-goes_on : goal.returns-then-is_spent-clause-goes_on
 returns-then-is_spent-clause-goes_on g c =
-    let meaning = polled_by (meaning_of g.L.Ends.input g.L.Ends.output g.L.Ends.line) g.L.PolledLink.not_ready in
+    let meaning = polled_by (meaning_of g.L.Ends.input g.L.Ends.output g.L.Ends.line) g.L.PolledLink.not_ready c.args.self.now.reads in
     let spent : IsTrue (is_spent_at (get c.args.self.now.seats c.args.key)) = search rules in
     go_as g.I.Framing.framing g.V.Answerer.answering meaning (Turned g.I.Framing.framing g.V.Answerer.answering meaning c.args.key) (TurnsIfSpent c.args.key (get c.args.self.now.seats c.args.key))
     c.args.self.now.seats c.serve.new.self.seats c.args.service.now.service c.serve.new.service.service
@@ -21,6 +21,6 @@ no_both b e f = cc
 pub returns-else-is_spent-clause-goes_on : goal.returns-else-is_spent-clause-goes_on
 returns-else-is_spent-clause-goes_on g c =
     let unspent : is_spent_at (get c.args.self.now.seats c.args.key) ≡ false = search rules in
-    go_same g.I.Framing.framing g.V.Answerer.answering (polled_by (meaning_of g.L.Ends.input g.L.Ends.output g.L.Ends.line) g.L.PolledLink.not_ready) (TurnsIfSpent c.args.key (get c.args.self.now.seats c.args.key))
+    go_same g.I.Framing.framing g.V.Answerer.answering (polled_by (meaning_of g.L.Ends.input g.L.Ends.output g.L.Ends.line) g.L.PolledLink.not_ready c.args.self.now.reads) (TurnsIfSpent c.args.key (get c.args.self.now.seats c.args.key))
     c.args.self.now.seats c.args.self.now.seats c.args.service.now.service (λ key. refl)
     (λ start history all. ((refl, stays_none history, tt), λ spent. absurd (no_both (is_spent_at (get c.args.self.now.seats c.args.key)) unspent spent)))

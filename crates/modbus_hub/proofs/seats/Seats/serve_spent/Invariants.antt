@@ -7,5 +7,5 @@ use Rattle.modbus_hub.proofs.seats.Seats.serve_spent.Given as goal
 
 abbrev pub invariant-keys : goal.invariant-keys
 invariant-keys g l = (l.service.ahead ≡ []) × NoMore l.fn.self l.self
-    × SeatsGoOn g.I.Framing.framing g.V.Answerer.answering (polled_by (meaning_of g.L.Ends.input g.L.Ends.output g.L.Ends.line) g.L.PolledLink.not_ready) (ServesBelow l.key l.fn.self.seats) l.fn.self.seats l.self.seats l.fn.service.service l.service.service
+    × SeatsGoOn g.I.Framing.framing g.V.Answerer.answering (polled_by (meaning_of g.L.Ends.input g.L.Ends.output g.L.Ends.line) g.L.PolledLink.not_ready l.fn.self.reads) (ServesBelow l.key l.fn.self.seats) l.fn.self.seats l.self.seats l.fn.service.service l.service.service
     × ((key : ℕ) → l.key ≤ key → get l.self.seats key ≡ get l.fn.self.seats key)

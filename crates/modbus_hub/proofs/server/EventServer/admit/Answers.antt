@@ -11,12 +11,12 @@ use Rattle.modbus_hub.proofs.server.EventServer.admit.Goals as goal
 
 pub returns-in-Err-clause-goes_on : goal.returns-in-Err-clause-goes_on
 returns-in-Err-clause-goes_on g c =
-    let meaning = polled_by (meaning_of g.A.Link.Ends.input g.A.Link.Ends.output g.A.Link.Ends.line) g.A.Link.PolledLink.not_ready in
+    let meaning = polled_by (meaning_of g.A.Link.Ends.input g.A.Link.Ends.output g.A.Link.Ends.line) g.A.Link.PolledLink.not_ready c.self.inside.seats.reads in
     let faults = g.S.Readiness.faults in
     let seats = c.self.inside.seats in
     let service = c.args.service.now.service in
-    let first = state c.self.inside.acceptor c.self.inside.readiness seats c.self.inside.unseated in
-    let last = state c.self.inside.acceptor c.watch.new.self seats c.self.inside.unseated in
+    let first = state c.self.inside.acceptor c.self.inside.readiness seats c.self.inside.unseated c.self.inside.is_asked in
+    let last = state c.self.inside.acceptor c.watch.new.self seats c.self.inside.unseated c.self.inside.is_asked in
     rw (← c.self.view_is) (go_as g.I.Framing.framing g.V.Answerer.answering meaning (Refuses g.I.Framing.framing g.V.Answerer.answering meaning no_watch c.args.link) (Brings faults c.args.link first last)
     seats.seats seats.seats service service
     (turned_away g.I.Framing.framing g.V.Answerer.answering meaning no_watch c.args.link seats.seats seats.seats service (λ key. refl))
@@ -24,14 +24,14 @@ returns-in-Err-clause-goes_on g c =
 
 pub returns-in-Ok-admit-clause-goes_on : goal.returns-in-Ok-admit-clause-goes_on
 returns-in-Ok-admit-clause-goes_on g c =
-    let meaning = polled_by (meaning_of g.A.Link.Ends.input g.A.Link.Ends.output g.A.Link.Ends.line) g.A.Link.PolledLink.not_ready in
+    let meaning = polled_by (meaning_of g.A.Link.Ends.input g.A.Link.Ends.output g.A.Link.Ends.line) g.A.Link.PolledLink.not_ready c.self.inside.seats.reads in
     let faults = g.S.Readiness.faults in
     let seats = c.self.inside.seats in
     let now = c.admit.new.self in
     let link = c.watch.new.link in
     let service = c.args.service.now.service in
-    let first = state c.self.inside.acceptor c.self.inside.readiness seats c.self.inside.unseated in
-    let last = state c.self.inside.acceptor c.watch.new.self now c.self.inside.unseated in
+    let first = state c.self.inside.acceptor c.self.inside.readiness seats c.self.inside.unseated c.self.inside.is_asked in
+    let last = state c.self.inside.acceptor c.watch.new.self now c.self.inside.unseated c.self.inside.is_asked in
     rw (← c.self.view_is) (go_as g.I.Framing.framing g.V.Answerer.answering meaning (Admits {E = AllocError} link (Ok c.in-Ok-admit._key)) (Brings faults c.args.link first last)
     seats.seats now.seats service service c.in-Ok-admit.ensures.goes_on
     (λ history more e. brings_seat faults first last c.in-Ok-admit._key c.args.link history more c.watch.ensures.later refl
@@ -39,14 +39,14 @@ returns-in-Ok-admit-clause-goes_on g c =
 
 pub returns-in-Err-admit-clause-goes_on : goal.returns-in-Err-admit-clause-goes_on
 returns-in-Err-admit-clause-goes_on g c =
-    let meaning = polled_by (meaning_of g.A.Link.Ends.input g.A.Link.Ends.output g.A.Link.Ends.line) g.A.Link.PolledLink.not_ready in
+    let meaning = polled_by (meaning_of g.A.Link.Ends.input g.A.Link.Ends.output g.A.Link.Ends.line) g.A.Link.PolledLink.not_ready c.self.inside.seats.reads in
     let faults = g.S.Readiness.faults in
     let seats = c.self.inside.seats in
     let now = c.admit.new.self in
     let link = c.watch.new.link in
     let service = c.args.service.now.service in
-    let first = state c.self.inside.acceptor c.self.inside.readiness seats c.self.inside.unseated in
-    let last = state c.self.inside.acceptor c.watch.new.self now c.saturating_add-self-inside.result in
+    let first = state c.self.inside.acceptor c.self.inside.readiness seats c.self.inside.unseated c.self.inside.is_asked in
+    let last = state c.self.inside.acceptor c.watch.new.self now c.saturating_add-self-inside.result c.self.inside.is_asked in
     rw (← c.self.view_is) (go_as g.I.Framing.framing g.V.Answerer.answering meaning (Admits {E = AllocError} link (Err c.in-Err-admit.field-0)) (Brings faults c.args.link first last)
     seats.seats now.seats service service c.in-Err-admit.ensures.goes_on
     (λ history more e. brings_unseated faults first last c.args.link history more c.watch.ensures.later c.saturating_add-self-inside.ensures

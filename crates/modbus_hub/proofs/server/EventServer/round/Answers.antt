@@ -15,7 +15,7 @@ returns-then-is_due-clause-goes_on g c =
     let now = c.turn.new.self in
     let last = c.drop_idle.new.self in
     let after = c.turn.new.service.service in
-    go_both g.I.Framing.framing g.V.Answerer.answering (polled_by (meaning_of g.A.Link.Ends.input g.A.Link.Ends.output g.A.Link.Ends.line) g.A.Link.PolledLink.not_ready)
+    go_both g.I.Framing.framing g.V.Answerer.answering (polled_by (meaning_of g.A.Link.Ends.input g.A.Link.Ends.output g.A.Link.Ends.line) g.A.Link.PolledLink.not_ready c.args.self.now.seats.reads)
     (TakesRound accepts faults found first now (Ok tt)) IsDrop (Comes accepts faults first last)
-    first.seats.seats now.seats.seats last.seats.seats c.args.service.now.service after after c.in-Ok.ensures.goes_on c.drop_idle.ensures.goes_on
+    first.seats.seats now.seats.seats last.seats.seats c.args.service.now.service after after c.in-Ok.ensures.goes_on (rw (c.turn.ensures.limit.0) at c.drop_idle.ensures.goes_on)
     (λ history xs ys first_round drops. then_drops accepts faults found first now last history xs ys c.drop_idle.ensures.acceptor c.drop_idle.ensures.readiness c.drop_idle.ensures.unseated first_round drops)

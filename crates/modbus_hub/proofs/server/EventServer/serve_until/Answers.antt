@@ -3,7 +3,7 @@ use Rattle.modbus_link.specs.Line.{meaning_of}
 use Rattle.modbus_hub.specs.Seats.{polled_by}
 use Rattle.modbus_hub.specs.Turns.{Comes}
 use Rattle.modbus_hub.proofs.Counting.{within_both}
-use Rattle.modbus_hub.proofs.Seating.{go_both, go_same}
+use Rattle.modbus_hub.proofs.Seating.{go_both, go_same, go_under}
 use Rattle.modbus_hub.proofs.Rounding.{comes_both, none_come}
 use Rattle.modbus_hub.proofs.server.EventServer.serve_until.Goals as goal
 
@@ -13,7 +13,7 @@ rounds-init g c = (
   c.service-before.ensures.own,
   omega arith,
   omega arith,
-  go_same g.I.Framing.framing g.V.Answerer.answering (polled_by (meaning_of g.A.Link.Ends.input g.A.Link.Ends.output g.A.Link.Ends.line) g.A.Link.PolledLink.not_ready)
+  go_same g.I.Framing.framing g.V.Answerer.answering (polled_by (meaning_of g.A.Link.Ends.input g.A.Link.Ends.output g.A.Link.Ends.line) g.A.Link.PolledLink.not_ready c.args.self.now.seats.reads)
       (Comes g.A.PolledAcceptor.accepts g.S.Readiness.faults c.args.self.now c.args.self.now) c.args.self.now.seats.seats c.args.self.now.seats.seats c.args.service.now.service
       (λ key. refl) (λ start history all. none_come g.A.PolledAcceptor.accepts g.S.Readiness.faults c.args.self.now c.args.self.now history [] refl (omega arith) refl refl),
 )
@@ -29,10 +29,11 @@ rounds-preserved g c =
       c.round.ensures.own,
       omega (arith, c.rounds.invariant.2, c.round.ensures.later),
       omega (arith, c.rounds.invariant.3, c.is_set.ensures.later),
-      go_both g.I.Framing.framing g.V.Answerer.answering (polled_by (meaning_of g.A.Link.Ends.input g.A.Link.Ends.output g.A.Link.Ends.line) g.A.Link.PolledLink.not_ready)
+      go_both g.I.Framing.framing g.V.Answerer.answering (polled_by (meaning_of g.A.Link.Ends.input g.A.Link.Ends.output g.A.Link.Ends.line) g.A.Link.PolledLink.not_ready c.args.self.now.seats.reads)
           (Comes accepts faults first now) (Comes accepts faults now next) (Comes accepts faults first next)
           first.seats.seats now.seats.seats next.seats.seats c.args.service.now.service c.rounds.service.service c.round.new.service.service
-          c.rounds.invariant.4 c.round.ensures.goes_on (comes_both accepts faults first now next),
+          c.rounds.invariant.4
+          (go_under g.I.Framing.framing g.V.Answerer.answering (meaning_of g.A.Link.Ends.input g.A.Link.Ends.output g.A.Link.Ends.line) g.A.Link.PolledLink.not_ready now.seats.reads first.seats.reads (Comes accepts faults now next) now.seats.seats next.seats.seats c.rounds.service.service c.round.new.service.service c.rounds.invariant.0.0 c.round.ensures.goes_on) (comes_both accepts faults first now next),
     )
 
 pub returns-in-Err-clause-goes_on : goal.returns-in-Err-clause-goes_on
@@ -42,7 +43,8 @@ returns-in-Err-clause-goes_on g c =
     let first = c.args.self.now in
     let now = c.rounds.self in
     let next = c.round.new.self in
-    go_both g.I.Framing.framing g.V.Answerer.answering (polled_by (meaning_of g.A.Link.Ends.input g.A.Link.Ends.output g.A.Link.Ends.line) g.A.Link.PolledLink.not_ready)
+    go_both g.I.Framing.framing g.V.Answerer.answering (polled_by (meaning_of g.A.Link.Ends.input g.A.Link.Ends.output g.A.Link.Ends.line) g.A.Link.PolledLink.not_ready c.args.self.now.seats.reads)
     (Comes accepts faults first now) (Comes accepts faults now next) (Comes accepts faults first next)
     first.seats.seats now.seats.seats next.seats.seats c.args.service.now.service c.rounds.service.service c.round.new.service.service
-    c.rounds.invariant.4 c.round.ensures.goes_on (comes_both accepts faults first now next)
+    c.rounds.invariant.4
+    (go_under g.I.Framing.framing g.V.Answerer.answering (meaning_of g.A.Link.Ends.input g.A.Link.Ends.output g.A.Link.Ends.line) g.A.Link.PolledLink.not_ready now.seats.reads first.seats.reads (Comes accepts faults now next) now.seats.seats next.seats.seats c.rounds.service.service c.round.new.service.service c.rounds.invariant.0.0 c.round.ensures.goes_on) (comes_both accepts faults first now next)

@@ -7,5 +7,5 @@ use Rattle.modbus_hub.proofs.server.EventServer.serve_until.Given as goal
 abbrev pub invariant-rounds : goal.invariant-rounds
 invariant-rounds g l = KeepsLimit l.fn.self.seats l.self.seats × (l.service.ahead ≡ []) × (g.S.Readiness.faults l.fn.self.readiness ≤ g.S.Readiness.faults l.self.readiness)
     × (g.X.Stop.stops l.fn.abort_signal ≤ g.X.Stop.stops l.abort_signal)
-    × SeatsGoOn g.I.Framing.framing g.V.Answerer.answering (polled_by (meaning_of g.A.Link.Ends.input g.A.Link.Ends.output g.A.Link.Ends.line) g.A.Link.PolledLink.not_ready) (Comes g.A.PolledAcceptor.accepts g.S.Readiness.faults l.fn.self l.self)
+    × SeatsGoOn g.I.Framing.framing g.V.Answerer.answering (polled_by (meaning_of g.A.Link.Ends.input g.A.Link.Ends.output g.A.Link.Ends.line) g.A.Link.PolledLink.not_ready l.fn.self.seats.reads) (Comes g.A.PolledAcceptor.accepts g.S.Readiness.faults l.fn.self l.self)
     l.fn.self.seats.seats l.self.seats.seats l.fn.service.service l.service.service
