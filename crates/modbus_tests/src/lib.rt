@@ -1,13 +1,9 @@
-//! Tests that need code: threads, sockets, hooks, boxes, and a schedule of readiness. Each module is named for what it tests; what has bytes in
+//! Tests that need code: threads, sockets, hooks, and a schedule of readiness. Each module is named for what it tests; what has bytes in
 //! and an answer out is in the table, crates/modbus_vectors.
 #![tactic(auto)]
 
 #[cfg(test)]
 mod check;
-#[cfg(test)]
-mod context;
-#[cfg(test)]
-mod fleet;
 #[cfg(test)]
 mod hub;
 #[cfg(test)]

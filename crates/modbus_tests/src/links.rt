@@ -31,7 +31,7 @@ pub fn link_of(
 }
 
 /// Where a peer connects from.
-pub fn peer() -> SocketAddr {
+fn peer() -> SocketAddr {
     SocketAddr::from(([127, 0, 0, 1], 502))
 }
 

@@ -3,14 +3,13 @@
 //! A function that calls much is lent what it works on: the check of one that owns it takes far longer.
 
 use crate::check::check;
-use crate::links::{ONE, Pair, READ_ADU, READ_ONE, REPLY_ADU, accepting, link_of, pair_of, peer};
+use crate::links::{ONE, Pair, READ_ADU, READ_ONE, REPLY_ADU, accepting, link_of, pair_of};
 use modbus_frame::{ExceptionCode, Response, SlaveRequest, Words};
 use modbus_link::{
     Acceptor, Failed, MemoryAcceptor, MemoryLink, MemoryStop, Spawner, TcpAcceptor, TcpLink, Worker,
 };
 use modbus_server::{
-    ProcessError, ServeError, Service, ServiceError, Terminated, rtu_over_tcp, serve_acceptor,
-    serve_in_scope, tcp,
+    ProcessError, ServeError, Service, ServiceError, Terminated, rtu_over_tcp, serve_in_scope, tcp,
 };
 use std::alloc::{AllocError, Global};
 use std::io::{Read, Result as IoResult, Write};
@@ -208,55 +207,6 @@ fn a_worker_that_runs_late_finds_its_flag_raised(rt: HostRuntime) -> Result<(), 
         &rt,
         ended_late(&rt, alloc, 2, 1)?,
         (Ok(Terminated::Aborted), 0, 0),
-    );
-    Ok(())
-}
-
-/// How a listener without a signal ended whose one worker runs after it, and how many were started.
-fn serve_acceptor_late<R: Wait>(
-    rt: &R,
-    alloc: Global,
-    acceptor: &mut MemoryAcceptor<&mut MemoryLink>,
-) -> (Result<(), ServeError<u8>>, u64) {
-    let mut later = Later::new(alloc, 1);
-    let answer = serve_acceptor::<tcp::AduBuffer, _, _, _, _, _, _, _, _>(
-        rt, alloc, acceptor, &mut take, ignore, &mut later,
-    );
-    let started = later.started;
-    for worker in later.workers {
-        worker.run();
-    }
-    (answer, started)
-}
-
-/// An acceptor of one link.
-fn accepting_one(
-    alloc: Global,
-    link: &mut MemoryLink,
-) -> Result<MemoryAcceptor<&mut MemoryLink>, AllocError> {
-    let mut links = Vec::new(alloc);
-    links.push((link, peer()))?;
-    Ok(MemoryAcceptor::new(links))
-}
-
-/// The same over one link, and what its worker read then.
-fn served_by_acceptor<R: Wait>(
-    rt: &R,
-    alloc: Global,
-    link: &mut MemoryLink,
-) -> Result<(Result<(), ServeError<u8>>, u64, usize), AllocError> {
-    let (answer, started) = serve_acceptor_late(rt, alloc, &mut accepting_one(alloc, &mut *link)?);
-    Ok((answer, started, link.source().given()))
-}
-
-/// The call that the program makes raises it too.
-#[test]
-fn a_worker_of_an_acceptor_finds_its_flag_raised(rt: HostRuntime) -> Result<(), Fail> {
-    let mut link = link_of(rt.alloc(), &READ_ADU, &[])?;
-    check(
-        &rt,
-        served_by_acceptor(&rt, rt.alloc(), &mut link)?,
-        (Err(ServeError::AcceptFault), 1, 0),
     );
     Ok(())
 }

@@ -1,18 +1,17 @@
 //! Eight passes that call a shared store at one time, each on a thread: what each is answered, and where its calls stand in the history.
 ghost use Rattle.modbus_store.specs.Passes.{IsPassOf};
 
+use crate::check::check;
 use modbus_frame::{Request, Response, SlaveRequest};
 use modbus_service::Service;
 use modbus_store::{
     ClosedStore, Entry, History, Outcome, RegisterStore, SharedStore, Sizes, StorePass, StoreTable,
 };
 use std::alloc::Global;
-use std::process::Abort;
 use std::sync::Wait;
 use std::sync::atomic::{AtomicU32, Ordering};
-use std::test::Fail;
 use std::thread;
-use std::thread::{Threads, sleep};
+use std::thread::{JoinHandle, Scope, Threads, sleep};
 use std::time::{Clock, Duration};
 
 const SIZES: Sizes = Sizes {
@@ -147,24 +146,38 @@ fn calls_in_order(history: &History, number: u16) -> Option<u16> {
     Some(made)
 }
 
-/// Makes the calls of each job on a thread of its own. How many calls the pass has seen that has seen the most; none where a thread or
-/// memory was refused, or a call was not answered so.
+/// Makes the calls of each job on a thread of its own. None where a thread or memory was refused.
+fn start_all<'s, Env, R: Wait + Clock + Sync>(
+    rt: &'s R,
+    alloc: Global,
+    jobs: Vec<Job<'s, R>>,
+    scope: &Scope<'s, Env>,
+) -> Option<Vec<JoinHandle<Option<StorePass>>>> {
+    let mut threads = Vec::new(alloc);
+    for job in jobs {
+        let thread = scope.spawn(move || work(rt, alloc, job)).ok()?;
+        threads.push(thread).ok()?;
+    }
+    Some(threads)
+}
+
+/// How many calls the pass has seen that has seen the most, once each thread is done; none where a call was not answered so.
+fn join_all<R: Threads + Wait>(rt: &R, threads: Vec<JoinHandle<Option<StorePass>>>) -> Option<u64> {
+    let mut seen = 0;
+    for thread in threads {
+        seen = seen.max(thread.join(rt)?.seen());
+    }
+    Some(seen)
+}
+
+/// The same of the calls of these jobs.
 fn work_at_once<R: Threads + Wait + Clock + Sync>(
     rt: &R,
     alloc: Global,
     jobs: Vec<Job<'_, R>>,
 ) -> Option<u64> {
     thread::scope(thread::scope_env(), rt, move |scope| -> Option<u64> {
-        let mut threads = Vec::new(alloc);
-        for job in jobs {
-            let thread = scope.spawn(move || work(rt, alloc, job)).ok()?;
-            threads.push(thread).ok()?;
-        }
-        let mut seen = 0;
-        for thread in threads {
-            seen = seen.max(thread.join(rt)?.seen());
-        }
-        Some(seen)
+        join_all(rt, start_all(rt, alloc, jobs, scope)?)
     })
 }
 
@@ -232,20 +245,23 @@ fn calls_of_all<R: Threads + Wait + Clock + Sync>(rt: &R, alloc: Global) -> Opti
     Some((seen?, history?))
 }
 
-/// Fails where the history is not each call of each pass, in its order.
-fn check_history<R: Abort>(rt: &R, history: &History) {
-    assert_eq!(rt; history.len(), 400);
+/// Whether the history is each call of each pass, in its order.
+fn is_whole(history: &History) -> bool {
     for number in 1..9 {
-        assert_eq!(rt; calls_in_order(history, number), Some(CALLS));
+        if calls_in_order(history, number) != Some(CALLS) {
+            return false;
+        }
     }
+    history.len() == 400
+}
+
+/// How many calls the pass has seen that has seen the most, and whether the history is whole; none where a call was not answered.
+fn seen_and_whole<R: Threads + Wait + Clock + Sync>(rt: &R, alloc: Global) -> Option<(u64, bool)> {
+    let (seen, history) = calls_of_all(rt, alloc)?;
+    Some((seen, is_whole(&history)))
 }
 
 #[test]
-fn eight_passes_call_at_one_time(rt: HostRuntime) -> Result<(), Fail> {
-    let Some((seen, history)) = calls_of_all(&rt, rt.alloc()) else {
-        panic!(rt; "each call was answered, and the threads met")
-    };
-    assert_eq!(rt; seen, 400);
-    check_history(&rt, &history);
-    Ok(())
+fn eight_passes_call_at_one_time(rt: HostRuntime) {
+    check(&rt, seen_and_whole(&rt, rt.alloc()), Some((400, true)));
 }

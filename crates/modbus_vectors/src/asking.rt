@@ -1,58 +1,55 @@
 //! Requests to what answers them.
 
-use crate::text::{bytes, push_shown};
+use crate::text::Text;
+use crate::word::Word;
 use modbus_frame::SlaveRequest;
 use modbus_pdu::decode_request;
 use modbus_service::Answerer;
-use std::alloc::{AllocError, Global};
+use std::alloc::Global;
 
 /// The answer to a request of a slave.
 fn ask<A: Answerer>(
     alloc: Global,
-    text: &mut String,
+    text: &mut Text,
     answerer: &mut A,
     slave: u8,
     pdu: &[u8],
-) -> Result<bool, AllocError> {
+) -> bool {
     let Ok(request) = decode_request(alloc, pdu) else {
-        return Ok(false);
+        return false;
     };
-    push_shown(text, answerer.ask(alloc, SlaveRequest { slave, request }))?;
-    text.push_str("; ")?;
-    Ok(true)
+    text.push_shown(answerer.ask(alloc, SlaveRequest { slave, request }));
+    text.push_str("; ");
+    true
 }
 
-/// The same of words. False where they name no request.
+/// The same of a slave and a PDU as words. False where they name no request.
 fn ask_words<A: Answerer>(
     alloc: Global,
-    text: &mut String,
+    text: &mut Text,
     answerer: &mut A,
-    slave: &str,
-    pdu: &str,
-) -> Result<bool, AllocError> {
-    let Ok(slave) = slave.parse::<u8>() else {
-        return Ok(false);
+    words: &[Word<'_>],
+) -> bool {
+    let [slave, pdu] = words else {
+        return false;
     };
-    match bytes(alloc, pdu)? {
-        Some(pdu) => ask(alloc, text, answerer, slave, pdu.as_slice()),
-        None => Ok(false),
+    match (slave.byte(), pdu.bytes()) {
+        (Some(slave), Some(pdu)) => ask(alloc, text, answerer, slave, pdu),
+        _ => false,
     }
 }
 
 /// The answers to requests, each a slave and a PDU, one after another.
 pub fn ask_all<A: Answerer>(
     alloc: Global,
-    text: &mut String,
+    text: &mut Text,
     answerer: &mut A,
-    words: &[&str],
-) -> Result<bool, AllocError> {
+    words: &[Word<'_>],
+) -> bool {
     for pair in words.chunks(2) {
-        let &[slave, pdu] = pair else {
-            return Ok(false);
-        };
-        if !ask_words(alloc, text, answerer, slave, pdu)? {
-            return Ok(false);
+        if !ask_words(alloc, text, answerer, pair) {
+            return false;
         }
     }
-    Ok(true)
+    true
 }

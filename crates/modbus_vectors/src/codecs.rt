@@ -7,7 +7,8 @@ ghost use Rattle.modbus_frame.specs.Codes.{function_number};
 ghost use Rattle.modbus_frame.specs.FunctionCodes.{exception_bit};
 
 use crate::outside::read_outside;
-use crate::text::{bytes, number, push_hex, push_shown, push_told};
+use crate::text::Text;
+use crate::word::Word;
 use bytes::{Bytes, BytesMut};
 use modbus_frame::{EncodeError, Request, RequestPdu, ResponsePdu, rtu, tcp};
 use modbus_link::MemorySource;
@@ -17,210 +18,179 @@ use modbus_rtu::{
     response_pdu_len,
 };
 use modbus_tcp::{AduDecoder, TransactionIds, front};
-use std::alloc::{AllocError, Global};
+use std::alloc::Global;
 use std::fmt::Debug;
 
-fn length(text: &mut String, found: Result<Option<usize>, NoLength>) -> Result<(), AllocError> {
+fn length(text: &mut Text, found: Result<Option<usize>, NoLength>) {
     match found {
-        Ok(_) => push_shown(text, found),
-        Err(none) => push_told(text, none),
+        Ok(_) => text.push_shown(found),
+        Err(none) => text.push_told(none),
     }
 }
 
-/// What a decoder of frames of this PDU length takes off, and how many bytes it leaves.
-fn frame(
-    alloc: Global,
-    text: &mut String,
-    pdu_len: u16,
-    buf: &mut BytesMut,
-) -> Result<bool, AllocError> {
-    push_shown(
-        text,
-        FrameDecoder::new().decode(alloc, buf, usize::from(pdu_len)),
-    )?;
-    write!(text, " left {}", buf.len())?;
-    Ok(true)
+/// Appends what was taken off a buffer, and how many bytes are left.
+fn push_left<T: Debug + Drop>(text: &mut Text, found: T, buf: &BytesMut) {
+    text.push_shown(found);
+    write!(text, " left {}", buf.len());
 }
 
-/// Appends what a decoder took off, how many bytes it left, and how many it recorded as dropped.
-fn push_taken<T: Debug + Drop>(
-    text: &mut String,
-    found: T,
-    left: usize,
-    dropped: usize,
-) -> Result<(), AllocError> {
-    push_shown(text, found)?;
-    write!(text, " left {left} dropped {dropped}")
+/// What a decoder of frames of this PDU length takes off.
+fn frame(alloc: Global, text: &mut Text, pdu_len: u16, buf: &mut BytesMut) {
+    let found = FrameDecoder::new().decode(alloc, buf, usize::from(pdu_len));
+    push_left(text, found, buf);
 }
 
-fn rtu_requests(alloc: Global, text: &mut String, buf: &mut BytesMut) -> Result<(), AllocError> {
+fn rtu_requests(alloc: Global, text: &mut Text, buf: &mut BytesMut) {
     let mut decoder = RequestDecoder::new();
     let found = decoder.decode(alloc, buf);
-    push_taken(text, found, buf.len(), decoder.dropped_bytes().len())
+    push_left(text, found, buf);
+    write!(text, " dropped {}", decoder.dropped_bytes().len());
 }
 
-fn rtu_responses(alloc: Global, text: &mut String, buf: &mut BytesMut) -> Result<(), AllocError> {
+fn rtu_responses(alloc: Global, text: &mut Text, buf: &mut BytesMut) {
     let mut decoder = ResponseDecoder::new();
     let found = decoder.decode(alloc, buf);
-    push_taken(text, found, buf.len(), decoder.dropped_bytes().len())
+    push_left(text, found, buf);
+    write!(text, " dropped {}", decoder.dropped_bytes().len());
 }
 
-fn rtu_taken(
-    alloc: Global,
-    text: &mut String,
-    is_server: bool,
-    buf: &mut BytesMut,
-) -> Result<(), AllocError> {
-    if is_server {
-        return push_shown(text, modbus_rtu::ServerCodec::new().decode(alloc, buf));
-    }
-    push_shown(text, modbus_rtu::ClientCodec::new().decode(alloc, buf))
+fn rtu_server(alloc: Global, text: &mut Text, buf: &mut BytesMut) {
+    let found = modbus_rtu::ServerCodec::new().decode(alloc, buf);
+    push_left(text, found, buf);
 }
 
-fn tcp_taken(
-    alloc: Global,
-    text: &mut String,
-    is_server: bool,
-    buf: &mut BytesMut,
-) -> Result<(), AllocError> {
-    if is_server {
-        return push_shown(text, modbus_tcp::ServerCodec::new().decode(alloc, buf));
-    }
-    push_shown(text, modbus_tcp::ClientCodec::new().decode(alloc, buf))
+fn rtu_client(alloc: Global, text: &mut Text, buf: &mut BytesMut) {
+    let found = modbus_rtu::ClientCodec::new().decode(alloc, buf);
+    push_left(text, found, buf);
 }
 
-/// What the codec of an end takes off.
-fn taken_off(
-    alloc: Global,
-    text: &mut String,
-    call: &str,
-    buf: &mut BytesMut,
-) -> Result<bool, AllocError> {
+fn tcp_server(alloc: Global, text: &mut Text, buf: &mut BytesMut) {
+    let found = modbus_tcp::ServerCodec::new().decode(alloc, buf);
+    push_left(text, found, buf);
+}
+
+fn tcp_client(alloc: Global, text: &mut Text, buf: &mut BytesMut) {
+    let found = modbus_tcp::ClientCodec::new().decode(alloc, buf);
+    push_left(text, found, buf);
+}
+
+fn tcp_adus(alloc: Global, text: &mut Text, buf: &mut BytesMut) {
+    let found = AduDecoder::new().decode(alloc, buf);
+    push_left(text, found, buf);
+}
+
+/// What is taken off a buffer.
+fn of_buffer(alloc: Global, text: &mut Text, call: &str, buf: &mut BytesMut) -> bool {
     match call {
-        "rtu_server" => rtu_taken(alloc, text, true, buf)?,
-        "rtu_client" => rtu_taken(alloc, text, false, buf)?,
-        "tcp_server" => tcp_taken(alloc, text, true, buf)?,
-        "tcp_client" => tcp_taken(alloc, text, false, buf)?,
-        "tcp_adus" => push_shown(text, AduDecoder::new().decode(alloc, buf))?,
-        _ => return Ok(false),
+        "rtu_requests" => rtu_requests(alloc, text, buf),
+        "rtu_responses" => rtu_responses(alloc, text, buf),
+        "rtu_server" => rtu_server(alloc, text, buf),
+        "rtu_client" => rtu_client(alloc, text, buf),
+        "tcp_server" => tcp_server(alloc, text, buf),
+        "tcp_client" => tcp_client(alloc, text, buf),
+        "tcp_adus" => tcp_adus(alloc, text, buf),
+        _ => return false,
     }
-    Ok(true)
-}
-
-/// What is taken off a buffer, and how many bytes are left.
-fn of_buffer(
-    alloc: Global,
-    text: &mut String,
-    call: &str,
-    buf: &mut BytesMut,
-) -> Result<bool, AllocError> {
-    match call {
-        "rtu_requests" => rtu_requests(alloc, text, buf)?,
-        "rtu_responses" => rtu_responses(alloc, text, buf)?,
-        _ => {
-            if !taken_off(alloc, text, call, buf)? {
-                return Ok(false);
-            }
-            write!(text, " left {}", buf.len())?;
-        }
-    }
-    Ok(true)
+    true
 }
 
 /// What the codec of an end gives at the last of these characters.
-fn ascii_server(alloc: Global, text: &mut String, data: &[u8]) -> Result<bool, AllocError> {
+fn ascii_server(alloc: Global, text: &mut Text, last: u8, earlier: &[u8]) {
     let mut codec = modbus_ascii::ServerCodec::new();
-    let Some((last, earlier)) = data.split_last() else {
-        return Ok(false);
-    };
     for byte in earlier {
         let _earlier = codec.feed(alloc, *byte);
     }
-    push_shown(text, codec.feed(alloc, *last))?;
-    Ok(true)
+    text.push_shown(codec.feed(alloc, last));
 }
 
-fn ascii_client(alloc: Global, text: &mut String, data: &[u8]) -> Result<bool, AllocError> {
+fn ascii_client(alloc: Global, text: &mut Text, last: u8, earlier: &[u8]) {
     let mut codec = modbus_ascii::ClientCodec::new();
-    let Some((last, earlier)) = data.split_last() else {
-        return Ok(false);
-    };
     for byte in earlier {
         let _earlier = codec.feed(alloc, *byte);
     }
-    push_shown(text, codec.feed(alloc, *last))?;
-    Ok(true)
+    text.push_shown(codec.feed(alloc, last));
+}
+
+/// The same of the end that a call names.
+fn of_characters(alloc: Global, text: &mut Text, call: &str, data: &[u8]) -> bool {
+    let Some((last, earlier)) = data.split_last() else {
+        return false;
+    };
+    match call {
+        "ascii_server" => ascii_server(alloc, text, *last, earlier),
+        "ascii_client" => ascii_client(alloc, text, *last, earlier),
+        _ => return false,
+    }
+    true
 }
 
 /// All frames that an inbox has, and why it gives no more.
-fn frames(text: &mut String, inbox: &mut Inbox) -> Result<(), AllocError> {
+fn frames(text: &mut Text, inbox: &mut Inbox) {
     for _ in 0..64u32 {
         let found = inbox.next();
         let is_frame = matches!(found, Ok(Some(_)));
-        push_shown(text, found)?;
-        text.push_str("; ")?;
+        text.push_shown(found);
+        text.push_str("; ");
         if !is_frame {
             break;
         }
     }
-    Ok(())
 }
 
 /// What an inbox gives after each read of its source.
-fn reads(
-    text: &mut String,
-    inbox: &mut Inbox,
-    source: &mut MemorySource,
-) -> Result<bool, AllocError> {
+fn reads(text: &mut Text, inbox: &mut Inbox, source: &mut MemorySource) {
     for _ in 0..64u32 {
         if inbox.room() == 0 {
             break;
         }
         let count = inbox.fill(source);
-        write!(text, "read {count:?}; ")?;
+        write!(text, "read {count:?}; ");
         if count == Ok(0) {
             break;
         }
-        frames(text, inbox)?;
+        frames(text, inbox);
     }
-    write!(text, "holds {}", inbox.held())?;
-    Ok(true)
+    write!(text, "holds {}", inbox.held());
 }
 
-fn inbox(alloc: Global, text: &mut String, words: &[&str]) -> Result<bool, AllocError> {
-    let mut inbox = Inbox::open(alloc)?;
-    match read_outside(alloc, words)? {
+fn inbox(alloc: Global, text: &mut Text, words: &[Word<'_>]) -> bool {
+    let Ok(mut inbox) = Inbox::open(alloc) else {
+        return false;
+    };
+    match read_outside(alloc, words) {
         Some(mut outside) => reads(text, &mut inbox, &mut outside.source),
-        None => Ok(false),
+        None => return false,
     }
+    true
 }
 
 /// How many bytes are recorded as dropped after all of a buffer were.
-fn recovered(text: &mut String, buf: &mut BytesMut) -> Result<bool, AllocError> {
+fn recovered(text: &mut Text, buf: &mut BytesMut) {
     let mut decoder = FrameDecoder::new();
     for _ in 0..buf.len() {
         if !buf.is_empty() {
             decoder.recover_on_error(buf);
         }
     }
-    push_shown(text, decoder.dropped_bytes().len())?;
-    Ok(true)
+    text.push_shown(decoder.dropped_bytes().len());
 }
 
 /// The same of so many bytes.
-fn recovered_of(alloc: Global, text: &mut String, count: usize) -> Result<bool, AllocError> {
-    let mut buf = BytesMut::zeroed(alloc, count)?;
-    recovered(text, &mut buf)
+fn recovered_of(alloc: Global, text: &mut Text, count: u16) -> bool {
+    match BytesMut::zeroed(alloc, usize::from(count)) {
+        Ok(mut buf) => recovered(text, &mut buf),
+        Err(_) => return false,
+    }
+    true
 }
 
 /// The number of a transaction, after so many were drawn.
-fn transaction(text: &mut String, count: u32) -> Result<bool, AllocError> {
+fn transaction(text: &mut Text, count: u32) {
     let mut ids = TransactionIds::new();
     for _ in 0..count {
         let _earlier = ids.next();
     }
-    push_shown(text, ids.next())?;
-    Ok(true)
+    text.push_shown(ids.next());
 }
 
 /// Appends the frame or ADU of a request; none where there is no such codec.
@@ -315,132 +285,136 @@ fn encode_pdu(
     header: tcp::Header,
     pdu: &[u8],
     buf: &mut BytesMut,
-) -> Result<Option<Result<(), EncodeError>>, AllocError> {
+) -> Option<Result<(), EncodeError>> {
     if call.ends_with("client_encode") {
-        return Ok(match decode_request(alloc, pdu) {
-            Ok(request) => encode_request(alloc, call, header, request, buf),
-            Err(_) => None,
-        });
+        let request = decode_request(alloc, pdu).ok()?;
+        return encode_request(alloc, call, header, request, buf);
     }
-    Ok(
-        match decode_response_pdu(alloc, Bytes::copy_from_slice(alloc, pdu)?) {
-            Ok(found) => encode_response(alloc, call, header, found, buf),
-            Err(_) => None,
-        },
-    )
+    let pdu = Bytes::copy_from_slice(alloc, pdu).ok()?;
+    let found = decode_response_pdu(alloc, pdu).ok()?;
+    encode_response(alloc, call, header, found, buf)
 }
 
 /// What a codec appended to a buffer.
 fn encoded(
     alloc: Global,
-    text: &mut String,
+    text: &mut Text,
     call: &str,
     header: tcp::Header,
     pdu: &[u8],
     buf: &mut BytesMut,
-) -> Result<bool, AllocError> {
-    match encode_pdu(alloc, call, header, pdu, buf)? {
-        Some(Ok(())) => push_hex(text, buf.as_slice())?,
-        Some(Err(error)) => push_told(text, error)?,
-        None => return Ok(false),
+) -> bool {
+    match encode_pdu(alloc, call, header, pdu, buf) {
+        Some(Ok(())) => text.push_hex(buf.as_slice()),
+        Some(Err(error)) => text.push_told(error),
+        None => return false,
     }
-    Ok(true)
+    true
 }
 
 /// The same of a buffer that has the byte AA.
 fn encode(
     alloc: Global,
-    text: &mut String,
+    text: &mut Text,
     call: &str,
     transaction_id: u16,
-    unit: u16,
+    unit_id: u8,
     pdu: &[u8],
-) -> Result<bool, AllocError> {
-    let Ok(unit_id) = u8::try_from(unit) else {
-        return Ok(false);
-    };
+) -> bool {
     let header = tcp::Header {
         transaction_id,
         unit_id,
     };
-    let mut buf = BytesMut::copy_from_slice(alloc, b"\xAA")?;
-    encoded(alloc, text, call, header, pdu, &mut buf)
+    match BytesMut::copy_from_slice(alloc, b"\xAA") {
+        Ok(mut buf) => encoded(alloc, text, call, header, pdu, &mut buf),
+        Err(_) => false,
+    }
 }
 
-fn of_bytes(alloc: Global, text: &mut String, call: &str, data: &[u8]) -> Result<bool, AllocError> {
+/// What is taken off a buffer of these bytes.
+fn taken_off(alloc: Global, text: &mut Text, call: &str, data: &[u8]) -> bool {
+    match BytesMut::copy_from_slice(alloc, data) {
+        Ok(mut buf) => of_buffer(alloc, text, call, &mut buf),
+        Err(_) => false,
+    }
+}
+
+fn of_bytes(alloc: Global, text: &mut Text, call: &str, data: &[u8]) -> bool {
     match call {
-        "request_len" => length(text, request_pdu_len(data))?,
-        "response_len" => length(text, response_pdu_len(data))?,
-        "next_frame" => push_shown(text, next_frame(data))?,
-        "tcp_front" => push_shown(text, front(data))?,
-        "ascii_server" => return ascii_server(alloc, text, data),
-        "ascii_client" => return ascii_client(alloc, text, data),
+        "request_len" => length(text, request_pdu_len(data)),
+        "response_len" => length(text, response_pdu_len(data)),
+        "next_frame" => text.push_shown(next_frame(data)),
+        "tcp_front" => text.push_shown(front(data)),
         _ => {
-            let mut buf = BytesMut::copy_from_slice(alloc, data)?;
-            return of_buffer(alloc, text, call, &mut buf);
+            return of_characters(alloc, text, call, data) || taken_off(alloc, text, call, data);
         }
     }
-    Ok(true)
+    true
 }
 
-fn of_number(
-    alloc: Global,
-    text: &mut String,
-    call: &str,
-    first: u16,
-    data: &[u8],
-) -> Result<bool, AllocError> {
-    if call != "frame" {
-        return encode(alloc, text, call, 0, first, data);
+/// What a decoder of frames takes off a buffer of these bytes.
+fn framed(alloc: Global, text: &mut Text, pdu_len: u16, data: &[u8]) -> bool {
+    match BytesMut::copy_from_slice(alloc, data) {
+        Ok(mut buf) => frame(alloc, text, pdu_len, &mut buf),
+        Err(_) => return false,
     }
-    let mut buf = BytesMut::copy_from_slice(alloc, data)?;
-    frame(alloc, text, first, &mut buf)
+    true
+}
+
+/// The call of a number and a byte string.
+fn of_number(alloc: Global, text: &mut Text, call: &str, first: &Word<'_>, data: &[u8]) -> bool {
+    if call != "frame" {
+        return match first.byte() {
+            Some(unit_id) => encode(alloc, text, call, 0, unit_id, data),
+            None => false,
+        };
+    }
+    match first.number() {
+        Some(pdu_len) => framed(alloc, text, pdu_len, data),
+        None => false,
+    }
 }
 
 /// The call of numbers and a byte string, which comes last.
-fn of_words(
-    alloc: Global,
-    text: &mut String,
-    call: &str,
-    numbers: &[&str],
-    data: &[u8],
-) -> Result<bool, AllocError> {
+fn of_words(alloc: Global, text: &mut Text, call: &str, numbers: &[Word<'_>], data: &[u8]) -> bool {
     match numbers {
         [] => of_bytes(alloc, text, call, data),
-        [first] => match number(first) {
-            Some(first) => of_number(alloc, text, call, first, data),
-            None => Ok(false),
-        },
-        [transaction, unit] => match (number(transaction), number(unit)) {
+        [first] => of_number(alloc, text, call, first, data),
+        [transaction, unit] => match (transaction.number(), unit.byte()) {
             (Some(transaction), Some(unit)) => {
                 encode(alloc, text, call, transaction, unit, data)
             }
-            _ => Ok(false),
+            _ => false,
         },
-        _ => Ok(false),
+        _ => false,
     }
 }
 
-pub fn answer(
-    alloc: Global,
-    text: &mut String,
-    call: &str,
-    words: &[&str],
-) -> Result<bool, AllocError> {
-    match (call, words) {
-        ("inbox", _) => inbox(alloc, text, words),
-        ("recover", &[count]) => match number(count) {
-            Some(count) => recovered_of(alloc, text, usize::from(count)),
-            None => Ok(false),
+/// The call of a count.
+fn of_count(alloc: Global, text: &mut Text, call: &str, count: &Word<'_>) -> bool {
+    match count.text.parse::<u32>() {
+        Ok(count) if call == "transaction" => transaction(text, count),
+        Ok(count) => match u16::try_from(count) {
+            Ok(count) => return recovered_of(alloc, text, count),
+            Err(_) => return false,
         },
-        ("transaction", &[count]) => match count.parse::<u32>() {
-            Ok(count) => transaction(text, count),
-            Err(_) => Ok(false),
+        Err(_) => return false,
+    }
+    true
+}
+
+pub fn answer(alloc: Global, text: &mut Text, call: &str, words: &[Word<'_>]) -> bool {
+    if call == "inbox" {
+        return inbox(alloc, text, words);
+    }
+    match words {
+        [count] if call == "recover" || call == "transaction" => {
+            of_count(alloc, text, call, count)
+        }
+        [numbers @ .., word] => match word.bytes() {
+            Some(data) => of_words(alloc, text, call, numbers, data),
+            None => false,
         },
-        (_, &[ref numbers @ .., word]) => match bytes(alloc, word)? {
-            Some(data) => of_words(alloc, text, call, numbers, data.as_slice()),
-            None => Ok(false),
-        },
-        _ => Ok(false),
+        _ => false,
     }
 }

@@ -2,12 +2,13 @@
 
 use crate::clients::{milliseconds, steps};
 use crate::left::push_link;
-use crate::outside::read_outside;
-use crate::text::push_shown;
+use crate::outside::read_link;
+use crate::text::Text;
+use crate::word::Word;
 use modbus_client::{Client, tcp};
 use modbus_frame::{ConnectFault, Slave};
 use modbus_link::{MemoryConnector, MemoryLink};
-use std::alloc::{AllocError, Global};
+use std::alloc::Global;
 use std::net::{Ipv4Addr, SocketAddr};
 use std::time::Duration;
 
@@ -29,35 +30,23 @@ fn connected(
     }
 }
 
-/// The answers of a client, how long it waits, and its link.
+/// The answers of a client that is connected so, how long it waits, and its link; or that there is no connection.
 fn answers(
     alloc: Global,
-    text: &mut String,
-    client: &mut tcp::Client<MemoryLink>,
+    text: &mut Text,
+    connected: Result<tcp::Client<MemoryLink>, ConnectFault>,
     words: &str,
-) -> Result<bool, AllocError> {
-    if !steps(alloc, text, client, words)? {
-        return Ok(false);
-    }
-    write!(text, "within {:?} ", client.timeout())?;
-    push_link(text, client.link())?;
-    Ok(true)
-}
-
-/// The same of a client that is connected so; or that there is no connection.
-fn answers_connected(
-    alloc: Global,
-    text: &mut String,
-    connector: &mut MemoryConnector<MemoryLink>,
-    slave: Option<Slave>,
-    timeout: Option<Duration>,
-    words: &str,
-) -> Result<bool, AllocError> {
-    match connected(alloc, connector, slave, timeout) {
-        Ok(mut client) => answers(alloc, text, &mut client, words),
+) -> bool {
+    match connected {
+        Ok(mut client) => {
+            let is_done = steps(alloc, text, &mut client, words);
+            write!(text, "within {:?} ", client.timeout());
+            push_link(text, client.link());
+            is_done
+        }
         Err(fault) => {
-            push_shown(text, fault)?;
-            Ok(true)
+            text.push_shown(fault);
+            true
         }
     }
 }
@@ -65,31 +54,41 @@ fn answers_connected(
 /// The same of two clients of a connector that has one link, one after another.
 fn answers_twice(
     alloc: Global,
-    text: &mut String,
+    text: &mut Text,
     connector: &mut MemoryConnector<MemoryLink>,
     slave: Option<Slave>,
     timeout: Option<Duration>,
     words: &str,
-) -> Result<bool, AllocError> {
-    if !answers_connected(alloc, text, connector, slave, timeout, words)? {
-        return Ok(false);
+) -> bool {
+    if !answers(
+        alloc,
+        text,
+        connected(alloc, connector, slave, timeout),
+        words,
+    ) {
+        return false;
     }
-    text.push_str("; ")?;
-    answers_connected(alloc, text, connector, slave, timeout, words)
+    text.push_str("; ");
+    answers(
+        alloc,
+        text,
+        connected(alloc, connector, slave, timeout),
+        words,
+    )
 }
 
 /// `tcp_connect`, a slave or `-`, a time-out in milliseconds or `-`, steps with commas between them, and the outside of the one link.
-pub fn answer(alloc: Global, text: &mut String, words: &[&str]) -> Result<bool, AllocError> {
+pub fn answer(alloc: Global, text: &mut Text, words: &[Word<'_>]) -> bool {
     let [slave, timeout, steps, words @ ..] = words else {
-        return Ok(false);
+        return false;
     };
-    let slave = slave.parse::<u8>().ok().map(Slave);
-    let timeout = milliseconds(timeout);
-    match read_outside(alloc, words)? {
-        Some(outside) => {
-            let mut connector = MemoryConnector::new(Some(outside.into_link()));
-            answers_twice(alloc, text, &mut connector, slave, timeout, steps)
+    match read_link(alloc, words) {
+        Some(link) => {
+            let mut connector = MemoryConnector::new(Some(link));
+            let slave = slave.byte().map(Slave);
+            let timeout = milliseconds(timeout.text);
+            answers_twice(alloc, text, &mut connector, slave, timeout, steps.text)
         }
-        None => Ok(false),
+        None => false,
     }
 }

@@ -1,13 +1,13 @@
 //! The texts of faults, each with its name.
 
-use crate::text::push_told;
+use crate::text::Text;
+use crate::word::Word;
 use modbus_frame::{
     ConnectFault, EncodeError, Error, ExceptionCode, ExceptionResponse, FunctionCode, HeaderSeen,
     ParseSlaveError, PduError, ProtocolError, Reason, Response, ShutdownFault, TransportError,
 };
 use modbus_server::ProcessError;
 use modbus_tcp::TcpError;
-use std::alloc::AllocError;
 use std::fmt::{Debug, Display};
 
 fn transport(name: &str) -> Option<TransportError> {
@@ -105,29 +105,27 @@ fn error(name: &str) -> Option<Error> {
 }
 
 /// The text of a fault that may not be there.
-fn told<T: Debug + Display + Drop>(
-    text: &mut String,
-    fault: Option<T>,
-) -> Result<bool, AllocError> {
+fn told<T: Debug + Display + Drop>(text: &mut Text, fault: Option<T>) -> bool {
     match fault {
-        Some(fault) => push_told(text, fault)?,
-        None => return Ok(false),
+        Some(fault) => text.push_told(fault),
+        None => return false,
     }
-    Ok(true)
+    true
 }
 
 /// The text of a fault that has no variants.
-fn single(text: &mut String, name: &str) -> Result<bool, AllocError> {
+fn single(text: &mut Text, name: &str) -> bool {
     match name {
-        "ShutdownFault" => told(text, Some(ShutdownFault)),
-        "ConnectFault" => told(text, Some(ConnectFault)),
-        "ParseSlaveError" => told(text, Some(ParseSlaveError)),
-        _ => Ok(false),
+        "ShutdownFault" => text.push_told(ShutdownFault),
+        "ConnectFault" => text.push_told(ConnectFault),
+        "ParseSlaveError" => text.push_told(ParseSlaveError),
+        _ => return false,
     }
+    true
 }
 
 /// The text of a fault of this type.
-fn of_type(text: &mut String, kind: &str, name: &str) -> Result<bool, AllocError> {
+fn of_type(text: &mut Text, kind: &str, name: &str) -> bool {
     match kind {
         "TransportError" => told(text, transport(name)),
         "ProcessError" => told(text, process(name)),
@@ -136,20 +134,17 @@ fn of_type(text: &mut String, kind: &str, name: &str) -> Result<bool, AllocError
         "PduError" => told(text, pdu(name)),
         "TcpError" => told(text, tcp(name)),
         "Error" => told(text, error(name)),
-        _ => Ok(false),
+        _ => false,
     }
 }
 
 /// `text` and the name of a fault.
-pub fn answer(text: &mut String, call: &str, words: &[&str]) -> Result<bool, AllocError> {
-    let &[name] = words else {
-        return Ok(false);
-    };
-    if call != "text" {
-        return Ok(false);
-    }
-    match name.split_once("::") {
-        Some((kind, name)) => of_type(text, kind, name),
-        None => single(text, name),
+pub fn answer(text: &mut Text, call: &str, words: &[Word<'_>]) -> bool {
+    match words {
+        [word] if call == "text" => match word.text.split_once("::") {
+            Some((kind, name)) => of_type(text, kind, name),
+            None => single(text, word.text),
+        },
+        _ => false,
     }
 }

@@ -1,8 +1,9 @@
 //! Listeners over memory, whose connections are served one after another on the caller.
 
-use crate::outside::{read_joined, read_outside};
+use crate::outside::{read_joined, read_link};
 use crate::same_words::SameWords;
-use crate::text::{number, push_hex, push_shown};
+use crate::text::Text;
+use crate::word::Word;
 use modbus_link::{
     Acceptor, FlagStop, InlineSpawner, Link, MemoryAcceptor, MemoryLink, MemoryStop, ScopeSpawner,
     Spawner,
@@ -20,28 +21,6 @@ use std::sync::Wait;
 const TAKES: u16 = 0;
 
 const REJECTS: u16 = 1;
-
-/// A new link over the outside that the words tell.
-fn link_of(alloc: Global, words: &[&str]) -> Result<Option<MemoryLink>, AllocError> {
-    match read_outside(alloc, words)? {
-        Some(outside) => Ok(Some(outside.into_link())),
-        None => Ok(None),
-    }
-}
-
-/// The port of the peer of a connection, and its outside, whose words have a plus between them. A colon is between the two.
-fn port_and_outside(word: &str) -> Option<(u16, &str)> {
-    let (port, outside) = word.split_once(":")?;
-    Some((number(port)?, outside))
-}
-
-/// A new link over the outside of this text.
-fn read_link(alloc: Global, outside: &str) -> Result<Option<MemoryLink>, AllocError> {
-    match read_joined(alloc, outside)? {
-        Some(outside) => Ok(Some(outside.into_link())),
-        None => Ok(None),
-    }
-}
 
 /// The address of a peer.
 fn address(port: u16) -> SocketAddr {
@@ -130,11 +109,33 @@ where
     }
 }
 
-/// An acceptor of these links, from peers with these ports.
+/// The peers that connect: the port of each, and the link to it.
+#[derive(Drop)]
+struct Peers {
+    ports: Vec<u16>,
+    links: Vec<MemoryLink>,
+}
+
+impl Peers {
+    fn new(alloc: Global) -> Peers {
+        Peers {
+            ports: Vec::new(alloc),
+            links: Vec::new(alloc),
+        }
+    }
+
+    fn push(&mut self, port: u16, link: MemoryLink) -> Result<(), AllocError> {
+        self.ports.push(port)?;
+        self.links.push(link)?;
+        Ok(())
+    }
+}
+
+/// An acceptor of the links to these peers.
 fn accepting<'l>(
     alloc: Global,
-    links: &'l mut [MemoryLink],
     ports: &[u16],
+    links: &'l mut [MemoryLink],
 ) -> Result<MemoryAcceptor<&'l mut MemoryLink>, AllocError> {
     let mut accepted = Vec::new(alloc);
     let mut left = links;
@@ -149,132 +150,114 @@ fn accepting<'l>(
 }
 
 /// Appends how a listener ended, and what each of its connections was sent.
-fn push_told(text: &mut String, ended: Ended, links: &[MemoryLink]) -> Result<bool, AllocError> {
-    push_shown(text, ended)?;
-    for link in links {
-        text.push_str(" ")?;
-        push_hex(text, link.sink().bytes())?;
+fn push_ended(text: &mut Text, ended: Ended, peers: &Peers) {
+    text.push_shown(ended);
+    for link in peers.links.as_slice() {
+        text.push_str(" ");
+        text.push_hex(link.sink().bytes());
     }
-    Ok(true)
 }
 
-/// The answer of a listener over these links, from peers with these ports, and what each of them was sent.
+/// The answer of a listener of these peers, and what each of them was sent.
 fn listened<I: Framing, R: Wait>(
     rt: &R,
     alloc: Global,
-    text: &mut String,
+    text: &mut Text,
     spawner: &str,
-    links: &mut [MemoryLink],
-    ports: &[u16],
+    peers: &mut Peers,
     looks: Option<u64>,
-) -> Result<bool, AllocError> {
+) -> bool {
+    let Ok(acceptor) = accepting(alloc, peers.ports.as_slice(), peers.links.as_mut_slice()) else {
+        return false;
+    };
     let ended = ended(
         rt,
         alloc,
         spawner,
-        &mut Server::<I, _>::new(accepting(alloc, &mut *links, ports)?),
+        &mut Server::<I, _>::new(acceptor),
         looks,
     );
     match ended {
-        Some(ended) => push_told(text, ended, links),
-        None => Ok(false),
+        Some(ended) => push_ended(text, ended, peers),
+        None => return false,
     }
+    true
 }
 
-/// Links over these two outsides.
-fn two_links(alloc: Global, near: &str, far: &str) -> Result<Option<Vec<MemoryLink>>, AllocError> {
-    let mut links = Vec::new(alloc);
-    for outside in [near, far] {
-        match read_link(alloc, outside)? {
-            Some(link) => links.push(link)?,
-            None => return Ok(None),
-        }
-    }
-    Ok(Some(links))
-}
-
-/// The answer of a listener over two connections, each as a word tells it.
-fn listened_to_two<I: Framing, R: Wait>(
+/// The answer of a listener in a framing.
+fn listened_in<R: Wait>(
     rt: &R,
     alloc: Global,
-    text: &mut String,
+    text: &mut Text,
+    framing: &str,
     spawner: &str,
-    words: &[&str],
+    peers: &mut Peers,
     looks: Option<u64>,
-) -> Result<bool, AllocError> {
-    let [near, far] = words else {
-        return Ok(false);
-    };
-    let Some((near_port, near)) = port_and_outside(near) else {
-        return Ok(false);
-    };
-    let Some((far_port, far)) = port_and_outside(far) else {
-        return Ok(false);
-    };
-    match two_links(alloc, near, far)? {
-        Some(mut links) => listened::<I, R>(
-            rt,
-            alloc,
-            text,
-            spawner,
-            links.as_mut_slice(),
-            &[near_port, far_port],
-            looks,
-        ),
-        None => Ok(false),
+) -> bool {
+    match framing {
+        "rtu" => listened::<Inbox, R>(rt, alloc, text, spawner, peers, looks),
+        "tcp" => listened::<AduBuffer, R>(rt, alloc, text, spawner, peers, looks),
+        _ => false,
     }
 }
 
-/// Eight links, each with an outside of its own that these words tell.
-fn eight_links(alloc: Global, words: &[&str]) -> Result<Option<Vec<MemoryLink>>, AllocError> {
-    let mut links = Vec::new(alloc);
-    for _ in 0..8 {
-        match link_of(alloc, words)? {
-            Some(link) => links.push(link)?,
-            None => return Ok(None),
-        }
-    }
-    Ok(Some(links))
+/// The port of a peer and the link to it, which have a colon between them. The words of its outside have a plus between them.
+fn peer_of(alloc: Global, word: &str) -> Option<(u16, MemoryLink)> {
+    let (port, outside) = word.split_once(":")?;
+    Some((port.parse().ok()?, read_joined(alloc, outside)?))
 }
 
-/// The answer of a listener over eight connections, each with an outside of its own that these words tell.
-fn listened_to_eight<I: Framing, R: Wait>(
+/// The peers of these connections.
+fn peers_of(alloc: Global, words: &[Word<'_>]) -> Option<Peers> {
+    let mut peers = Peers::new(alloc);
+    for word in words {
+        let (port, link) = peer_of(alloc, word.text)?;
+        peers.push(port, link).ok()?;
+    }
+    Some(peers)
+}
+
+/// A framing; a spawner; and the connections.
+fn answer_of_each<R: Wait>(
     rt: &R,
     alloc: Global,
-    text: &mut String,
-    words: &[&str],
-) -> Result<bool, AllocError> {
-    match eight_links(alloc, words)? {
-        Some(mut links) => {
-            listened::<I, R>(
+    text: &mut Text,
+    words: &[Word<'_>],
+    looks: Option<u64>,
+) -> bool {
+    let [framing, spawner, words @ ..] = words else {
+        return false;
+    };
+    match peers_of(alloc, words) {
+        Some(mut peers) => {
+            listened_in(
                 rt,
                 alloc,
                 text,
-                "inline",
-                links.as_mut_slice(),
-                &[TAKES; 8],
-                None,
+                framing.text,
+                spawner.text,
+                &mut peers,
+                looks,
             )
         }
-        None => Ok(false),
+        None => false,
     }
 }
 
-/// A framing; a spawner; and the two connections.
-fn answer_of_two<R: Wait>(
-    rt: &R,
-    alloc: Global,
-    text: &mut String,
-    words: &[&str],
-    looks: Option<u64>,
-) -> Result<bool, AllocError> {
-    let [framing, spawner, words @ ..] = words else {
-        return Ok(false);
-    };
-    match *framing {
-        "rtu" => listened_to_two::<Inbox, R>(rt, alloc, text, spawner, words, looks),
-        "tcp" => listened_to_two::<AduBuffer, R>(rt, alloc, text, spawner, words, looks),
-        _ => Ok(false),
+/// Eight peers, each with a link over an outside of its own that these words tell.
+fn eight_peers(alloc: Global, words: &[Word<'_>]) -> Option<Peers> {
+    let mut peers = Peers::new(alloc);
+    for _ in 0..8 {
+        peers.push(TAKES, read_link(alloc, words)?).ok()?;
+    }
+    Some(peers)
+}
+
+/// The answer of an RTU listener of eight peers with such links.
+fn answer_of_eight<R: Wait>(rt: &R, alloc: Global, text: &mut Text, words: &[Word<'_>]) -> bool {
+    match eight_peers(alloc, words) {
+        Some(mut peers) => listened::<Inbox, R>(rt, alloc, text, "inline", &mut peers, None),
+        None => false,
     }
 }
 
@@ -283,22 +266,17 @@ fn answer_of_two<R: Wait>(
 pub fn answer<R: Wait>(
     rt: &R,
     alloc: Global,
-    text: &mut String,
+    text: &mut Text,
     call: &str,
-    words: &[&str],
-) -> Result<bool, AllocError> {
-    match call {
-        "listen" => answer_of_two(rt, alloc, text, words, None),
-        "listen_until" => {
-            let [looks, words @ ..] = words else {
-                return Ok(false);
-            };
-            match number(looks) {
-                Some(looks) => answer_of_two(rt, alloc, text, words, Some(u64::from(looks))),
-                None => Ok(false),
-            }
+    words: &[Word<'_>],
+) -> bool {
+    match (call, words) {
+        ("listen", _) => answer_of_each(rt, alloc, text, words, None),
+        ("listen_until", [looks, words @ ..]) => {
+            let looks = looks.number().map(u64::from);
+            looks.is_some() && answer_of_each(rt, alloc, text, words, looks)
         }
-        "listen_to_eight" => listened_to_eight::<Inbox, R>(rt, alloc, text, words),
-        _ => Ok(false),
+        ("listen_to_eight", _) => answer_of_eight(rt, alloc, text, words),
+        _ => false,
     }
 }

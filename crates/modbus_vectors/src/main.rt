@@ -10,6 +10,7 @@ mod outside;
 mod same_words;
 mod table;
 mod text;
+mod word;
 
 // codecs
 mod codecs;

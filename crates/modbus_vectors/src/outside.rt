@@ -2,9 +2,10 @@
 //! a letter and a number, `r3` has read 3 fail, `w3` has write 3 fail, `t1` has each write take one byte at most, and `p3` has poll 3 of a
 //! link that is polled not be ready; all are counted from 0. The word `down` has a shutdown fail. A call of several links has a word for
 //! each, whose own words have a plus between them.
-ghost use Rattle.std.specs.Prelude.{◌<◌};
+//!
+//! Where memory is refused there is none.
 
-use crate::text::bytes;
+use crate::word::{Word, split};
 use modbus_link::{MemoryLink, MemorySink, MemorySource, PolledMemoryLink, TimedMemoryLink};
 use std::alloc::{AllocError, Global};
 
@@ -25,21 +26,23 @@ impl Outside {
         MemoryLink::new(self.source, self.sink, self.fails_to_shut)
     }
 
-    pub fn into_polled_link(self, alloc: Global) -> Result<PolledMemoryLink, AllocError> {
+    pub fn into_polled_link(self, alloc: Global) -> Option<PolledMemoryLink> {
         let link = MemoryLink::new(self.source, self.sink, self.fails_to_shut);
-        PolledMemoryLink::new(alloc, link, self.pending.as_slice())
+        PolledMemoryLink::new(alloc, link, self.pending.as_slice()).ok()
     }
 
     /// A line that is silent behind as many bytes as the words `p8` tell.
-    pub fn into_timed_link(self, alloc: Global) -> Result<TimedMemoryLink, AllocError> {
-        let silences = sizes(alloc, self.pending.as_slice())?;
-        TimedMemoryLink::new(alloc, self.into_link(), silences.as_slice())
+    pub fn into_timed_link(self, alloc: Global) -> Option<TimedMemoryLink> {
+        let silences = sizes(alloc, self.pending.as_slice()).ok()?;
+        TimedMemoryLink::new(alloc, self.into_link(), silences.as_slice()).ok()
     }
 }
 
-/// The number behind the first letter of a word.
-fn number_after(word: &str, letter: &str) -> Option<u64> {
-    word.strip_prefix(letter)?.parse().ok()
+/// A letter and the number behind it.
+fn letter_and_number(word: &str) -> Option<(char, u64)> {
+    let mut rest = word.chars();
+    let letter = rest.next()?;
+    Some((letter, rest.as_str().parse().ok()?))
 }
 
 /// What the words of a line said so far.
@@ -68,67 +71,79 @@ impl Draft {
         }
     }
 
-    /// Takes a piece. False where the word is none.
-    fn take_piece(&mut self, alloc: Global, word: &str) -> Result<bool, AllocError> {
-        let Some(piece) = bytes(alloc, word)? else {
-            return Ok(false);
-        };
-        self.bytes.extend_from_slice(piece.as_slice())?;
-        self.stops.push(self.bytes.len())?;
-        Ok(true)
+    fn take_piece(&mut self, piece: &[u8]) -> bool {
+        self.bytes.extend_from_slice(piece).is_ok() && self.stops.push(self.bytes.len()).is_ok()
+    }
+
+    fn take_number(&mut self, letter: char, number: u64) -> bool {
+        match letter {
+            'r' => self.read_fails.push(number).is_ok(),
+            'w' => self.write_fails.push(number).is_ok(),
+            'p' => self.pending.push(number).is_ok(),
+            't' => {
+                self.most = usize::try_from(number).unwrap_or(ROOM);
+                true
+            }
+            _ => false,
+        }
     }
 
     /// Takes a word. False where it says nothing.
-    fn take(&mut self, alloc: Global, word: &str) -> Result<bool, AllocError> {
-        if let Some(number) = number_after(word, "r") {
-            self.read_fails.push(number)?;
-        } else if let Some(number) = number_after(word, "w") {
-            self.write_fails.push(number)?;
-        } else if let Some(number) = number_after(word, "p") {
-            self.pending.push(number)?;
-        } else if let Some(count) = number_after(word, "t") {
-            self.most = usize::try_from(count).unwrap_or(ROOM);
-        } else if word == "down" {
+    fn take(&mut self, word: &Word<'_>) -> bool {
+        if word.text == "down" {
             self.fails_to_shut = true;
-        } else {
-            return self.take_piece(alloc, word);
+            return true;
         }
-        Ok(true)
+        if let Some(piece) = word.bytes() {
+            return self.take_piece(piece);
+        }
+        match letter_and_number(word.text) {
+            Some((letter, number)) => self.take_number(letter, number),
+            None => false,
+        }
     }
 
-    fn source(&self, alloc: Global) -> Result<MemorySource, AllocError> {
+    fn source(&self, alloc: Global) -> Option<MemorySource> {
         MemorySource::new(
             alloc,
             self.bytes.as_slice(),
             self.stops.as_slice(),
             self.read_fails.as_slice(),
         )
+        .ok()
     }
 
-    fn sink(&self, alloc: Global) -> Result<MemorySink, AllocError>
-        requires { 0 < self.now.most }
-    {
-        MemorySink::new(alloc, ROOM, self.most, self.write_fails.as_slice())
+    /// None also where its writes would take nothing.
+    fn sink(&self, alloc: Global) -> Option<MemorySink> {
+        if self.most == 0 {
+            return None;
+        }
+        MemorySink::new(alloc, ROOM, self.most, self.write_fails.as_slice()).ok()
     }
 }
 
-/// What these words say; none where one of them says nothing.
-pub fn read_outside(alloc: Global, words: &[&str]) -> Result<Option<Outside>, AllocError> {
-    let mut draft = Draft::new(alloc);
+/// What these words say. False where one of them says nothing.
+fn take_all(draft: &mut Draft, words: &[Word<'_>]) -> bool {
     for word in words {
-        if !draft.take(alloc, word)? {
-            return Ok(None);
+        if !draft.take(word) {
+            return false;
         }
     }
-    if draft.most == 0 {
-        return Ok(None);
+    true
+}
+
+/// What these words say; none where one of them says nothing.
+pub fn read_outside(alloc: Global, words: &[Word<'_>]) -> Option<Outside> {
+    let mut draft = Draft::new(alloc);
+    if !take_all(&mut draft, words) {
+        return None;
     }
-    Ok(Some(Outside {
+    Some(Outside {
         source: draft.source(alloc)?,
         sink: draft.sink(alloc)?,
         pending: draft.pending,
         fails_to_shut: draft.fails_to_shut,
-    }))
+    })
 }
 
 /// As many bytes as each of these numbers, at most as many as there may be.
@@ -140,19 +155,17 @@ fn sizes(alloc: Global, numbers: &[u64]) -> Result<Vec<usize>, AllocError> {
     Ok(sizes)
 }
 
-/// The line that these words say; none where one of them says nothing.
-pub fn read_line(alloc: Global, words: &[&str]) -> Result<Option<TimedMemoryLink>, AllocError> {
-    match read_outside(alloc, words)? {
-        Some(outside) => Ok(Some(outside.into_timed_link(alloc)?)),
-        None => Ok(None),
-    }
+/// The link that these words say.
+pub fn read_link(alloc: Global, words: &[Word<'_>]) -> Option<MemoryLink> {
+    Some(read_outside(alloc, words)?.into_link())
 }
 
-/// What a word says whose own words have a plus between them.
-pub fn read_joined(alloc: Global, joined: &str) -> Result<Option<Outside>, AllocError> {
-    let mut words = Vec::new(alloc);
-    for word in joined.split('+') {
-        words.push(word)?;
-    }
-    read_outside(alloc, words.as_slice())
+/// The line that these words say.
+pub fn read_line(alloc: Global, words: &[Word<'_>]) -> Option<TimedMemoryLink> {
+    read_outside(alloc, words)?.into_timed_link(alloc)
+}
+
+/// The link that a word says whose own words have a plus between them.
+pub fn read_joined(alloc: Global, joined: &str) -> Option<MemoryLink> {
+    read_link(alloc, split(alloc, joined, '+').ok()?.as_slice())
 }

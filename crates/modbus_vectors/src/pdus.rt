@@ -1,6 +1,7 @@
 //! PDUs of requests, responses and exceptions, both ways.
 
-use crate::text::{bytes, number, push_hex, push_shown, push_told};
+use crate::text::Text;
+use crate::word::Word;
 use bytes::{Bytes, BytesMut};
 use modbus_frame::{
     ExceptionResponse, PduError, ReadDeviceIdentificationResponse, Request, Response,
@@ -10,125 +11,143 @@ use modbus_pdu::{
     encode_exception_response_pdu, encode_request_pdu, encode_response_pdu,
     encode_response_result_pdu, request_pdu_size, response_pdu_size, response_result_pdu_size,
 };
-use std::alloc::{AllocError, Global};
+use std::alloc::Global;
 use std::borrow::CowSlice;
 use std::fmt::{Debug, Display};
 
 /// The text of a refusal.
-fn refused(text: &mut String, error: PduError) -> Result<(), AllocError> {
+fn refused(text: &mut Text, error: PduError) -> bool {
     match error {
-        PduError::NoMemory => Err(AllocError),
-        PduError::Refused(reason) => push_told(text, reason),
+        PduError::NoMemory => return false,
+        PduError::Refused(reason) => text.push_told(reason),
     }
+    true
 }
 
 /// The size and the bytes of a request's PDU.
-fn written(alloc: Global, text: &mut String, request: &Request<'_>) -> Result<(), AllocError> {
+fn written(alloc: Global, text: &mut Text, request: &Request<'_>) -> bool {
     match request_pdu_size(request) {
         Err(long) => write!(text, "{long:?}: {long}"),
         Ok(size) => {
-            write!(text, "{size} ")?;
+            write!(text, "{size} ");
             let mut buf = BytesMut::new(alloc);
-            encode_request_pdu(alloc, &mut buf, request)?;
-            push_hex(text, buf.as_slice())
+            if encode_request_pdu(alloc, &mut buf, request).is_err() {
+                return false;
+            }
+            text.push_hex(buf.as_slice());
         }
     }
+    true
 }
 
 /// Whether the copy of a request is equal to it.
-fn is_copied(alloc: Global, request: &Request<'_>) -> Result<bool, AllocError> {
-    Ok(request.try_clone(alloc)? == *request)
+fn is_copied(alloc: Global, request: &Request<'_>) -> bool {
+    match request.try_clone(alloc) {
+        Ok(copy) => copy == *request,
+        Err(_) => false,
+    }
 }
 
 /// A copy of a request that owns its lists.
-fn owned(alloc: Global, request: &Request<'_>) -> Result<Request<'static>, AllocError> {
-    request.try_clone(alloc)?.into_owned(alloc)
+fn owned(alloc: Global, request: &Request<'_>) -> Option<Request<'static>> {
+    request.try_clone(alloc).ok()?.into_owned(alloc).ok()
 }
 
 /// Whether that is equal to it.
-fn is_owned(alloc: Global, request: &Request<'_>) -> Result<bool, AllocError> {
-    Ok(owned(alloc, request)? == *request)
+fn is_owned(alloc: Global, request: &Request<'_>) -> bool {
+    match owned(alloc, request) {
+        Some(copy) => copy == *request,
+        None => false,
+    }
 }
 
 /// A request, how it is written, and whether its copies are equal to it.
-fn described(alloc: Global, text: &mut String, request: &Request<'_>) -> Result<(), AllocError> {
-    text.push_str("Ok(")?;
-    push_shown(text, request)?;
-    write!(text, ") {:?} ", request.function_code())?;
-    written(alloc, text, request)?;
-    let is_same = is_copied(alloc, request)?;
-    let is_owned_same = is_owned(alloc, request)?;
-    write!(text, " {is_same} {is_owned_same}")
+fn described(alloc: Global, text: &mut Text, request: &Request<'_>) -> bool {
+    text.push_str("Ok(");
+    text.push_shown(request);
+    write!(text, ") {:?} ", request.function_code());
+    let is_written = written(alloc, text, request);
+    let is_same = is_copied(alloc, request);
+    let is_owned_same = is_owned(alloc, request);
+    write!(text, " {is_same} {is_owned_same}");
+    is_written
 }
 
 /// What is described of the request of a PDU.
-fn request(alloc: Global, text: &mut String, pdu: &[u8]) -> Result<(), AllocError> {
+fn request(alloc: Global, text: &mut Text, pdu: &[u8]) -> bool {
     match decode_request(alloc, pdu) {
         Ok(found) => described(alloc, text, &found),
         Err(error) => refused(text, error),
     }
 }
 
-/// Whether the copy of a device identification is equal to it; of any other response there is nothing to compare.
-fn parts_are_copied(alloc: Global, response: &Response) -> Result<bool, AllocError> {
-    let Response::ReadDeviceIdentification(found) = response else {
-        return Ok(true);
-    };
-    Ok(found.try_clone(alloc)? == *found && objects_are_copied(alloc, found)?)
-}
-
-/// Whether the copies of its objects are equal to them.
-fn objects_are_copied(
-    alloc: Global,
-    found: &ReadDeviceIdentificationResponse,
-) -> Result<bool, AllocError> {
+/// Whether the copies of the objects of a device identification are equal to them.
+fn objects_are_copied(alloc: Global, found: &ReadDeviceIdentificationResponse) -> bool {
     for object in found.device_id_objects.as_slice() {
-        if object.try_clone(alloc)? != *object {
-            return Ok(false);
+        match object.try_clone(alloc) {
+            Ok(copy) if copy == *object => {}
+            _ => return false,
         }
     }
-    Ok(true)
+    true
+}
+
+/// Whether the copy of a device identification is equal to it.
+fn identification_is_copied(alloc: Global, found: &ReadDeviceIdentificationResponse) -> bool {
+    match found.try_clone(alloc) {
+        Ok(copy) => copy == *found,
+        Err(_) => false,
+    }
+}
+
+/// Whether the copies of a device identification and its parts are equal to them; of any other response there is nothing to compare.
+fn parts_are_copied(alloc: Global, response: &Response) -> bool {
+    match response {
+        Response::ReadDeviceIdentification(found) => {
+            identification_is_copied(alloc, found) && objects_are_copied(alloc, found)
+        }
+        _ => true,
+    }
 }
 
 /// The size and the bytes of a response's PDU.
-fn response_written(
-    alloc: Global,
-    text: &mut String,
-    response: &Response,
-) -> Result<(), AllocError> {
+fn response_written(alloc: Global, text: &mut Text, response: &Response) -> bool {
     match response_pdu_size(response) {
         Err(long) => write!(text, "{long:?}: {long}"),
         Ok(size) => {
-            write!(text, "{size} ")?;
+            write!(text, "{size} ");
             let mut buf = BytesMut::new(alloc);
-            encode_response_pdu(alloc, &mut buf, response)?;
-            push_hex(text, buf.as_slice())
+            if encode_response_pdu(alloc, &mut buf, response).is_err() {
+                return false;
+            }
+            text.push_hex(buf.as_slice());
         }
     }
+    true
 }
 
 /// Whether the copy of a response is equal to it.
-fn response_is_copied(alloc: Global, response: &Response) -> Result<bool, AllocError> {
-    Ok(response.try_clone(alloc)? == *response)
+fn response_is_copied(alloc: Global, response: &Response) -> bool {
+    match response.try_clone(alloc) {
+        Ok(copy) => copy == *response,
+        Err(_) => false,
+    }
 }
 
 /// A response, how it is written, and whether its copy is equal to it.
-fn response_described(
-    alloc: Global,
-    text: &mut String,
-    response: &Response,
-) -> Result<(), AllocError> {
-    text.push_str("Ok(")?;
-    push_shown(text, response)?;
-    text.push_str(") ")?;
-    response_written(alloc, text, response)?;
-    let is_same = response_is_copied(alloc, response)? && parts_are_copied(alloc, response)?;
-    write!(text, " {is_same}")
+fn response_described(alloc: Global, text: &mut Text, response: &Response) -> bool {
+    text.push_str("Ok(");
+    text.push_shown(response);
+    text.push_str(") ");
+    let is_written = response_written(alloc, text, response);
+    let is_same = response_is_copied(alloc, response) && parts_are_copied(alloc, response);
+    write!(text, " {is_same}");
+    is_written
 }
 
 /// What is described of the response of a PDU.
-fn response(alloc: Global, text: &mut String, pdu: &[u8]) -> Result<(), AllocError> {
-    match decode_response(alloc, Bytes::copy_from_slice(alloc, pdu)?) {
+fn response(alloc: Global, text: &mut Text, pdu: Bytes) -> bool {
+    match decode_response(alloc, pdu) {
         Ok(found) => response_described(alloc, text, &found),
         Err(error) => refused(text, error),
     }
@@ -137,142 +156,144 @@ fn response(alloc: Global, text: &mut String, pdu: &[u8]) -> Result<(), AllocErr
 /// A response or an exception, and how it is written.
 fn answer_described(
     alloc: Global,
-    text: &mut String,
+    text: &mut Text,
     found: &Result<Response, ExceptionResponse>,
-) -> Result<bool, AllocError> {
+) -> bool {
     if let Err(refusal) = found
         && refusal.function.value() >= 0x80
     {
-        return Ok(false);
+        return false;
     }
     match response_result_pdu_size(found) {
-        Err(long) => write!(text, "{long:?}: {long}")?,
+        Err(long) => write!(text, "{long:?}: {long}"),
         Ok(size) => {
-            push_shown(text, found)?;
-            write!(text, " {size} ")?;
+            text.push_shown(found);
+            write!(text, " {size} ");
             let mut buf = BytesMut::new(alloc);
-            encode_response_result_pdu(alloc, &mut buf, found)?;
-            push_hex(text, buf.as_slice())?;
+            if encode_response_result_pdu(alloc, &mut buf, found).is_err() {
+                return false;
+            }
+            text.push_hex(buf.as_slice());
         }
     }
-    Ok(true)
+    true
 }
 
 /// What is described of the response or the exception of a PDU.
-fn answered(alloc: Global, text: &mut String, pdu: &[u8]) -> Result<bool, AllocError> {
-    match decode_response_pdu(alloc, Bytes::copy_from_slice(alloc, pdu)?) {
+fn answered(alloc: Global, text: &mut Text, pdu: Bytes) -> bool {
+    match decode_response_pdu(alloc, pdu) {
         Ok(found) => answer_described(alloc, text, &found.0),
-        Err(error) => {
-            refused(text, error)?;
-            Ok(true)
-        }
+        Err(error) => refused(text, error),
     }
 }
 
 /// An exception, its text, and how it is written.
-fn exception_described(
-    alloc: Global,
-    text: &mut String,
-    found: ExceptionResponse,
-) -> Result<bool, AllocError> {
+fn exception_described(alloc: Global, text: &mut Text, found: ExceptionResponse) -> bool {
     if found.function.value() >= 0x80 {
-        return Ok(false);
+        return false;
     }
-    write!(text, "Ok({found:?}): {found} ")?;
+    write!(text, "Ok({found:?}): {found} ");
     let mut buf = BytesMut::new(alloc);
-    encode_exception_response_pdu(alloc, &mut buf, found)?;
-    push_hex(text, buf.as_slice())?;
-    Ok(true)
+    if encode_exception_response_pdu(alloc, &mut buf, found).is_err() {
+        return false;
+    }
+    text.push_hex(buf.as_slice());
+    true
 }
 
 /// What is described of the exception of a PDU.
-fn exception(alloc: Global, text: &mut String, pdu: &[u8]) -> Result<bool, AllocError> {
+fn exception(alloc: Global, text: &mut Text, pdu: &[u8]) -> bool {
     match decode_exception(pdu) {
-        Ok(found) => exception_described(alloc, text, found),
-        Err(reason) => {
-            push_told(text, reason)?;
-            Ok(true)
-        }
+        Ok(found) => return exception_described(alloc, text, found),
+        Err(reason) => text.push_told(reason),
     }
+    true
 }
 
 /// How many bytes a PDU has, or how many it would have.
-fn push_size<E: Debug + Display + Drop>(
-    text: &mut String,
-    size: Result<usize, E>,
-) -> Result<bool, AllocError> {
+fn push_size<E: Debug + Display + Drop>(text: &mut Text, size: Result<usize, E>) {
     match size {
-        Ok(size) => push_shown(text, size)?,
-        Err(long) => push_told(text, long)?,
+        Ok(size) => text.push_shown(size),
+        Err(long) => text.push_told(long),
     }
-    Ok(true)
 }
 
 /// The same of the PDU of a request.
-fn size_of(text: &mut String, request: Request<'_>) -> Result<bool, AllocError> {
-    push_size(text, request_pdu_size(&request))
+fn size_of(text: &mut Text, request: Request<'_>) {
+    push_size(text, request_pdu_size(&request));
 }
 
 /// How a request of these registers is written.
-fn size_of_words(text: &mut String, kind: &str, words: &[u16]) -> Result<bool, AllocError> {
+fn size_of_words(text: &mut Text, kind: &str, words: &[u16]) -> bool {
     let words = CowSlice::Borrowed(words);
     match kind {
         "WriteMultipleRegisters" => size_of(text, Request::WriteMultipleRegisters(0, words)),
         "ReadWriteMultipleRegisters" => {
-            size_of(text, Request::ReadWriteMultipleRegisters(0, 1, 0, words))
+            size_of(text, Request::ReadWriteMultipleRegisters(0, 1, 0, words));
         }
-        _ => Ok(false),
+        _ => return false,
     }
+    true
 }
 
-/// How a request of so many coils, registers or bytes is written, all of them 0.
-fn sized(alloc: Global, text: &mut String, kind: &str, count: usize) -> Result<bool, AllocError> {
+/// How a request of so many coils is written, all of them 0.
+fn size_of_coils(alloc: Global, text: &mut Text, count: usize) -> bool {
+    let Ok(coils) = Vec::from_elem(alloc, false, count) else {
+        return false;
+    };
+    let coils = CowSlice::Borrowed(coils.as_slice());
+    size_of(text, Request::WriteMultipleCoils(0, coils));
+    true
+}
+
+/// The same of so many bytes.
+fn size_of_custom(alloc: Global, text: &mut Text, count: usize) -> bool {
+    let Ok(data) = Vec::from_elem(alloc, 0u8, count) else {
+        return false;
+    };
+    let data = CowSlice::Borrowed(data.as_slice());
+    size_of(text, Request::Custom(0x55, data));
+    true
+}
+
+/// The same of so many coils, registers or bytes.
+fn sized(alloc: Global, text: &mut Text, kind: &str, count: usize) -> bool {
     match kind {
-        "WriteMultipleCoils" => {
-            let coils = Vec::from_elem(alloc, false, count)?;
-            let coils = CowSlice::Borrowed(coils.as_slice());
-            size_of(text, Request::WriteMultipleCoils(0, coils))
-        }
-        "Custom" => {
-            let data = Vec::from_elem(alloc, 0u8, count)?;
-            size_of(
-                text,
-                Request::Custom(0x55, CowSlice::Borrowed(data.as_slice())),
-            )
-        }
-        _ => {
-            let words = Vec::from_elem(alloc, 0u16, count)?;
-            size_of_words(text, kind, words.as_slice())
-        }
+        "WriteMultipleCoils" => size_of_coils(alloc, text, count),
+        "Custom" => size_of_custom(alloc, text, count),
+        _ => match Vec::from_elem(alloc, 0u16, count) {
+            Ok(words) => size_of_words(text, kind, words.as_slice()),
+            Err(_) => false,
+        },
     }
 }
 
-fn of_bytes(alloc: Global, text: &mut String, call: &str, pdu: &[u8]) -> Result<bool, AllocError> {
+fn of_bytes(alloc: Global, text: &mut Text, call: &str, pdu: &[u8]) -> bool {
     match call {
-        "request" => request(alloc, text, pdu)?,
-        "response" => response(alloc, text, pdu)?,
-        "answer" => return answered(alloc, text, pdu),
+        "request" => return request(alloc, text, pdu),
         "exception" => return exception(alloc, text, pdu),
-        _ => return Ok(false),
+        _ => {}
     }
-    Ok(true)
+    let Ok(pdu) = Bytes::copy_from_slice(alloc, pdu) else {
+        return false;
+    };
+    match call {
+        "response" => response(alloc, text, pdu),
+        "answer" => answered(alloc, text, pdu),
+        _ => false,
+    }
 }
 
-pub fn answer(
-    alloc: Global,
-    text: &mut String,
-    call: &str,
-    words: &[&str],
-) -> Result<bool, AllocError> {
-    match (call, words) {
-        ("size", &[kind, count]) => match number(count) {
-            Some(count) => sized(alloc, text, kind, usize::from(count)),
-            None => Ok(false),
+pub fn answer(alloc: Global, text: &mut Text, call: &str, words: &[Word<'_>]) -> bool {
+    match words {
+        [word] => match word.bytes() {
+            Some(pdu) => of_bytes(alloc, text, call, pdu),
+            None => false,
         },
-        (_, &[word]) => match bytes(alloc, word)? {
-            Some(pdu) => of_bytes(alloc, text, call, pdu.as_slice()),
-            None => Ok(false),
+        [kind, count] if call == "size" => match count.number() {
+            Some(count) => sized(alloc, text, kind.text, usize::from(count)),
+            None => false,
         },
-        _ => Ok(false),
+        _ => false,
     }
 }

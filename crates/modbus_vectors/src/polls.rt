@@ -1,19 +1,11 @@
 //! Words that name points, plans of items, and polls of a store.
 
-use crate::text::{push_outcome, push_told};
+use crate::text::Text;
+use crate::word::Word;
 use modbus_frame::Slave;
 use modbus_poll::{Item, Kind, parse_point, plan_reads, poll_service};
 use modbus_store::RegisterStore;
-use std::alloc::{AllocError, Global};
-
-/// The point that a word names.
-fn named(text: &mut String, words: &[&str]) -> Result<bool, AllocError> {
-    let &[word] = words else {
-        return Ok(false);
-    };
-    push_outcome(text, parse_point(word))?;
-    Ok(true)
-}
+use std::alloc::Global;
 
 /// An item as its address and so many registers.
 fn item_of(word: &str) -> Option<Item> {
@@ -24,108 +16,90 @@ fn item_of(word: &str) -> Option<Item> {
     })
 }
 
+fn items_of(alloc: Global, words: &[Word<'_>]) -> Option<Vec<Item>> {
+    let mut items = Vec::new(alloc);
+    for word in words {
+        items.push(item_of(word.text)?).ok()?;
+    }
+    Some(items)
+}
+
 /// The plan of these items, and whether it covers them.
-fn push_plan(alloc: Global, text: &mut String, items: &[Item]) -> Result<bool, AllocError> {
+fn push_plan(alloc: Global, text: &mut Text, items: &[Item]) {
     match plan_reads(alloc, items) {
         Ok(plan) => {
             let is_whole = plan.covers(items);
             for read in plan.reads() {
-                write!(text, "{read:?} ")?;
+                write!(text, "{read:?} ");
             }
-            write!(text, "{is_whole}")?;
+            write!(text, "{is_whole}");
         }
-        Err(error) => push_told(text, error)?,
+        Err(error) => text.push_told(error),
     }
-    Ok(true)
 }
 
-fn planned(alloc: Global, text: &mut String, words: &[&str]) -> Result<bool, AllocError> {
-    let mut items = Vec::new(alloc);
-    for word in words {
-        let Some(item) = item_of(word) else {
-            return Ok(false);
-        };
-        items.push(item)?;
+fn planned(alloc: Global, text: &mut Text, words: &[Word<'_>]) -> bool {
+    match items_of(alloc, words) {
+        Some(items) => push_plan(alloc, text, items.as_slice()),
+        None => return false,
     }
-    push_plan(alloc, text, items.as_slice())
+    true
+}
+
+/// Numbers with commas between them.
+fn registers_of(alloc: Global, numbers: &str) -> Option<Vec<u16>> {
+    let mut registers = Vec::new(alloc);
+    for number in numbers.split(',') {
+        registers.push(number.parse().ok()?).ok()?;
+    }
+    Some(registers)
 }
 
 /// A store whose holding registers hold these numbers.
-fn store_of(alloc: Global, numbers: &str) -> Result<Option<RegisterStore>, AllocError> {
-    let mut registers = Vec::new(alloc);
-    for number in numbers.split(',') {
-        let Ok(register) = number.parse::<u16>() else {
-            return Ok(None);
-        };
-        registers.push(register)?;
-    }
-    let stored = RegisterStore::with_contents(
-        alloc,
-        &[false],
-        &[false],
-        registers.as_slice(),
-        &[0],
-        false,
-    );
-    Ok(stored.ok())
+fn store_of(alloc: Global, numbers: &str) -> Option<RegisterStore> {
+    let registers = registers_of(alloc, numbers)?;
+    RegisterStore::with_contents(alloc, &[false], &[false], registers.as_slice(), &[0], false).ok()
 }
 
 /// What a poll of these items gives. False where no plan covers them.
-fn push_poll(
-    alloc: Global,
-    text: &mut String,
-    store: &mut RegisterStore,
-    items: &[Item],
-) -> Result<bool, AllocError> {
+fn push_poll(alloc: Global, text: &mut Text, store: &mut RegisterStore, items: &[Item]) -> bool {
     let Ok(plan) = plan_reads(alloc, items) else {
-        return Ok(false);
+        return false;
     };
     if !plan.covers(items) {
-        return Ok(false);
+        return false;
     }
-    push_outcome(text, poll_service(alloc, Slave(1), items, &plan, store))?;
-    Ok(true)
+    text.push_outcome(poll_service(alloc, Slave(1), items, &plan, store));
+    true
 }
 
-/// The same of the items that these words name.
-fn push_poll_of(
-    alloc: Global,
-    text: &mut String,
-    store: &mut RegisterStore,
-    words: &[&str],
-) -> Result<bool, AllocError> {
+/// The items of the points that these words name.
+fn points_of(alloc: Global, words: &[Word<'_>]) -> Option<Vec<Item>> {
     let mut items = Vec::new(alloc);
     for word in words {
-        let Ok(point) = parse_point(word) else {
-            return Ok(false);
-        };
-        items.push(point.item)?;
+        items.push(parse_point(word.text).ok()?.item).ok()?;
     }
-    push_poll(alloc, text, store, items.as_slice())
+    Some(items)
 }
 
-fn polled(alloc: Global, text: &mut String, words: &[&str]) -> Result<bool, AllocError> {
-    let &[numbers, ref words @ ..] = words else {
-        return Ok(false);
+fn polled(alloc: Global, text: &mut Text, numbers: &str, words: &[Word<'_>]) -> bool {
+    let Some(items) = points_of(alloc, words) else {
+        return false;
     };
-    match store_of(alloc, numbers)? {
-        Some(mut store) => push_poll_of(alloc, text, &mut store, words),
-        None => Ok(false),
+    match store_of(alloc, numbers) {
+        Some(mut store) => push_poll(alloc, text, &mut store, items.as_slice()),
+        None => false,
     }
 }
 
 /// `point 100:u16`: what a word names; `items 0:1 100:2`: the plan of items, each an address and so many registers, and whether it covers them;
 /// `poll 1,2 0:u32`: the values of points of a store whose holding registers hold these numbers.
-pub fn answer(
-    alloc: Global,
-    text: &mut String,
-    call: &str,
-    words: &[&str],
-) -> Result<bool, AllocError> {
-    match call {
-        "point" => named(text, words),
-        "items" => planned(alloc, text, words),
-        "poll" => polled(alloc, text, words),
-        _ => Ok(false),
+pub fn answer(alloc: Global, text: &mut Text, call: &str, words: &[Word<'_>]) -> bool {
+    match (call, words) {
+        ("point", [word]) => text.push_outcome(parse_point(word.text)),
+        ("items", _) => return planned(alloc, text, words),
+        ("poll", [numbers, words @ ..]) => return polled(alloc, text, numbers.text, words),
+        _ => return false,
     }
+    true
 }

@@ -1,15 +1,19 @@
 //! Runs of the program over memory, and the words that ask to listen.
 
 use crate::outside::{Outside, read_outside};
-use crate::text::{push_hex, push_shown};
+use crate::text::Text;
+use crate::word::Word;
 use modbus_app::{listening, run};
 use modbus_link::MemorySink;
 use std::alloc::{AllocError, Global};
 
+/// The room of what a run tells, in bytes.
+const ROOM: usize = 256;
+
 /// The words before a colon, and those after it.
-fn split<'w>(words: &'w [&'w str]) -> (&'w [&'w str], &'w [&'w str]) {
+fn split<'w, 'l>(words: &'w [Word<'l>]) -> (&'w [Word<'l>], &'w [Word<'l>]) {
     for (at, word) in words.iter().enumerate() {
-        if *word == ":" {
+        if word.text == ":" {
             return (&words[..at], &words[at + 1..]);
         }
     }
@@ -17,24 +21,24 @@ fn split<'w>(words: &'w [&'w str]) -> (&'w [&'w str], &'w [&'w str]) {
 }
 
 /// Words as they are handed over by the system.
-fn handed_over(alloc: Global, words: &[&str]) -> Result<Vec<String>, AllocError> {
+fn handed_over(alloc: Global, words: &[Word<'_>]) -> Result<Vec<String>, AllocError> {
     let mut handed = Vec::new(alloc);
     for word in words {
-        handed.push(String::from_str(alloc, word)?)?;
+        handed.push(String::from_str(alloc, word.text)?)?;
     }
     Ok(handed)
 }
 
 /// The output of a run: the text of its requests, or else its bytes.
-fn push_output(text: &mut String, output: &[u8]) -> Result<(), AllocError> {
+fn push_output(text: &mut Text, output: &[u8]) {
     match std::str::from_utf8(output) {
         Ok(found) if found.starts_with("requests ") => write!(text, "{found:?}"),
-        _ => push_hex(text, output),
+        _ => text.push_hex(output),
     }
 }
 
 /// What a run told.
-fn push_errors(text: &mut String, errors: &[u8]) -> Result<(), AllocError> {
+fn push_errors(text: &mut Text, errors: &[u8]) {
     match std::str::from_utf8(errors) {
         Ok(found) => write!(text, "{found:?}"),
         Err(_) => text.push_str("no text"),
@@ -42,61 +46,57 @@ fn push_errors(text: &mut String, errors: &[u8]) -> Result<(), AllocError> {
 }
 
 /// The status of a run, and its output and its text where those are asked for.
-fn ran(
+fn push_run(
     alloc: Global,
-    text: &mut String,
+    text: &mut Text,
     call: &str,
     words: &[String],
     outside: &mut Outside,
     errors: &mut MemorySink,
-) -> Result<bool, AllocError> {
+) {
     let status = run(alloc, words, &mut outside.source, &mut outside.sink, errors);
-    write!(text, "{status}")?;
+    write!(text, "{status}");
     if call == "run" {
-        text.push_str(" ")?;
-        push_output(text, outside.sink.bytes())?;
-        text.push_str(" ")?;
-        push_errors(text, errors.bytes())?;
+        text.push_str(" ");
+        push_output(text, outside.sink.bytes());
+        text.push_str(" ");
+        push_errors(text, errors.bytes());
     }
-    Ok(true)
 }
 
-/// The same of the words as they are read.
-fn ran_with(
+/// The same over the outside that these words say.
+fn ran(alloc: Global, text: &mut Text, call: &str, words: &[String], pieces: &[Word<'_>]) -> bool {
+    let Some(mut outside) = read_outside(alloc, pieces) else {
+        return false;
+    };
+    match MemorySink::new(alloc, ROOM, ROOM, &[]) {
+        Ok(mut errors) => push_run(alloc, text, call, words, &mut outside, &mut errors),
+        Err(_) => return false,
+    }
+    true
+}
+
+/// The answer of these words of the program.
+fn answer_words(
     alloc: Global,
-    text: &mut String,
+    text: &mut Text,
     call: &str,
-    words: &[&str],
-    outside: &mut Outside,
-) -> Result<bool, AllocError> {
-    let words = handed_over(alloc, words)?;
-    let mut errors = MemorySink::new(alloc, 256, 256, &[])?;
-    ran(alloc, text, call, words.as_slice(), outside, &mut errors)
-}
-
-/// How the words ask to listen.
-fn asks_to_listen(alloc: Global, text: &mut String, words: &[&str]) -> Result<bool, AllocError> {
-    let words = handed_over(alloc, words)?;
-    push_shown(text, listening(words.as_slice()))?;
-    Ok(true)
+    words: &[String],
+    pieces: &[Word<'_>],
+) -> bool {
+    match call {
+        "run" | "status" => return ran(alloc, text, call, words, pieces),
+        "listening" => text.push_shown(listening(words)),
+        _ => return false,
+    }
+    true
 }
 
 /// `run`, the words of the program, a colon and its outside; `status` and the same, for its status alone; `listening` and the words.
-pub fn answer(
-    alloc: Global,
-    text: &mut String,
-    call: &str,
-    words: &[&str],
-) -> Result<bool, AllocError> {
+pub fn answer(alloc: Global, text: &mut Text, call: &str, words: &[Word<'_>]) -> bool {
     let (words, pieces) = split(words);
-    if call == "listening" {
-        return asks_to_listen(alloc, text, words);
-    }
-    if call != "run" && call != "status" {
-        return Ok(false);
-    }
-    match read_outside(alloc, pieces)? {
-        Some(mut outside) => ran_with(alloc, text, call, words, &mut outside),
-        None => Ok(false),
+    match handed_over(alloc, words) {
+        Ok(words) => answer_words(alloc, text, call, words.as_slice(), pieces),
+        Err(_) => false,
     }
 }

@@ -3,7 +3,8 @@
 use crate::clients::{milliseconds, step, steps};
 use crate::left::{push_link, push_written};
 use crate::outside::{read_joined, read_line};
-use crate::text::push_shown;
+use crate::text::Text;
+use crate::word::Word;
 use modbus_client::Client;
 use modbus_frame::Slave;
 use modbus_link::{Connector, Failed, MemoryLink, TimedMemoryLink};
@@ -44,18 +45,11 @@ impl Connector for Links {
     }
 }
 
-/// A link over the outside that a word tells; another word is a connection that is refused.
-fn link_of(alloc: Global, word: &str) -> Result<Option<MemoryLink>, AllocError> {
-    match read_joined(alloc, word)? {
-        Some(outside) => Ok(Some(outside.into_link())),
-        None => Ok(None),
-    }
-}
-
+/// Links over the outsides that two words tell; another word is a connection that is refused.
 fn links_of(alloc: Global, first: &str, second: &str) -> Result<Links, AllocError> {
     let mut links = Vec::new(alloc);
-    links.push(link_of(alloc, second)?)?;
-    links.push(link_of(alloc, first)?)?;
+    links.push(read_joined(alloc, second))?;
+    links.push(read_joined(alloc, first))?;
     Ok(Links { links, faults: 0 })
 }
 
@@ -75,210 +69,204 @@ fn number_and_word(words: &str) -> Option<(u32, &str)> {
     Some((number.parse().ok()?, word))
 }
 
+/// How often a call may be sent again, and which requests.
+fn retries_of(words: &str) -> Option<(u32, Resend)> {
+    let (retries, resend) = number_and_word(words)?;
+    Some((retries, resend_of(resend)?))
+}
+
 /// What a step does to an RTU client over a connector, which also has `retries=1:reads`.
 fn rtu_step(
     alloc: Global,
-    text: &mut String,
+    text: &mut Text,
     client: &mut RtuOverTcpClient<Links>,
     word: &str,
-) -> Result<bool, AllocError> {
+) -> bool {
     let Some(retries) = word.strip_prefix("retries=") else {
         return step(alloc, text, client, word);
     };
-    let Some((retries, resend)) = number_and_word(retries) else {
-        return Ok(false);
-    };
-    let Some(resend) = resend_of(resend) else {
-        return Ok(false);
+    let Some((retries, resend)) = retries_of(retries) else {
+        return false;
     };
     client.set_retries(retries, resend);
-    text.push_str("()")?;
-    Ok(true)
+    text.push_str("()");
+    true
 }
 
-/// The answers of such a client, each with whether a link is used then; and the link, how often the last call tried, and how many links were
-/// not asked for.
+/// The answers of such a client, each with whether a link is used then.
 fn rtu_steps(
     alloc: Global,
-    text: &mut String,
+    text: &mut Text,
     client: &mut RtuOverTcpClient<Links>,
     words: &str,
-) -> Result<bool, AllocError> {
+) -> bool {
     for word in words.split(',') {
-        if !rtu_step(alloc, text, client, word)? {
-            return Ok(false);
+        if !rtu_step(alloc, text, client, word) {
+            return false;
         }
         text.push_str(if client.link().is_some() {
             " linked; "
         } else {
             " apart; "
-        })?;
+        });
     }
-    push_link(text, client.link())?;
-    write!(
-        text,
-        " tries {} left {}",
-        client.tries(),
-        client.connector().links.len()
-    )?;
-    Ok(true)
+    true
+}
+
+/// The same, and the link, how often the last call tried, and how many links were not asked for.
+fn over_rtu(
+    alloc: Global,
+    text: &mut Text,
+    client: &mut RtuOverTcpClient<Links>,
+    words: &str,
+) -> bool {
+    let is_done = rtu_steps(alloc, text, client, words);
+    push_link(text, client.link());
+    let left = client.connector().links.len();
+    write!(text, " tries {} left {left}", client.tries());
+    is_done
 }
 
 /// The answers of a TCP client over a connector, and its link.
-fn tcp_steps(
-    alloc: Global,
-    text: &mut String,
-    client: &mut TcpClient<Links>,
-    words: &str,
-) -> Result<bool, AllocError> {
-    if !steps(alloc, text, client, words)? {
-        return Ok(false);
-    }
-    push_link(text, client.link())?;
-    Ok(true)
+fn over_tcp(alloc: Global, text: &mut Text, client: &mut TcpClient<Links>, words: &str) -> bool {
+    let is_done = steps(alloc, text, client, words);
+    push_link(text, client.link());
+    is_done
 }
 
 /// Over a connector, by the call that is named.
 fn answers_over(
     alloc: Global,
-    text: &mut String,
+    text: &mut Text,
     call: &str,
     slave: Slave,
     words: &str,
     links: Links,
-) -> Result<bool, AllocError> {
+) -> bool {
     let address = SocketAddr::from((Ipv4Addr::LOCALHOST, 502));
     if call == "reconnect_rtu" {
         let mut client = RtuOverTcpClient::new(alloc, links, address, slave);
-        let answers = rtu_steps(alloc, text, &mut client, words);
-        drop(client);
-        return answers;
+        return over_rtu(alloc, text, &mut client, words);
     }
-    let mut client = TcpClient::new(alloc, links, address, slave);
-    let answers = tcp_steps(alloc, text, &mut client, words);
-    drop(client);
-    answers
+    over_tcp(
+        alloc,
+        text,
+        &mut TcpClient::new(alloc, links, address, slave),
+        words,
+    )
 }
 
 type Line = SerialClient<TimedMemoryLink>;
 
-/// Sets for how many milliseconds the line has to be silent, and how many bytes may come until then.
-fn set_quiet(text: &mut String, client: &mut Line, words: &str) -> Result<bool, AllocError> {
-    let Some((limit, quiet)) = number_and_word(words) else {
-        return Ok(false);
+/// For how many milliseconds a line has to be silent, and how many bytes may come until then.
+fn quiet_of(words: &str) -> Option<(Duration, usize)> {
+    let (limit, quiet) = number_and_word(words)?;
+    Some((
+        milliseconds(quiet)?,
+        usize::try_from(limit).unwrap_or(usize::MAX),
+    ))
+}
+
+/// Sets both.
+fn set_quiet(text: &mut Text, client: &mut Line, words: &str) -> bool {
+    let Some((quiet, limit)) = quiet_of(words) else {
+        return false;
     };
-    let Some(quiet) = milliseconds(quiet) else {
-        return Ok(false);
-    };
-    client.set_quiet(quiet, usize::try_from(limit).unwrap_or(usize::MAX));
-    text.push_str("()")?;
-    Ok(true)
+    client.set_quiet(quiet, limit);
+    text.push_str("()");
+    true
 }
 
 /// What a step does to a client of a line, which also has `quiet=4096:200`, `doubt` and `unsettled`.
-fn line_step(
-    alloc: Global,
-    text: &mut String,
-    client: &mut Line,
-    word: &str,
-) -> Result<bool, AllocError> {
+fn line_step(alloc: Global, text: &mut Text, client: &mut Line, word: &str) -> bool {
     if let Some(quiet) = word.strip_prefix("quiet=") {
         return set_quiet(text, client, quiet);
     }
     match word {
-        "doubt" => push_shown(text, client.is_in_doubt())?,
-        "unsettled" => push_shown(text, client.unsettled())?,
+        "doubt" => text.push_shown(client.is_in_doubt()),
+        "unsettled" => text.push_shown(client.unsettled()),
         _ => return step(alloc, text, client, word),
     }
-    Ok(true)
+    true
 }
 
-/// The answers of such a client, and what was written to its line.
-fn line_steps(
-    alloc: Global,
-    text: &mut String,
-    client: &mut Line,
-    words: &str,
-) -> Result<bool, AllocError> {
+/// The answers of such a client.
+fn line_steps(alloc: Global, text: &mut Text, client: &mut Line, words: &str) -> bool {
     for word in words.split(',') {
-        if !line_step(alloc, text, client, word)? {
-            return Ok(false);
+        if !line_step(alloc, text, client, word) {
+            return false;
         }
-        text.push_str("; ")?;
+        text.push_str("; ");
     }
-    match client.link() {
-        Some(line) => push_written(text, line.link())?,
-        None => text.push_str("no link")?,
-    }
-    Ok(true)
+    true
 }
 
-/// The answers of a client of a line with the outside that the words tell.
+/// The same, and what was written to its line.
+fn over_line(alloc: Global, text: &mut Text, client: &mut Line, words: &str) -> bool {
+    let is_done = line_steps(alloc, text, client, words);
+    match client.link() {
+        Some(line) => push_written(text, line.link()),
+        None => text.push_str("no link"),
+    }
+    is_done
+}
+
+/// The answers of a client of this line.
 fn answers_on_line(
     alloc: Global,
-    text: &mut String,
+    text: &mut Text,
     slave: Slave,
     steps: &str,
-    words: &[&str],
-) -> Result<bool, AllocError> {
-    match read_line(alloc, words)? {
-        Some(line) => {
-            let mut client = SerialClient::new(alloc, line, slave, Duration::from_millis(SILENCE));
-            client.set_timeout(Some(Duration::from_millis(TIMEOUT)));
-            line_steps(alloc, text, &mut client, steps)
-        }
-        None => Ok(false),
-    }
-}
-
-/// Whether a line is settled by one silence, of which at most a hundred bytes are dropped.
-fn settled(alloc: Global, text: &mut String, words: &[&str]) -> Result<bool, AllocError> {
-    match read_line(alloc, words)? {
-        Some(mut line) => {
-            push_shown(text, settle(&mut line, 1, 100))?;
-            Ok(true)
-        }
-        None => Ok(false),
-    }
+    line: TimedMemoryLink,
+) -> bool {
+    let mut client = SerialClient::new(alloc, line, slave, Duration::from_millis(SILENCE));
+    client.set_timeout(Some(Duration::from_millis(TIMEOUT)));
+    over_line(alloc, text, &mut client, steps)
 }
 
 /// The call of a slave, steps and what they go over.
 fn answer_steps(
     alloc: Global,
-    text: &mut String,
+    text: &mut Text,
     call: &str,
     slave: Slave,
     steps: &str,
-    words: &[&str],
-) -> Result<bool, AllocError> {
-    if call == "reconnect_serial" {
-        return answers_on_line(alloc, text, slave, steps, words);
-    }
+    words: &[Word<'_>],
+) -> bool {
     match words {
-        [first, second] => {
-            let links = links_of(alloc, first, second)?;
-            answers_over(alloc, text, call, slave, steps, links)
+        [first, second] if call != "reconnect_serial" => {
+            match links_of(alloc, first.text, second.text) {
+                Ok(links) => answers_over(alloc, text, call, slave, steps, links),
+                Err(_) => false,
+            }
         }
-        _ => Ok(false),
+        _ => match read_line(alloc, words) {
+            Some(line) => answers_on_line(alloc, text, slave, steps, line),
+            None => false,
+        },
     }
+}
+
+/// Whether a line is settled by one silence, of which at most a hundred bytes are dropped.
+fn settled(alloc: Global, text: &mut Text, words: &[Word<'_>]) -> bool {
+    match read_line(alloc, words) {
+        Some(mut line) => text.push_shown(settle(&mut line, 1, 100)),
+        None => return false,
+    }
+    true
 }
 
 /// `reconnect_rtu` or `reconnect_tcp`, a slave, steps with commas between them, and two links, the one after the other; `reconnect_serial`, a
 /// slave, steps, and the outside of the line, `p8` a silence behind 8 bytes; or `reconnect_settle` and the outside of the line.
-pub fn answer(
-    alloc: Global,
-    text: &mut String,
-    call: &str,
-    words: &[&str],
-) -> Result<bool, AllocError> {
+pub fn answer(alloc: Global, text: &mut Text, call: &str, words: &[Word<'_>]) -> bool {
     if call == "reconnect_settle" {
         return settled(alloc, text, words);
     }
     let [slave, steps, words @ ..] = words else {
-        return Ok(false);
+        return false;
     };
-    match slave.parse::<u8>() {
-        Ok(slave) => answer_steps(alloc, text, call, Slave(slave), steps, words),
-        Err(_) => Ok(false),
+    match slave.byte() {
+        Some(slave) => answer_steps(alloc, text, call, Slave(slave), steps.text, words),
+        None => false,
     }
 }

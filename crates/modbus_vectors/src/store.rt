@@ -1,13 +1,14 @@
 //! Requests to a register store.
 
 use crate::asking::ask_all;
-use crate::text::{bytes, push_outcome};
+use crate::text::Text;
+use crate::word::Word;
 use modbus_app::{Form, Mode, open};
 use modbus_client::exchange;
 use modbus_frame::Slave;
 use modbus_pdu::decode_request;
 use modbus_store::{RegisterStore, Sizes, StoreError};
-use std::alloc::{AllocError, Global};
+use std::alloc::Global;
 
 /// The greatest size that the words of the program may name.
 const MOST_ENTRIES: u32 = 0x10000;
@@ -29,25 +30,20 @@ fn store_of(alloc: Global, form: Form) -> Result<RegisterStore, StoreError> {
 /// The answer of a store to a request, with no link.
 fn exchange_with(
     alloc: Global,
-    text: &mut String,
+    text: &mut Text,
     slave: Slave,
     pdu: &[u8],
     store: &mut RegisterStore,
-) -> Result<bool, AllocError> {
+) -> bool {
     let Ok(request) = decode_request(alloc, pdu) else {
-        return Ok(false);
+        return false;
     };
-    push_outcome(text, exchange(alloc, slave, request, store))?;
-    Ok(true)
+    text.push_outcome(exchange(alloc, slave, request, store));
+    true
 }
 
 /// The same of a seeded store of eight entries a table, which takes part in broadcasts.
-fn exchange_seeded(
-    alloc: Global,
-    text: &mut String,
-    slave: Slave,
-    pdu: &[u8],
-) -> Result<bool, AllocError> {
+fn exchange_seeded(alloc: Global, text: &mut Text, slave: Slave, pdu: &[u8]) -> bool {
     let form = Form {
         mode: Mode::Rtu,
         size: 8,
@@ -55,20 +51,17 @@ fn exchange_seeded(
     };
     match open(alloc, form) {
         Ok(mut store) => exchange_with(alloc, text, slave, pdu, &mut store),
-        Err(_) => Err(AllocError),
+        Err(_) => false,
     }
 }
 
-fn exchanged(alloc: Global, text: &mut String, words: &[&str]) -> Result<bool, AllocError> {
-    let &[slave, pdu] = words else {
-        return Ok(false);
+fn exchanged(alloc: Global, text: &mut Text, words: &[Word<'_>]) -> bool {
+    let [slave, pdu] = words else {
+        return false;
     };
-    let Ok(slave) = slave.parse::<u8>() else {
-        return Ok(false);
-    };
-    match bytes(alloc, pdu)? {
-        Some(pdu) => exchange_seeded(alloc, text, Slave(slave), pdu.as_slice()),
-        None => Ok(false),
+    match (slave.byte(), pdu.bytes()) {
+        (Some(slave), Some(pdu)) => exchange_seeded(alloc, text, Slave(slave), pdu),
+        _ => false,
     }
 }
 
@@ -87,33 +80,26 @@ fn form_of(mode: &str, size: &str, contents: &str) -> Option<Form> {
 }
 
 /// The answers of the store that the words tell.
-fn stored(alloc: Global, text: &mut String, words: &[&str]) -> Result<bool, AllocError> {
-    let &[mode, size, contents, ref requests @ ..] = words else {
-        return Ok(false);
+fn stored(alloc: Global, text: &mut Text, words: &[Word<'_>]) -> bool {
+    let [mode, size, contents, requests @ ..] = words else {
+        return false;
     };
-    let Some(form) = form_of(mode, size, contents) else {
-        return Ok(false);
+    let Some(form) = form_of(mode.text, size.text, contents.text) else {
+        return false;
     };
     match store_of(alloc, form) {
-        Ok(mut store) => ask_all(alloc, text, &mut store, requests),
-        Err(error) => {
-            write!(text, "{error:?}: {error}")?;
-            Ok(true)
-        }
+        Ok(mut store) => return ask_all(alloc, text, &mut store, requests),
+        Err(error) => write!(text, "{error:?}: {error}"),
     }
+    true
 }
 
 /// `store rtu 8 seeded 1 0300010001`: a store of a mode, a size and contents, and the requests to it; `exchange 1 0300010001`: one request
 /// by the call of a client that has no link.
-pub fn answer(
-    alloc: Global,
-    text: &mut String,
-    call: &str,
-    words: &[&str],
-) -> Result<bool, AllocError> {
+pub fn answer(alloc: Global, text: &mut Text, call: &str, words: &[Word<'_>]) -> bool {
     match call {
         "store" => stored(alloc, text, words),
         "exchange" => exchanged(alloc, text, words),
-        _ => Ok(false),
+        _ => false,
     }
 }

@@ -1,50 +1,52 @@
 //! The lines of a table, each read and answered.
 
 use crate::calls::answer;
+use crate::text::Text;
+use crate::word::Word;
 use std::alloc::{AllocError, Global};
 use std::io;
 use std::process::ExitCode;
 use std::sync::Wait;
 
 /// Appends the answer to the call that these words are, or that there is none.
-fn push_answer<R: Wait>(
-    rt: &R,
-    alloc: Global,
-    text: &mut String,
-    words: &[&str],
-) -> Result<(), AllocError> {
+fn push_answer<R: Wait>(rt: &R, alloc: Global, text: &mut Text, words: &[Word<'_>]) {
     let Some((call, rest)) = words.split_first() else {
-        return text.push_str("no call");
+        text.push_str("no call");
+        return;
     };
-    if !answer(rt, alloc, text, call, rest)? {
-        text.push_str("no such call, or no such arguments")?;
+    if !answer(rt, alloc, text, call.text, rest) {
+        text.push_str("no such call, or no such arguments");
     }
-    Ok(())
 }
 
 /// Appends what stands for a line of the input in the output.
+///
+/// # Errors
+/// `AllocError` where memory is refused for the words.
 fn push_line<R: Wait>(
     rt: &R,
     alloc: Global,
-    text: &mut String,
+    text: &mut Text,
     line: &str,
 ) -> Result<(), AllocError> {
     if line.is_empty() || line.as_bytes()[0] == b'#' {
-        return text.push_str(line);
+        text.push_str(line);
+        return Ok(());
     }
     let mut words = Vec::new(alloc);
     for word in line.split_whitespace() {
-        words.push(word)?;
+        words.push(Word::new(alloc, word))?;
     }
-    push_answer(rt, alloc, text, words.as_slice())
+    push_answer(rt, alloc, text, words.as_slice());
+    Ok(())
 }
 
 fn answer_lines<R: Wait>(rt: &HostRuntime, waits: &R) -> io::Result<()> {
     for line in rt.lines(rt.alloc()) {
         let line = line?;
-        let mut text = String::new(rt.alloc());
+        let mut text = Text::new(rt.alloc());
         push_line(waits, rt.alloc(), &mut text, line.as_str())?;
-        println!(rt; "{text}")?;
+        println!(rt; "{}", text.whole()?)?;
     }
     Ok(())
 }

@@ -1,6 +1,7 @@
 //! Typed calls of any client, and through a box over a caller's client that answers one response.
 
-use crate::text::{bytes, push_shown};
+use crate::text::Text;
+use crate::word::Word;
 use bytes::Bytes;
 use modbus_client::Context;
 use modbus_client::prelude::*;
@@ -8,7 +9,7 @@ use modbus_frame::{
     Coils, Error, ResponsePdu, Result as Answer, ShutdownFault, TransportError, Words,
 };
 use modbus_pdu::{decode_request, decode_response_pdu};
-use std::alloc::{AllocError, Global};
+use std::alloc::Global;
 use std::time::Duration;
 
 /// A client that answers once, whatever it is asked.
@@ -117,69 +118,63 @@ fn write<C: SyncWriter>(client: &mut C, request: &Request<'_>) -> Answer<()> {
 }
 
 /// The answer of the typed call of a request.
-pub fn ask<C: SyncClient>(
-    text: &mut String,
-    client: &mut C,
-    request: &Request<'_>,
-) -> Result<bool, AllocError> {
+pub fn ask<C: SyncClient>(text: &mut Text, client: &mut C, request: &Request<'_>) {
     match request.function_code().value() {
-        0x05 | 0x06 | 0x0F | 0x10 | 0x16 => push_shown(text, write(client, request))?,
-        _ => push_shown(text, read(client, request))?,
+        0x05 | 0x06 | 0x0F | 0x10 | 0x16 => text.push_shown(write(client, request)),
+        _ => text.push_shown(read(client, request)),
     }
-    Ok(true)
 }
 
-/// The answer of the typed call of a request of a client that answers so.
+/// What the PDU of a response or an exception answers; an empty one stands for a fault of the link. None where it is no such PDU.
+fn answer_of(alloc: Global, pdu: &[u8]) -> Option<Answer<Response>> {
+    if pdu.is_empty() {
+        return Some(Err(Error::Transport(TransportError::BrokenPipe)));
+    }
+    let pdu = Bytes::copy_from_slice(alloc, pdu).ok()?;
+    match decode_response_pdu(alloc, pdu).ok()? {
+        ResponsePdu(Ok(response)) => Some(Ok(Ok(response))),
+        ResponsePdu(Err(refusal)) => Some(Ok(Err(refusal.exception))),
+    }
+}
+
+/// The answer of the typed call of a request, of a client that answers so.
 fn ask_once(
     alloc: Global,
-    text: &mut String,
+    text: &mut Text,
     request: &Request<'_>,
     answer: Answer<Response>,
-) -> Result<bool, AllocError> {
+) -> bool {
     let once = Once {
         answer: Some(answer),
         slave: Slave(0),
         timeout: None,
     };
-    let client: Box<dyn Client> = Box::new(alloc, once)?;
-    ask(text, &mut Context::from(client), request)
-}
-
-/// The same of a client that answers the PDU of a response or an exception; an empty one stands for a fault of its link.
-fn ask_for(
-    alloc: Global,
-    text: &mut String,
-    request: &Request<'_>,
-    answer: &[u8],
-) -> Result<bool, AllocError> {
-    if answer.is_empty() {
-        let broken = Error::Transport(TransportError::BrokenPipe);
-        return ask_once(alloc, text, request, Err(broken));
-    }
-    match decode_response_pdu(alloc, Bytes::copy_from_slice(alloc, answer)?) {
-        Ok(ResponsePdu(Ok(response))) => ask_once(alloc, text, request, Ok(Ok(response))),
-        Ok(ResponsePdu(Err(refusal))) => ask_once(alloc, text, request, Ok(Err(refusal.exception))),
-        Err(_) => Ok(false),
-    }
+    let Ok(once) = Box::new(alloc, once) else {
+        return false;
+    };
+    let client: Box<dyn Client> = once;
+    ask(text, &mut Context::from(client), request);
+    true
 }
 
 /// The same of the PDU of a request.
-fn ask_of(alloc: Global, text: &mut String, pdu: &[u8], answer: &[u8]) -> Result<bool, AllocError> {
+fn ask_of(alloc: Global, text: &mut Text, pdu: &[u8], answer: Answer<Response>) -> bool {
     match decode_request(alloc, pdu) {
-        Ok(request) => ask_for(alloc, text, &request, answer),
-        Err(_) => Ok(false),
+        Ok(request) => ask_once(alloc, text, &request, answer),
+        Err(_) => false,
     }
 }
 
 /// `typed`, the PDU of a request, and the PDU of what the client answers: a response or an exception; `-` for a fault of its link.
-pub fn answer(alloc: Global, text: &mut String, words: &[&str]) -> Result<bool, AllocError> {
-    let &[request, answer] = words else {
-        return Ok(false);
+pub fn answer(alloc: Global, text: &mut Text, words: &[Word<'_>]) -> bool {
+    let [request, answer] = words else {
+        return false;
     };
-    match (bytes(alloc, request)?, bytes(alloc, answer)?) {
-        (Some(request), Some(answer)) => {
-            ask_of(alloc, text, request.as_slice(), answer.as_slice())
-        }
-        _ => Ok(false),
+    let (Some(request), Some(answer)) = (request.bytes(), answer.bytes()) else {
+        return false;
+    };
+    match answer_of(alloc, answer) {
+        Some(answer) => ask_of(alloc, text, request, answer),
+        None => false,
     }
 }

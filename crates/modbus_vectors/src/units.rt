@@ -1,113 +1,72 @@
 //! Requests to stores behind their addresses on one line.
 
 use crate::asking::ask_all;
+use crate::text::Text;
+use crate::word::Word;
 use modbus_app::{Form, Mode, open};
 use modbus_frame::ExceptionCode;
 use modbus_service::{OnlyUnit, Units};
 use modbus_store::RegisterStore;
-use std::alloc::{AllocError, Global};
+use std::alloc::Global;
 
-/// A store of eight entries a table that hold 0.
-fn store(alloc: Global) -> Result<RegisterStore, AllocError> {
+/// A store at an address, with eight entries a table that hold 0. None where that is no address.
+fn unit_of(alloc: Global, address: &str) -> Option<OnlyUnit<RegisterStore>> {
+    let unit = address.parse().ok()?;
     let form = Form {
         mode: Mode::Rtu,
         size: 8,
         seeded: false,
     };
-    match open(alloc, form) {
-        Ok(store) => Ok(store),
-        Err(_) => Err(AllocError),
-    }
+    Some(OnlyUnit {
+        unit,
+        service: open(alloc, form).ok()?,
+    })
 }
 
 /// The answers of a store at an address.
-fn only(
-    alloc: Global,
-    text: &mut String,
-    address: &str,
-    words: &[&str],
-) -> Result<bool, AllocError> {
-    let Ok(unit) = address.parse::<u8>() else {
-        return Ok(false);
-    };
-    let service = store(alloc)?;
-    ask_all(alloc, text, &mut OnlyUnit { unit, service }, words)
+fn only(alloc: Global, text: &mut Text, address: &str, words: &[Word<'_>]) -> bool {
+    match unit_of(alloc, address) {
+        Some(mut unit) => ask_all(alloc, text, &mut unit, words),
+        None => false,
+    }
 }
 
-/// Appends a store at an address. False where that is no address.
-fn push_unit(
-    alloc: Global,
-    units: &mut Vec<OnlyUnit<RegisterStore>>,
-    address: &str,
-) -> Result<bool, AllocError> {
-    let Ok(unit) = address.parse::<u8>() else {
-        return Ok(false);
-    };
-    let service = store(alloc)?;
-    units.push(OnlyUnit { unit, service })?;
-    Ok(true)
-}
-
-/// Appends stores at these addresses, which have commas between them.
-fn push_units(
-    alloc: Global,
-    units: &mut Vec<OnlyUnit<RegisterStore>>,
-    addresses: &str,
-) -> Result<bool, AllocError> {
+/// Stores at these addresses, which have commas between them.
+fn units_of(alloc: Global, addresses: &str) -> Option<Vec<OnlyUnit<RegisterStore>>> {
+    let mut units = Vec::new(alloc);
     for address in addresses.split(',') {
-        if !push_unit(alloc, units, address)? {
-            return Ok(false);
-        }
+        units.push(unit_of(alloc, address)?).ok()?;
     }
-    Ok(true)
+    Some(units)
 }
 
-/// The answers of stores on one line, or why they cannot share it.
-fn answers(
-    alloc: Global,
-    text: &mut String,
-    absent: Option<ExceptionCode>,
-    units: Vec<OnlyUnit<RegisterStore>>,
-    words: &[&str],
-) -> Result<bool, AllocError> {
-    match Units::new(units, absent) {
-        Ok(mut units) => ask_all(alloc, text, &mut units, words),
-        Err(error) => {
-            write!(text, "Err({error:?})")?;
-            Ok(true)
-        }
-    }
-}
-
-/// The answers of several units, with an exception by its number for an address that none has, or silence where that is no number.
+/// The answers of several units, with this exception for an address that none has or silence, or why they cannot share their line.
 fn several(
     alloc: Global,
-    text: &mut String,
-    absent: &str,
+    text: &mut Text,
+    absent: Option<ExceptionCode>,
     addresses: &str,
-    words: &[&str],
-) -> Result<bool, AllocError> {
-    let absent = absent.parse::<u8>().ok().map(ExceptionCode::new);
-    let mut units = Vec::new(alloc);
-    if !push_units(alloc, &mut units, addresses)? {
-        return Ok(false);
+    words: &[Word<'_>],
+) -> bool {
+    let Some(units) = units_of(alloc, addresses) else {
+        return false;
+    };
+    match Units::new(units, absent) {
+        Ok(mut units) => return ask_all(alloc, text, &mut units, words),
+        Err(error) => write!(text, "Err({error:?})"),
     }
-    answers(alloc, text, absent, units, words)
+    true
 }
 
 /// `only_unit 5 5 0300010001`: a store at an address, and the requests on its line; `units 11 1,2 1 0300010001`: stores at several, with the
 /// exception for any other address or `-` for silence.
-pub fn answer(
-    alloc: Global,
-    text: &mut String,
-    call: &str,
-    words: &[&str],
-) -> Result<bool, AllocError> {
+pub fn answer(alloc: Global, text: &mut Text, call: &str, words: &[Word<'_>]) -> bool {
     match (call, words) {
-        ("only_unit", &[address, ref words @ ..]) => only(alloc, text, address, words),
-        ("units", &[absent, addresses, ref words @ ..]) => {
-            several(alloc, text, absent, addresses, words)
+        ("only_unit", [address, words @ ..]) => only(alloc, text, address.text, words),
+        ("units", [absent, addresses, words @ ..]) => {
+            let absent = absent.byte().map(ExceptionCode::new);
+            several(alloc, text, absent, addresses.text, words)
         }
-        _ => Ok(false),
+        _ => false,
     }
 }
