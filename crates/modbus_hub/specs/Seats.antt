@@ -148,3 +148,11 @@ module _ {L : Type 0} where
   IsDrop history [] = Unit {0}
   IsDrop history (dropped key ∷ more) = IsDrop history more
   IsDrop history (e ∷ more) = ⊥
+
+-- where the reads of a connection were used up, it is known that one may be left
+abbrev pub MarksLeft : {L : Type 0} → SeatsState L → Type 0
+MarksLeft seats = (key : ℕ) → IsTrue (is_spent_at (get seats.seats key)) → IsTrue seats.has_spent
+
+-- the same, where it was so before
+abbrev pub KeepsMarks : {L : Type 0} → SeatsState L → SeatsState L → Type 0
+KeepsMarks old new = MarksLeft old → MarksLeft new

@@ -3,7 +3,7 @@ ghost use Rattle.std.specs.Prelude.{◌≡◌, ◌≢◌, ◌↔◌, ℕ, ◌==�
 ghost use Rattle.modbus_link.specs.Line.{meaning_of};
 ghost use Rattle.modbus_turn.specs.declared.turn.Turn.TheVariants.{Spent};
 ghost use Rattle.slab.specs.Slab.{Updates, get, slab_len};
-ghost use Rattle.modbus_hub.specs.Seats.{SeatsGoOn, polled_by, IsTurnOf, Admits, TurnsIfSpent, ServesSpent, IsDrop, TakesFewAt, NoMore, OneMore, is_spent_at, kept};
+ghost use Rattle.modbus_hub.specs.Seats.{SeatsGoOn, polled_by, IsTurnOf, Admits, TurnsIfSpent, ServesSpent, IsDrop, KeepsMarks, MarksLeft, TakesFewAt, NoMore, OneMore, is_spent_at, kept};
 
 use crate::seat::Seat;
 use modbus_link::PolledLink;
@@ -96,6 +96,7 @@ impl<I: Framing, L: PolledLink + Drop> Seats<I, L> {
     /// `AllocError` where memory is refused; the link is dropped.
     pub fn admit<V: Answerer>(&mut self, link: L, service: &InTurn<V>) -> Result<usize, AllocError>
         ensures spent { self.new.has_spent ≡ self.old.has_spent }
+        ensures marks { KeepsMarks self.old self.new }
         ensures one { OneMore self.old self.new }
         ensures key { IfOk result (λ key. key ≡ self.old.seats.vacant_key) }
         ensures goes_on { SeatsGoOn I.framing V.answering
@@ -129,6 +130,8 @@ impl<I: Framing, L: PolledLink + Drop> Seats<I, L> {
             (get self.old.seats key) (get self.new.seats key) }
         ensures left { result ≡ Some Spent → IsTrue self.new.has_spent }
         ensures stays { IsTrue self.old.has_spent → IsTrue self.new.has_spent }
+        ensures marks { IsTrue (is_spent_at (get self.new.seats key))
+            → IsTrue self.new.has_spent }
         ensures no_more { NoMore self.old self.new }
     {
         let Some(seat) = self.seats.get_mut(key) else {
@@ -136,6 +139,8 @@ impl<I: Framing, L: PolledLink + Drop> Seats<I, L> {
             return None;
         };
         if !seat.is_open() {
+            // a connection that is over does not stay
+            let _ = self.seats.try_remove(key);
             let _same = service.service();
             return None;
         }
@@ -171,6 +176,9 @@ impl<I: Framing, L: PolledLink + Drop> Seats<I, L> {
             service.old.service service.new.service }
         ensures others { (other : ℕ) → other ≢ key
             → get self.new.seats other ≡ get self.old.seats other }
+        ensures stays { IsTrue self.old.has_spent → IsTrue self.new.has_spent }
+        ensures marks { IsTrue (is_spent_at (get self.new.seats key))
+            → IsTrue self.new.has_spent }
         ensures no_more { NoMore self.old self.new }
     {
         if self.is_spent(key) {
@@ -187,6 +195,7 @@ impl<I: Framing, L: PolledLink + Drop> Seats<I, L> {
             (polled_by (meaning_of L.input L.output L.line) L.not_ready self.old.reads)
             (ServesSpent self.old.seats) self.old.seats self.new.seats service.old.service
             service.new.service }
+        ensures marks { MarksLeft self.new }
         ensures no_more { NoMore self.old self.new }
     {
         let _before = service.service();
@@ -223,6 +232,7 @@ impl<I: Framing, L: PolledLink + Drop> Seats<I, L> {
             IsDrop self.old.seats self.new.seats service.now.service service.now.service }
         ensures lets_go { (key : ℕ) → get self.new.seats key ≡ kept (get self.old.seats key) }
         ensures spent { self.new.has_spent ≡ self.old.has_spent }
+        ensures marks { KeepsMarks self.old self.new }
         ensures no_more { NoMore self.old self.new }
     {
         let _service = service;

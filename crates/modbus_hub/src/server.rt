@@ -4,7 +4,7 @@ ghost use Rattle.modbus_ready.specs.declared.readiness.Ready.TheVariants.{Peer};
 ghost use Rattle.modbus_link.specs.Line.{meaning_of};
 ghost use Rattle.modbus_link.specs.Outside.{Rose};
 ghost use Rattle.slab.specs.Slab.{get, slab_len};
-ghost use Rattle.modbus_hub.specs.Seats.{SeatsGoOn, polled_by, IsDrop, NoMore, OneMore, KeepsLimit, kept};
+ghost use Rattle.modbus_hub.specs.Seats.{SeatsGoOn, polled_by, IsDrop, NoMore, OneMore, KeepsLimit, KeepsMarks, MarksLeft, kept};
 ghost use Rattle.modbus_hub.specs.Turns.{AcceptsNext, AcceptsAsked, Brings, Comes, IsPeerFound, ServesFound, ServesLeft, TakesRound};
 
 use crate::seats::{Limits, Seats};
@@ -66,6 +66,7 @@ where
         ensures reads { result.seats.reads ≡ limits.reads }
         ensures most { result.seats.most ≡ limits.connections }
         ensures unseated { result.unseated ≡ 0 }
+        ensures marks { MarksLeft result.seats }
         ensures asked { IsTrue result.is_asked }
     {
         EventServer {
@@ -104,6 +105,7 @@ where
         ensures found { S.found self.new.readiness ≡ S.found self.old.readiness }
         ensures later { S.faults self.old.readiness ≤ S.faults self.new.readiness }
         ensures one { OneMore self.old.seats self.new.seats }
+        ensures marks { KeepsMarks self.old.seats self.new.seats }
         ensures asked { self.new.is_asked ≡ self.old.is_asked }
         ensures goes_on { SeatsGoOn I.framing V.answering
             (polled_by (meaning_of A.Link.input A.Link.output A.Link.line) A.Link.not_ready
@@ -128,6 +130,7 @@ where
         ensures found { S.found self.new.readiness ≡ S.found self.old.readiness }
         ensures later { S.faults self.old.readiness ≤ S.faults self.new.readiness }
         ensures limit { KeepsLimit self.old.seats self.new.seats }
+        ensures marks { KeepsMarks self.old.seats self.new.seats }
         ensures goes_on { SeatsGoOn I.framing V.answering
             (polled_by (meaning_of A.Link.input A.Link.output A.Link.line) A.Link.not_ready
             self.old.seats.reads)
@@ -157,6 +160,7 @@ where
         ensures found { S.found self.new.readiness ≡ S.found self.old.readiness }
         ensures later { S.faults self.old.readiness ≤ S.faults self.new.readiness }
         ensures limit { KeepsLimit self.old.seats self.new.seats }
+        ensures marks { KeepsMarks self.old.seats self.new.seats }
         ensures goes_on { SeatsGoOn I.framing V.answering
             (polled_by (meaning_of A.Link.input A.Link.output A.Link.line) A.Link.not_ready
             self.old.seats.reads)
@@ -179,6 +183,7 @@ where
         ensures readiness { self.new.readiness ≡ self.old.readiness }
         ensures unseated { self.new.unseated ≡ self.old.unseated }
         ensures no_more { NoMore self.old.seats self.new.seats }
+        ensures marks { KeepsMarks self.old.seats self.new.seats }
         ensures waits { IsTrue self.old.is_asked → IsTrue self.new.is_asked }
         ensures asked { ready ≡ Peer → IsTrue self.new.is_asked }
         ensures goes_on { SeatsGoOn I.framing V.answering
@@ -205,6 +210,7 @@ where
         ensures readiness { self.new.readiness ≡ self.old.readiness }
         ensures unseated { self.new.unseated ≡ self.old.unseated }
         ensures no_more { NoMore self.old.seats self.new.seats }
+        ensures marks { KeepsMarks self.old.seats self.new.seats }
         ensures waits { IsTrue self.old.is_asked → IsTrue self.new.is_asked }
         ensures asked { IsPeerFound (S.found self.old.readiness) → IsTrue self.new.is_asked }
         ensures goes_on { SeatsGoOn I.framing V.answering
@@ -227,6 +233,7 @@ where
         ensures readiness { self.new.readiness ≡ self.old.readiness }
         ensures unseated { self.new.unseated ≡ self.old.unseated }
         ensures no_more { NoMore self.old.seats self.new.seats }
+        ensures marks { KeepsMarks self.old.seats self.new.seats }
         ensures asked { self.new.is_asked ≡ self.old.is_asked }
         ensures goes_on { SeatsGoOn I.framing V.answering
             (polled_by (meaning_of A.Link.input A.Link.output A.Link.line) A.Link.not_ready
@@ -246,6 +253,7 @@ where
         ensures found { S.found self.new.readiness ≡ S.found self.old.readiness }
         ensures later { S.faults self.old.readiness ≤ S.faults self.new.readiness }
         ensures limit { KeepsLimit self.old.seats self.new.seats }
+        ensures marks { KeepsMarks self.old.seats self.new.seats }
         ensures goes_on { SeatsGoOn I.framing V.answering
             (polled_by (meaning_of A.Link.input A.Link.output A.Link.line) A.Link.not_ready
             self.old.seats.reads)
@@ -286,6 +294,7 @@ where
         ensures cause { OnErr result (Rose (S.faults self.old.readiness)
             (S.faults self.new.readiness)) }
         ensures limit { KeepsLimit self.old.seats self.new.seats }
+        ensures marks { KeepsMarks self.old.seats self.new.seats }
         ensures goes_on { SeatsGoOn I.framing V.answering
             (polled_by (meaning_of A.Link.input A.Link.output A.Link.line) A.Link.not_ready
             self.old.seats.reads)
@@ -309,8 +318,10 @@ where
     pub fn drop_idle<V: Answerer>(&mut self, service: &InTurn<V>)
         ensures acceptor { self.new.acceptor ≡ self.old.acceptor }
         ensures readiness { self.new.readiness ≡ self.old.readiness }
+        ensures asked { self.new.is_asked ≡ self.old.is_asked }
         ensures unseated { self.new.unseated ≡ self.old.unseated }
         ensures no_more { NoMore self.old.seats self.new.seats }
+        ensures marks { KeepsMarks self.old.seats self.new.seats }
         ensures goes_on { SeatsGoOn I.framing V.answering
             (polled_by (meaning_of A.Link.input A.Link.output A.Link.line) A.Link.not_ready
             self.old.seats.reads) IsDrop
@@ -335,6 +346,7 @@ where
         ensures cause { OnErr result (Rose (S.faults self.old.readiness)
             (S.faults self.new.readiness)) }
         ensures limit { KeepsLimit self.old.seats self.new.seats }
+        ensures marks { KeepsMarks self.old.seats self.new.seats }
         ensures goes_on { SeatsGoOn I.framing V.answering
             (polled_by (meaning_of A.Link.input A.Link.output A.Link.line) A.Link.not_ready
             self.old.seats.reads)
@@ -377,6 +389,7 @@ where
         ensures cause { OnErr result (Rose (S.faults self.old.readiness)
             (S.faults self.new.readiness)) }
         ensures limit { KeepsLimit self.old.seats self.new.seats }
+        ensures marks { KeepsMarks self.old.seats self.new.seats }
         ensures goes_on { SeatsGoOn I.framing V.answering
             (polled_by (meaning_of A.Link.input A.Link.output A.Link.line) A.Link.not_ready
             self.old.seats.reads)

@@ -28,6 +28,6 @@ returns-in-Over-clause-goes_on g c =
     let olds = c.self.inside.seats in
     let here : get olds c.args.key ≡ Some c.in-Some.seat.now = search rules in
     let present : ContainsKey olds c.args.key = search rules in
-    rw (← c.self.view_is) (served g.I.Framing.framing g.V.Answerer.answering (polled_by (meaning_of g.L.Ends.input g.L.Ends.output g.L.Ends.line) g.L.PolledLink.not_ready c.self.inside.limits.reads) c.args.key olds c.try_remove.new.self c.in-Some.seat.now c.serve.new.self c.args.service.now.service c.serve.new.service.service
+    rw (← c.self.view_is) (served g.I.Framing.framing g.V.Answerer.answering (polled_by (meaning_of g.L.Ends.input g.L.Ends.output g.L.Ends.line) g.L.PolledLink.not_ready c.self.inside.limits.reads) c.args.key olds c.try_remove-in-Over.new.self c.in-Some.seat.now c.serve.new.self c.args.service.now.service c.serve.new.service.service
     here (Over c.in-Over.answer) c.in-Over.ensures.turn c.in-Over.ensures.open c.in-Over.ensures.waited c.in-Over.ensures.used c.in-Over.ensures.spent
-    (updates_both olds _ c.try_remove.new.self c.args.key _ _ (Updates-with_value olds c.args.key c.serve.new.self present) c.try_remove.ensures.updates))
+    (updates_both olds _ c.try_remove-in-Over.new.self c.args.key _ _ (Updates-with_value olds c.args.key c.serve.new.self present) c.try_remove-in-Over.ensures.updates))

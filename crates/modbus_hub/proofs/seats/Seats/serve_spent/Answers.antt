@@ -4,6 +4,7 @@ use Rattle.modbus_hub.specs.Seats.{polled_by, TurnsIfSpent}
 use Rattle.modbus_hub.proofs.Histories.{stays_none}
 use Rattle.modbus_hub.proofs.Seating.{go_both, go_same}
 use Rattle.modbus_hub.proofs.Counting.{none_more}
+use Rattle.modbus_hub.proofs.Marks.{marks_below}
 use Rattle.modbus_hub.proofs.Rounds.{ServesBelow, serves_below, same_above}
 use Rattle.std.proofs.Common.{◌+◌, refl, arith}
 use Rattle.modbus_hub.proofs.seats.Seats.serve_spent.Goals as goal
@@ -17,6 +18,7 @@ keys-init g c =
       go_same g.I.Framing.framing g.V.Answerer.answering (polled_by (meaning_of g.L.Ends.input g.L.Ends.output g.L.Ends.line) g.L.PolledLink.not_ready c.self.inside.limits.reads) (ServesBelow 0 c.self.inside.seats)
           c.self.inside.seats c.self.inside.seats c.args.service.now.service (λ key. refl) (λ start history all. ((refl, stays_none history, tt), λ key low. absurd (omega (arith, low)))),
       λ key high. refl,
+      λ key low. absurd (omega (arith, low)),
     )
 
 pub keys-preserved : goal.keys-preserved
@@ -30,4 +32,5 @@ keys-preserved g c =
           old now c.serve_if_spent.new.self.seats c.args.service.now.service c.keys.service.service c.serve_if_spent.new.service.service
           c.keys.invariant.2 (rw (c.keys.invariant.1.0) at c.serve_if_spent.ensures.goes_on) (serves_below old now key c.keys.invariant.3),
       same_above old now c.serve_if_spent.new.self.seats key c.serve_if_spent.ensures.others c.keys.invariant.3,
+      marks_below c.keys.self c.serve_if_spent.new.self key c.serve_if_spent.ensures.others c.serve_if_spent.ensures.stays c.serve_if_spent.ensures.marks c.keys.invariant.4,
     )

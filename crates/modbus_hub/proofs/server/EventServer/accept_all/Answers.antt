@@ -17,6 +17,7 @@ peers-init g c =
       omega arith,
       go_same g.I.Framing.framing g.V.Answerer.answering (polled_by (meaning_of g.A.Link.Ends.input g.A.Link.Ends.output g.A.Link.Ends.line) g.A.Link.PolledLink.not_ready first.seats.reads)
           (AcceptsSome accepts faults 0 first first) first.seats.seats first.seats.seats c.args.service.now.service (λ key. refl) (λ start history all. accepts_none accepts faults first history),
+      λ marks. marks,
     )
 
 pub returns-then-not-accept_one-clause-goes_on : goal.returns-then-not-accept_one-clause-goes_on
@@ -60,4 +61,5 @@ peers-preserved g c =
           first.seats.seats now.seats.seats next.seats.seats service service service c.peers.invariant.3
           (go_under g.I.Framing.framing g.V.Answerer.answering (meaning_of g.A.Link.Ends.input g.A.Link.Ends.output g.A.Link.Ends.line) g.A.Link.PolledLink.not_ready now.seats.reads first.seats.reads (AcceptsNext accepts faults true now next) now.seats.seats next.seats.seats service service c.peers.invariant.0.0 c.if-not-accept_one.ensures.goes_on)
           (accepts_more accepts faults c.peers.counter first now next),
+      λ marks. c.accept_one.ensures.marks (c.peers.invariant.4 marks),
     )

@@ -1,6 +1,6 @@
 use Rattle.std.proofs.Common.{◌≡◌, ◌≤◌}
 use Rattle.modbus_link.specs.Line.{meaning_of}
-use Rattle.modbus_hub.specs.Seats.{polled_by, KeepsLimit, SeatsGoOn}
+use Rattle.modbus_hub.specs.Seats.{polled_by, KeepsLimit, KeepsMarks, SeatsGoOn}
 use Rattle.modbus_hub.proofs.Rounding.{AcceptsSome}
 use Rattle.modbus_hub.proofs.server.EventServer.accept_all.Given as goal
 
@@ -10,3 +10,4 @@ invariant-peers g l = KeepsLimit l.fn.self.seats l.self.seats
     × (g.S.Readiness.faults l.fn.self.readiness ≤ g.S.Readiness.faults l.self.readiness)
     × SeatsGoOn g.I.Framing.framing g.V.Answerer.answering (polled_by (meaning_of g.A.Link.Ends.input g.A.Link.Ends.output g.A.Link.Ends.line) g.A.Link.PolledLink.not_ready l.fn.self.seats.reads)
     (AcceptsSome g.A.PolledAcceptor.accepts g.S.Readiness.faults l.counter l.fn.self l.self) l.fn.self.seats.seats l.self.seats.seats l.fn.service.service l.fn.service.service
+    × KeepsMarks l.fn.self.seats l.self.seats

@@ -66,3 +66,6 @@ returns-in-Err-clause-goes_on g c =
       (nobody accepts faults first polled history (Err c.in-Err.field-0) refl c.in-Err.ensures.accepts (omega arith) refl, tt),
       λ asked. inr (asked, inr (inl (Err c.in-Err.field-0 ∷ [], (polled.acceptor, [], c.in-Err.ensures.accepts, refl, (refl, refl)), tt))),
     )))
+
+pub returns-in-Ok-Ready-clause-marks : goal.returns-in-Ok-Ready-clause-marks
+returns-in-Ok-Ready-clause-marks g c = rw (← c.self.view_is) c.admit.ensures.marks

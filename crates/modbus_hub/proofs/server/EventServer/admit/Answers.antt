@@ -51,3 +51,9 @@ returns-in-Err-admit-clause-goes_on g c =
     seats.seats now.seats service service c.in-Err-admit.ensures.goes_on
     (λ history more e. brings_unseated faults first last c.args.link history more c.watch.ensures.later c.saturating_add-self-inside.ensures
     (e ∙ ap (λ (l : g.row.A-Link.Denot). refused no_memory l ∷ []) c.watch.ensures.link)))
+
+pub returns-in-Ok-admit-clause-marks : goal.returns-in-Ok-admit-clause-marks
+returns-in-Ok-admit-clause-marks g c = rw (← c.self.view_is) c.admit.ensures.marks
+
+pub returns-in-Err-admit-clause-marks : goal.returns-in-Err-admit-clause-marks
+returns-in-Err-admit-clause-marks g c = rw (← c.self.view_is) c.admit.ensures.marks

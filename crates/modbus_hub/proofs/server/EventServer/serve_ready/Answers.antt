@@ -21,6 +21,7 @@ ready-init g c = (
       c.args.self.now.seats.seats c.args.self.now.seats.seats c.args.service.now.service (λ key. refl) (λ start history all. found_nothing history),
   λ was. was,
   λ is. absurd is,
+  λ marks. marks,
 )
 
 pub ready-preserved : goal.ready-preserved
@@ -56,6 +57,7 @@ ready-preserved g c =
                   | inr never ↦ absurd never
                 ]
           ],
+      λ marks. c.take.ensures.marks (c.ready.invariant.8 marks),
     )
 
 pub returns-clause-asked : goal.returns-clause-asked

@@ -16,6 +16,7 @@ rounds-init g c = (
   go_same g.I.Framing.framing g.V.Answerer.answering (polled_by (meaning_of g.A.Link.Ends.input g.A.Link.Ends.output g.A.Link.Ends.line) g.A.Link.PolledLink.not_ready c.args.self.now.seats.reads)
       (Comes g.A.PolledAcceptor.accepts g.S.Readiness.faults c.args.self.now c.args.self.now) c.args.self.now.seats.seats c.args.self.now.seats.seats c.args.service.now.service
       (λ key. refl) (λ start history all. none_come g.A.PolledAcceptor.accepts g.S.Readiness.faults c.args.self.now c.args.self.now history [] refl (omega arith) refl refl),
+  λ marks. marks,
 )
 
 pub rounds-preserved : goal.rounds-preserved
@@ -34,6 +35,7 @@ rounds-preserved g c =
           first.seats.seats now.seats.seats next.seats.seats c.args.service.now.service c.rounds.service.service c.round.new.service.service
           c.rounds.invariant.4
           (go_under g.I.Framing.framing g.V.Answerer.answering (meaning_of g.A.Link.Ends.input g.A.Link.Ends.output g.A.Link.Ends.line) g.A.Link.PolledLink.not_ready now.seats.reads first.seats.reads (Comes accepts faults now next) now.seats.seats next.seats.seats c.rounds.service.service c.round.new.service.service c.rounds.invariant.0.0 c.round.ensures.goes_on) (comes_both accepts faults first now next),
+      λ marks. c.round.ensures.marks (c.rounds.invariant.5 marks),
     )
 
 pub returns-in-Err-clause-goes_on : goal.returns-in-Err-clause-goes_on

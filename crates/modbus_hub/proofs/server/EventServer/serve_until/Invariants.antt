@@ -1,6 +1,6 @@
 use Rattle.std.proofs.Common.{◌≡◌, ◌≤◌, []}
 use Rattle.modbus_link.specs.Line.{meaning_of}
-use Rattle.modbus_hub.specs.Seats.{polled_by, KeepsLimit, SeatsGoOn}
+use Rattle.modbus_hub.specs.Seats.{polled_by, KeepsLimit, KeepsMarks, SeatsGoOn}
 use Rattle.modbus_hub.specs.Turns.{Comes}
 use Rattle.modbus_hub.proofs.server.EventServer.serve_until.Given as goal
 
@@ -9,3 +9,4 @@ invariant-rounds g l = KeepsLimit l.fn.self.seats l.self.seats × (l.service.ahe
     × (g.X.Stop.stops l.fn.abort_signal ≤ g.X.Stop.stops l.abort_signal)
     × SeatsGoOn g.I.Framing.framing g.V.Answerer.answering (polled_by (meaning_of g.A.Link.Ends.input g.A.Link.Ends.output g.A.Link.Ends.line) g.A.Link.PolledLink.not_ready l.fn.self.seats.reads) (Comes g.A.PolledAcceptor.accepts g.S.Readiness.faults l.fn.self l.self)
     l.fn.self.seats.seats l.self.seats.seats l.fn.service.service l.service.service
+    × KeepsMarks l.fn.self.seats l.self.seats

@@ -37,3 +37,7 @@ returns-in-Ok-clause-goes_on g c =
     (c.serve_ready.ensures.no_more.0 ∙ c.serve_left.ensures.no_more.0) c.accept_asked.ensures.goes_on)
     (λ history xs ys some more. round_of accepts faults found first ready last history xs ys (c.serve_ready.ensures.acceptor ∙ c.serve_left.ensures.acceptor) waited
     (c.serve_ready.ensures.unseated ∙ c.serve_left.ensures.unseated) some asks more))
+
+pub returns-in-Ok-clause-marks : goal.returns-in-Ok-clause-marks
+returns-in-Ok-clause-marks g c =
+    rw (← c.self.view_is) (λ marks. c.accept_asked.ensures.marks (c.serve_ready.ensures.marks (c.serve_left.ensures.marks marks)))

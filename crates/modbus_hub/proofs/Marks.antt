@@ -1,0 +1,42 @@
+-- What is known to be left, over all connections.
+use Rattle.std.proofs.Common.{◌≡◌, ◌≢◌, inl, inr, ◌<◌, ◌≤◌, ◌+◌, ℕ, Option, Some, None, Bool, true, false, if◌then◌else◌, refl, sym, subst, arith, IsTrue}
+use Rattle.std.proofs.lemmas.Bool.{cases_eq}
+use Rattle.slab.specs.Slab.{Slab, get, Updates}
+use Rattle.modbus_hub.specs.Events.{Place}
+use Rattle.modbus_hub.specs.Seats.{SeatsState, KeepsMarks, MarksLeft, is_spent_at, kept}
+
+no_both : (b : Bool) → b ≡ false → b ≡ true → ⊥
+no_both b e f = cc
+
+module _ {L : Type 0} where
+  -- below a key
+  abbrev pub MarksBelow : ℕ → SeatsState L → Type 0
+  MarksBelow below seats = (key : ℕ) → key < below → IsTrue (is_spent_at (get seats.seats key)) → IsTrue seats.has_spent
+
+  pub marks_below : (now next : SeatsState L) (key : ℕ) → ((other : ℕ) → other ≢ key → get next.seats other ≡ get now.seats other) → (IsTrue now.has_spent → IsTrue next.has_spent)
+      → (IsTrue (is_spent_at (get next.seats key)) → IsTrue next.has_spent) → MarksBelow key now → MarksBelow (key + 1) next
+  marks_below now next key others stays marks below k low spent =
+      elim (cases_eq k key) [
+        | inl same ↦ marks (subst (λ (n : ℕ). IsTrue (is_spent_at (get next.seats n))) same spent)
+        | inr differs ↦ stays (below k (omega (arith, low, differs)) (subst (λ (slot : Option (Place L)). IsTrue (is_spent_at slot)) (others k differs) spent))
+      ]
+
+  pub marks_at : (old new : SeatsState L) (key : ℕ) → ((other : ℕ) → other ≢ key → get new.seats other ≡ get old.seats other) → (IsTrue old.has_spent → IsTrue new.has_spent)
+      → (IsTrue (is_spent_at (get new.seats key)) → IsTrue new.has_spent) → KeepsMarks old new
+  marks_at old new key others stays marks all k spent =
+      elim (cases_eq k key) [
+        | inl same ↦ marks (subst (λ (n : ℕ). IsTrue (is_spent_at (get new.seats n))) same spent)
+        | inr differs ↦ stays (all k (subst (λ (slot : Option (Place L)). IsTrue (is_spent_at slot)) (others k differs) spent))
+      ]
+
+  spent_of : (fresh : Bool) (place : Place L) → IsTrue (is_spent_at (if fresh then Some (record place { is_fresh = false }) else None)) → IsTrue place.is_spent
+  spent_of true place spent = spent
+  spent_of false place spent = absurd (no_both false refl spent)
+
+  spent_kept : (slot : Option (Place L)) → IsTrue (is_spent_at (kept slot)) → IsTrue (is_spent_at slot)
+  spent_kept None spent = spent
+  spent_kept (Some place) spent = spent_of place.is_fresh place spent
+
+  pub marks_kept : (old new : SeatsState L) → ((key : ℕ) → get new.seats key ≡ kept (get old.seats key)) → (IsTrue old.has_spent → IsTrue new.has_spent) → KeepsMarks old new
+  marks_kept old new lets stays all k spent =
+      stays (all k (spent_kept (get old.seats k) (subst (λ (slot : Option (Place L)). IsTrue (is_spent_at slot)) (lets k) spent)))
