@@ -8,82 +8,74 @@ use crate::{
     clients, codecs, connecting, faults, gateway, listeners, one_call, pdus, polls, program,
     reconnect, servers, store, typed, units, values,
 };
-use std::alloc::Global;
 use std::sync::Wait;
 
 /// The calls of the codecs: types of the protocol, PDUs, RTU frames, Modbus TCP ADUs, and the texts of faults.
-fn answer_codecs(alloc: Global, text: &mut Text, call: &str, words: &[Word<'_>]) -> bool {
-    values::answer(alloc, text, call, words)
-        || pdus::answer(alloc, text, call, words)
-        || codecs::answer(alloc, text, call, words)
+fn answer_codecs(text: &mut Text, call: &str, words: &[Word]) -> bool {
+    match call {
+        "inbox" => return codecs::answer_inbox(text, words),
+        "recover" | "transaction" => return codecs::answer_of_count(text, call, words),
+        _ => {}
+    }
+    values::answer(text, call, words)
+        || pdus::answer(text, call, words)
+        || codecs::answer(text, call, words)
         || faults::answer(text, call, words)
 }
 
 /// The calls of clients over links, blocking and polled.
-fn answer_over_links(alloc: Global, text: &mut Text, call: &str, words: &[Word<'_>]) -> bool {
+fn answer_over_links(text: &mut Text, call: &str, words: &[Word]) -> bool {
     match call {
         "rtu_call" | "rtu_lent" | "tcp_call" | "matching_call" => {
-            clients::answer(alloc, text, call, words)
+            clients::answer(text, call, words)
         }
-        "tcp_connect" => connecting::answer(alloc, text, words),
-        "rtu_polled" | "tcp_polled" | "matching_polled" | "exchange_words" => {
-            one_call::answer(alloc, text, call, words)
-        }
+        "tcp_connect" => connecting::answer(text, words),
+        "rtu_polled" | "tcp_polled" | "matching_polled" => one_call::answer(text, call, words),
+        "exchange_words" => one_call::answer_exchange(text, words),
         _ => false,
     }
 }
 
 /// The calls of clients, and of what stands on them: clients that connect anew or settle their line, and the gateway.
-fn answer_clients(alloc: Global, text: &mut Text, call: &str, words: &[Word<'_>]) -> bool {
+fn answer_clients(text: &mut Text, call: &str, words: &[Word]) -> bool {
     match call {
-        "typed" => typed::answer(alloc, text, words),
-        _ if call.starts_with("gateway") => gateway::answer(alloc, text, call, words),
-        _ if call.starts_with("reconnect") => reconnect::answer(alloc, text, call, words),
-        _ => answer_over_links(alloc, text, call, words),
+        "typed" => typed::answer(text, words),
+        _ if call.starts_with("gateway") => gateway::answer(text, call, words),
+        _ if call.starts_with("reconnect") => reconnect::answer(text, call, words),
+        _ => answer_over_links(text, call, words),
     }
 }
 
 /// The calls of servers and listeners.
-fn answer_servers<R: Wait>(
-    rt: &R,
-    alloc: Global,
-    text: &mut Text,
-    call: &str,
-    words: &[Word<'_>],
-) -> bool {
+fn answer_servers<R: Wait>(rt: &R, text: &mut Text, call: &str, words: &[Word]) -> bool {
     match call {
-        "serve_singles" => servers::answer_by_bytes(alloc, text, words),
+        "serve_singles" => servers::answer_by_bytes(text, words),
         "listen" | "listen_until" | "listen_to_eight" => {
-            listeners::answer(rt, alloc, text, call, words)
+            listeners::answer(rt, text, call, words)
         }
-        "serve" | "serve_lent" | "polled_serve" | "serve_until" | "work" | "step" => {
-            servers::answer(alloc, text, call, words)
+        "serve" | "serve_lent" | "polled_serve" | "serve_until" | "work" => {
+            servers::answer(text, call, words)
         }
+        "step" => servers::answer_by_steps(text, words),
         _ => false,
     }
 }
 
 /// The calls of the program and its device, and of polls.
-fn answer_program(alloc: Global, text: &mut Text, call: &str, words: &[Word<'_>]) -> bool {
+fn answer_program(text: &mut Text, call: &str, words: &[Word]) -> bool {
     match call {
-        "store" | "exchange" => store::answer(alloc, text, call, words),
-        "only_unit" | "units" => units::answer(alloc, text, call, words),
-        "point" | "items" | "poll" => polls::answer(alloc, text, call, words),
-        "run" | "status" | "listening" => program::answer(alloc, text, call, words),
+        "store" | "exchange" => store::answer(text, call, words),
+        "only_unit" | "units" => units::answer(text, call, words),
+        "point" | "items" | "poll" => polls::answer(text, call, words),
+        "run" | "status" | "listening" => program::answer(text, call, words),
         _ => false,
     }
 }
 
 /// Every call.
-pub fn answer<R: Wait>(
-    rt: &R,
-    alloc: Global,
-    text: &mut Text,
-    call: &str,
-    words: &[Word<'_>],
-) -> bool {
-    answer_program(alloc, text, call, words)
-        || answer_servers(rt, alloc, text, call, words)
-        || answer_clients(alloc, text, call, words)
-        || answer_codecs(alloc, text, call, words)
+pub fn answer<R: Wait>(rt: &R, text: &mut Text, call: &str, words: &[Word]) -> bool {
+    answer_program(text, call, words)
+        || answer_servers(rt, text, call, words)
+        || answer_clients(text, call, words)
+        || answer_codecs(text, call, words)
 }

@@ -10,7 +10,7 @@ use crate::outside::read_outside;
 use crate::text::Text;
 use crate::word::Word;
 use bytes::{Bytes, BytesMut};
-use modbus_frame::{EncodeError, Request, RequestPdu, ResponsePdu, rtu, tcp};
+use modbus_frame::{EncodeError, RequestPdu, ResponsePdu, rtu, tcp};
 use modbus_link::MemorySource;
 use modbus_pdu::{decode_request, decode_response_pdu};
 use modbus_rtu::{
@@ -29,99 +29,116 @@ fn length(text: &mut Text, found: Result<Option<usize>, NoLength>) {
 }
 
 /// Appends what was taken off a buffer, and how many bytes are left.
-fn push_left<T: Debug + Drop>(text: &mut Text, found: T, buf: &BytesMut) {
+fn push_left<T: Debug + Drop, E: Debug + Drop>(
+    text: &mut Text,
+    found: Result<Option<T>, E>,
+    buf: &BytesMut,
+) {
     text.push_shown(found);
     write!(text, " left {}", buf.len());
 }
 
 /// What a decoder of frames of this PDU length takes off.
-fn frame(alloc: Global, text: &mut Text, pdu_len: u16, buf: &mut BytesMut) {
-    let found = FrameDecoder::new().decode(alloc, buf, usize::from(pdu_len));
+fn frame(text: &mut Text, pdu_len: u16, buf: &mut BytesMut) {
+    let found = FrameDecoder::new().decode(text.alloc, buf, usize::from(pdu_len));
     push_left(text, found, buf);
 }
 
-fn rtu_requests(alloc: Global, text: &mut Text, buf: &mut BytesMut) {
+fn rtu_requests(text: &mut Text, buf: &mut BytesMut) {
     let mut decoder = RequestDecoder::new();
-    let found = decoder.decode(alloc, buf);
+    let found = decoder.decode(text.alloc, buf);
     push_left(text, found, buf);
     write!(text, " dropped {}", decoder.dropped_bytes().len());
 }
 
-fn rtu_responses(alloc: Global, text: &mut Text, buf: &mut BytesMut) {
+fn rtu_responses(text: &mut Text, buf: &mut BytesMut) {
     let mut decoder = ResponseDecoder::new();
-    let found = decoder.decode(alloc, buf);
+    let found = decoder.decode(text.alloc, buf);
     push_left(text, found, buf);
     write!(text, " dropped {}", decoder.dropped_bytes().len());
 }
 
-fn rtu_server(alloc: Global, text: &mut Text, buf: &mut BytesMut) {
-    let found = modbus_rtu::ServerCodec::new().decode(alloc, buf);
+fn rtu_server(text: &mut Text, buf: &mut BytesMut) {
+    let found = modbus_rtu::ServerCodec::new().decode(text.alloc, buf);
     push_left(text, found, buf);
 }
 
-fn rtu_client(alloc: Global, text: &mut Text, buf: &mut BytesMut) {
-    let found = modbus_rtu::ClientCodec::new().decode(alloc, buf);
+fn rtu_client(text: &mut Text, buf: &mut BytesMut) {
+    let found = modbus_rtu::ClientCodec::new().decode(text.alloc, buf);
     push_left(text, found, buf);
 }
 
-fn tcp_server(alloc: Global, text: &mut Text, buf: &mut BytesMut) {
-    let found = modbus_tcp::ServerCodec::new().decode(alloc, buf);
+fn tcp_server(text: &mut Text, buf: &mut BytesMut) {
+    let found = modbus_tcp::ServerCodec::new().decode(text.alloc, buf);
     push_left(text, found, buf);
 }
 
-fn tcp_client(alloc: Global, text: &mut Text, buf: &mut BytesMut) {
-    let found = modbus_tcp::ClientCodec::new().decode(alloc, buf);
+fn tcp_client(text: &mut Text, buf: &mut BytesMut) {
+    let found = modbus_tcp::ClientCodec::new().decode(text.alloc, buf);
     push_left(text, found, buf);
 }
 
-fn tcp_adus(alloc: Global, text: &mut Text, buf: &mut BytesMut) {
-    let found = AduDecoder::new().decode(alloc, buf);
+fn tcp_adus(text: &mut Text, buf: &mut BytesMut) {
+    let found = AduDecoder::new().decode(text.alloc, buf);
     push_left(text, found, buf);
 }
 
 /// What is taken off a buffer.
-fn of_buffer(alloc: Global, text: &mut Text, call: &str, buf: &mut BytesMut) -> bool {
+fn of_buffer(text: &mut Text, call: &str, buf: &mut BytesMut) -> bool {
     match call {
-        "rtu_requests" => rtu_requests(alloc, text, buf),
-        "rtu_responses" => rtu_responses(alloc, text, buf),
-        "rtu_server" => rtu_server(alloc, text, buf),
-        "rtu_client" => rtu_client(alloc, text, buf),
-        "tcp_server" => tcp_server(alloc, text, buf),
-        "tcp_client" => tcp_client(alloc, text, buf),
-        "tcp_adus" => tcp_adus(alloc, text, buf),
+        "rtu_requests" => rtu_requests(text, buf),
+        "rtu_responses" => rtu_responses(text, buf),
+        "rtu_server" => rtu_server(text, buf),
+        "rtu_client" => rtu_client(text, buf),
+        "tcp_server" => tcp_server(text, buf),
+        "tcp_client" => tcp_client(text, buf),
+        "tcp_adus" => tcp_adus(text, buf),
         _ => return false,
     }
     true
 }
 
-/// What the codec of an end gives at the last of these characters.
-fn ascii_server(alloc: Global, text: &mut Text, last: u8, earlier: &[u8]) {
+/// Appends what a codec gave at a character, but for that it needs more. Whether it does.
+fn push_fed<T: Debug + Drop, E: Debug + Drop>(
+    text: &mut Text,
+    found: Result<Option<T>, E>,
+) -> bool {
+    let needs_more = matches!(found, Ok(None));
+    if !needs_more {
+        text.push_shown(found);
+    }
+    needs_more
+}
+
+fn server_fed(text: &mut Text, codec: &mut modbus_ascii::ServerCodec, character: u8) -> bool {
+    push_fed(text, codec.feed(text.alloc, character))
+}
+
+fn client_fed(text: &mut Text, codec: &mut modbus_ascii::ClientCodec, character: u8) -> bool {
+    push_fed(text, codec.feed(text.alloc, character))
+}
+
+/// What a codec gives for these characters, and whether it needs more at their end.
+fn ascii_server(text: &mut Text, characters: &[u8]) {
     let mut codec = modbus_ascii::ServerCodec::new();
-    for byte in earlier {
-        let _earlier = codec.feed(alloc, *byte);
+    let mut needs_more = false;
+    for character in characters {
+        needs_more = server_fed(text, &mut codec, *character);
     }
-    text.push_shown(codec.feed(alloc, last));
+    if needs_more {
+        text.push_str("needs more");
+    }
 }
 
-fn ascii_client(alloc: Global, text: &mut Text, last: u8, earlier: &[u8]) {
+fn ascii_client(text: &mut Text, characters: &[u8]) {
     let mut codec = modbus_ascii::ClientCodec::new();
-    for byte in earlier {
-        let _earlier = codec.feed(alloc, *byte);
+    let mut needs_more = false;
+    for character in characters {
+        needs_more = client_fed(text, &mut codec, *character);
     }
-    text.push_shown(codec.feed(alloc, last));
-}
-
-/// The same of the end that a call names.
-fn of_characters(alloc: Global, text: &mut Text, call: &str, data: &[u8]) -> bool {
-    let Some((last, earlier)) = data.split_last() else {
-        return false;
-    };
-    match call {
-        "ascii_server" => ascii_server(alloc, text, *last, earlier),
-        "ascii_client" => ascii_client(alloc, text, *last, earlier),
-        _ => return false,
+    if needs_more {
+        text.push_str("needs more");
     }
-    true
 }
 
 /// All frames that an inbox has, and why it gives no more.
@@ -153,11 +170,12 @@ fn reads(text: &mut Text, inbox: &mut Inbox, source: &mut MemorySource) {
     write!(text, "holds {}", inbox.held());
 }
 
-fn inbox(alloc: Global, text: &mut Text, words: &[Word<'_>]) -> bool {
-    let Ok(mut inbox) = Inbox::open(alloc) else {
+/// `inbox`, and the outside of its source.
+pub fn answer_inbox(text: &mut Text, words: &[Word]) -> bool {
+    let Ok(mut inbox) = Inbox::open(text.alloc) else {
         return false;
     };
-    match read_outside(alloc, words) {
+    match read_outside(text.alloc, words) {
         Some(mut outside) => reads(text, &mut inbox, &mut outside.source),
         None => return false,
     }
@@ -176,8 +194,8 @@ fn recovered(text: &mut Text, buf: &mut BytesMut) {
 }
 
 /// The same of so many bytes.
-fn recovered_of(alloc: Global, text: &mut Text, count: u16) -> bool {
-    match BytesMut::zeroed(alloc, usize::from(count)) {
+fn recovered_of(text: &mut Text, count: usize) -> bool {
+    match BytesMut::zeroed(text.alloc, count) {
         Ok(mut buf) => recovered(text, &mut buf),
         Err(_) => return false,
     }
@@ -193,31 +211,48 @@ fn transaction(text: &mut Text, count: u32) {
     text.push_shown(ids.next());
 }
 
-/// Appends the frame or ADU of a request; none where there is no such codec.
+fn encode_rtu_request(
+    alloc: Global,
+    slave_id: u8,
+    pdu: RequestPdu<'_>,
+    buf: &mut BytesMut,
+) -> Result<(), EncodeError> {
+    let hdr = rtu::Header { slave_id };
+    modbus_rtu::ClientCodec::new().encode(alloc, rtu::RequestAdu { hdr, pdu }, buf)
+}
+
+fn encode_ascii_request(
+    alloc: Global,
+    slave_id: u8,
+    pdu: RequestPdu<'_>,
+    buf: &mut BytesMut,
+) -> Result<(), EncodeError> {
+    let hdr = rtu::Header { slave_id };
+    modbus_ascii::ClientCodec::new().encode(alloc, rtu::RequestAdu { hdr, pdu }, buf)
+}
+
+fn encode_tcp_request(
+    alloc: Global,
+    hdr: tcp::Header,
+    pdu: RequestPdu<'_>,
+    buf: &mut BytesMut,
+) -> Result<(), EncodeError> {
+    modbus_tcp::ClientCodec::new().encode(alloc, tcp::RequestAdu { hdr, pdu }, buf)
+}
+
+/// Appends the frame or ADU of a request to a buffer, by the codec that is named, or that of Modbus TCP.
 fn encode_request(
     alloc: Global,
     call: &str,
     header: tcp::Header,
-    request: Request<'_>,
+    pdu: RequestPdu<'_>,
     buf: &mut BytesMut,
-) -> Option<Result<(), EncodeError>> {
-    let pdu = RequestPdu(request);
-    let hdr = rtu::Header {
-        slave_id: header.unit_id,
-    };
-    Some(match call {
-        "rtu_client_encode" => {
-            modbus_rtu::ClientCodec::new().encode(alloc, rtu::RequestAdu { hdr, pdu }, buf)
-        }
-        "ascii_client_encode" => {
-            modbus_ascii::ClientCodec::new().encode(alloc, rtu::RequestAdu { hdr, pdu }, buf)
-        }
-        "tcp_client_encode" => {
-            let adu = tcp::RequestAdu { hdr: header, pdu };
-            modbus_tcp::ClientCodec::new().encode(alloc, adu, buf)
-        }
-        _ => return None,
-    })
+) -> Result<(), EncodeError> {
+    match call {
+        "rtu_client_encode" => encode_rtu_request(alloc, header.unit_id, pdu, buf),
+        "ascii_client_encode" => encode_ascii_request(alloc, header.unit_id, pdu, buf),
+        _ => encode_tcp_request(alloc, header, pdu, buf),
+    }
 }
 
 /// The same of a response or an exception.
@@ -256,134 +291,157 @@ fn encode_tcp_response(
     modbus_tcp::ServerCodec::new().encode(alloc, tcp::ResponseAdu { hdr, pdu }, buf)
 }
 
-/// The same by the codec that is named; none where no exception has its function either.
+/// The same by the codec that is named, or that of Modbus TCP.
 fn encode_response(
     alloc: Global,
     call: &str,
     header: tcp::Header,
     pdu: ResponsePdu,
     buf: &mut BytesMut,
-) -> Option<Result<(), EncodeError>> {
-    if let Err(refusal) = &pdu.0
-        && refusal.function.value() >= 0x80
-    {
-        return None;
+) -> Result<(), EncodeError>
+    requires { ForErr pdu.0 (λ refusal. function_number refusal.function < exception_bit) }
+{
+    match call {
+        "rtu_server_encode" => encode_rtu_response(alloc, header.unit_id, pdu, buf),
+        "ascii_server_encode" => encode_ascii_response(alloc, header.unit_id, pdu, buf),
+        _ => encode_tcp_response(alloc, header, pdu, buf),
     }
-    let slave_id = header.unit_id;
-    Some(match call {
-        "rtu_server_encode" => encode_rtu_response(alloc, slave_id, pdu, buf),
-        "ascii_server_encode" => encode_ascii_response(alloc, slave_id, pdu, buf),
-        "tcp_server_encode" => encode_tcp_response(alloc, header, pdu, buf),
-        _ => return None,
-    })
 }
 
-/// The same of the PDU of either.
-fn encode_pdu(
-    alloc: Global,
-    call: &str,
-    header: tcp::Header,
-    pdu: &[u8],
-    buf: &mut BytesMut,
-) -> Option<Result<(), EncodeError>> {
-    if call.ends_with("client_encode") {
-        let request = decode_request(alloc, pdu).ok()?;
-        return encode_request(alloc, call, header, request, buf);
+/// Appends what a codec appended to a buffer, or why it appended nothing.
+fn push_encoded(text: &mut Text, encoded: Result<(), EncodeError>, buf: &BytesMut) {
+    match encoded {
+        Ok(()) => text.push_hex(buf.as_slice()),
+        Err(error) => text.push_told(error),
     }
-    let pdu = Bytes::copy_from_slice(alloc, pdu).ok()?;
-    let found = decode_response_pdu(alloc, pdu).ok()?;
-    encode_response(alloc, call, header, found, buf)
 }
 
-/// What a codec appended to a buffer.
-fn encoded(
-    alloc: Global,
+fn request_encoded(
     text: &mut Text,
     call: &str,
     header: tcp::Header,
     pdu: &[u8],
     buf: &mut BytesMut,
 ) -> bool {
-    match encode_pdu(alloc, call, header, pdu, buf) {
-        Some(Ok(())) => text.push_hex(buf.as_slice()),
-        Some(Err(error)) => text.push_told(error),
-        None => return false,
+    match decode_request(text.alloc, pdu) {
+        Ok(request) => {
+            let encoded = encode_request(text.alloc, call, header, RequestPdu(request), buf);
+            push_encoded(text, encoded, buf);
+        }
+        Err(_) => return false,
     }
     true
 }
 
-/// The same of a buffer that has the byte AA.
-fn encode(
-    alloc: Global,
+/// The same of a response or an exception. False where no exception has its function.
+fn answer_encoded(
     text: &mut Text,
     call: &str,
-    transaction_id: u16,
-    unit_id: u8,
-    pdu: &[u8],
+    header: tcp::Header,
+    pdu: ResponsePdu,
+    buf: &mut BytesMut,
 ) -> bool {
+    if let Err(refusal) = &pdu.0
+        && refusal.function.value() >= 0x80
+    {
+        return false;
+    }
+    let encoded = encode_response(text.alloc, call, header, pdu, buf);
+    push_encoded(text, encoded, buf);
+    true
+}
+
+fn response_encoded(
+    text: &mut Text,
+    call: &str,
+    header: tcp::Header,
+    pdu: Bytes,
+    buf: &mut BytesMut,
+) -> bool {
+    match decode_response_pdu(text.alloc, pdu) {
+        Ok(found) => answer_encoded(text, call, header, found, buf),
+        Err(_) => false,
+    }
+}
+
+/// The same of the PDU of either.
+fn encoded(
+    text: &mut Text,
+    call: &str,
+    header: tcp::Header,
+    pdu: &[u8],
+    buf: &mut BytesMut,
+) -> bool {
+    if call.ends_with("client_encode") {
+        return request_encoded(text, call, header, pdu, buf);
+    }
+    match Bytes::copy_from_slice(text.alloc, pdu) {
+        Ok(pdu) => response_encoded(text, call, header, pdu, buf),
+        Err(_) => false,
+    }
+}
+
+/// The same of a buffer that has the byte AA.
+fn encode(text: &mut Text, call: &str, transaction_id: u16, unit_id: u8, pdu: &[u8]) -> bool {
     let header = tcp::Header {
         transaction_id,
         unit_id,
     };
-    match BytesMut::copy_from_slice(alloc, b"\xAA") {
-        Ok(mut buf) => encoded(alloc, text, call, header, pdu, &mut buf),
+    match BytesMut::copy_from_slice(text.alloc, b"\xAA") {
+        Ok(mut buf) => encoded(text, call, header, pdu, &mut buf),
         Err(_) => false,
     }
 }
 
 /// What is taken off a buffer of these bytes.
-fn taken_off(alloc: Global, text: &mut Text, call: &str, data: &[u8]) -> bool {
-    match BytesMut::copy_from_slice(alloc, data) {
-        Ok(mut buf) => of_buffer(alloc, text, call, &mut buf),
+fn taken_off(text: &mut Text, call: &str, data: &[u8]) -> bool {
+    match BytesMut::copy_from_slice(text.alloc, data) {
+        Ok(mut buf) => of_buffer(text, call, &mut buf),
         Err(_) => false,
     }
 }
 
-fn of_bytes(alloc: Global, text: &mut Text, call: &str, data: &[u8]) -> bool {
+fn of_bytes(text: &mut Text, call: &str, data: &[u8]) -> bool {
     match call {
         "request_len" => length(text, request_pdu_len(data)),
         "response_len" => length(text, response_pdu_len(data)),
         "next_frame" => text.push_shown(next_frame(data)),
         "tcp_front" => text.push_shown(front(data)),
-        _ => {
-            return of_characters(alloc, text, call, data) || taken_off(alloc, text, call, data);
-        }
+        "ascii_server" => ascii_server(text, data),
+        "ascii_client" => ascii_client(text, data),
+        _ => return taken_off(text, call, data),
     }
     true
 }
 
-/// What a decoder of frames takes off a buffer of these bytes.
-fn framed(alloc: Global, text: &mut Text, pdu_len: u16, data: &[u8]) -> bool {
-    match BytesMut::copy_from_slice(alloc, data) {
-        Ok(mut buf) => frame(alloc, text, pdu_len, &mut buf),
+/// What a decoder of frames of this PDU length takes off a buffer of these bytes.
+fn framed(text: &mut Text, pdu_len: u16, data: &[u8]) -> bool {
+    match BytesMut::copy_from_slice(text.alloc, data) {
+        Ok(mut buf) => frame(text, pdu_len, &mut buf),
         Err(_) => return false,
     }
     true
 }
 
 /// The call of a number and a byte string.
-fn of_number(alloc: Global, text: &mut Text, call: &str, first: &Word<'_>, data: &[u8]) -> bool {
-    if call != "frame" {
-        return match first.byte() {
-            Some(unit_id) => encode(alloc, text, call, 0, unit_id, data),
-            None => false,
-        };
-    }
-    match first.number() {
-        Some(pdu_len) => framed(alloc, text, pdu_len, data),
-        None => false,
+fn of_number(text: &mut Text, call: &str, number: u16, data: &[u8]) -> bool {
+    match (call, u8::try_from(number)) {
+        ("frame", _) => framed(text, number, data),
+        (_, Ok(slave_id)) => encode(text, call, 0, slave_id, data),
+        _ => false,
     }
 }
 
-/// The call of numbers and a byte string, which comes last.
-fn of_words(alloc: Global, text: &mut Text, call: &str, numbers: &[Word<'_>], data: &[u8]) -> bool {
+/// The call of numbers and a byte string.
+fn of_words(text: &mut Text, call: &str, numbers: &[Word], data: &[u8]) -> bool {
     match numbers {
-        [] => of_bytes(alloc, text, call, data),
-        [first] => of_number(alloc, text, call, first, data),
+        [] => of_bytes(text, call, data),
+        [first] => match first.number() {
+            Some(number) => of_number(text, call, number, data),
+            None => false,
+        },
         [transaction, unit] => match (transaction.number(), unit.byte()) {
-            (Some(transaction), Some(unit)) => {
-                encode(alloc, text, call, transaction, unit, data)
-            }
+            (Some(transaction), Some(unit)) => encode(text, call, transaction, unit, data),
             _ => false,
         },
         _ => false,
@@ -391,30 +449,35 @@ fn of_words(alloc: Global, text: &mut Text, call: &str, numbers: &[Word<'_>], da
 }
 
 /// The call of a count.
-fn of_count(alloc: Global, text: &mut Text, call: &str, count: &Word<'_>) -> bool {
-    match count.text.parse::<u32>() {
-        Ok(count) if call == "transaction" => transaction(text, count),
-        Ok(count) => match u16::try_from(count) {
-            Ok(count) => return recovered_of(alloc, text, count),
-            Err(_) => return false,
-        },
-        Err(_) => return false,
+fn of_count(text: &mut Text, call: &str, count: u32) -> bool {
+    if call == "transaction" {
+        transaction(text, count);
+        return true;
     }
-    true
+    match usize::try_from(count) {
+        Ok(count) => recovered_of(text, count),
+        Err(_) => false,
+    }
 }
 
-pub fn answer(alloc: Global, text: &mut Text, call: &str, words: &[Word<'_>]) -> bool {
-    if call == "inbox" {
-        return inbox(alloc, text, words);
-    }
+/// `recover` or `transaction`, and a count.
+pub fn answer_of_count(text: &mut Text, call: &str, words: &[Word]) -> bool {
     match words {
-        [count] if call == "recover" || call == "transaction" => {
-            of_count(alloc, text, call, count)
-        }
-        [numbers @ .., word] => match word.bytes() {
-            Some(data) => of_words(alloc, text, call, numbers, data),
-            None => false,
+        [count] => match count.text().parse() {
+            Ok(count) => of_count(text, call, count),
+            Err(_) => false,
         },
         _ => false,
+    }
+}
+
+/// Any other call: numbers, if it has some, and a byte string, which comes last.
+pub fn answer(text: &mut Text, call: &str, words: &[Word]) -> bool {
+    let Some((last, numbers)) = words.split_last() else {
+        return false;
+    };
+    match last.bytes() {
+        Some(data) => of_words(text, call, numbers, data),
+        None => false,
     }
 }

@@ -30,20 +30,22 @@ fn connected(
     }
 }
 
-/// The answers of a client that is connected so, how long it waits, and its link; or that there is no connection.
+/// The answers of a client, how long it waits, and its link.
+fn push_answers(text: &mut Text, client: &mut tcp::Client<MemoryLink>, words: &str) -> bool {
+    let is_done = steps(text, client, words);
+    write!(text, "within {:?} ", client.timeout());
+    push_link(text, client.link());
+    is_done
+}
+
+/// The answers of a client that is connected so, or that there is no connection.
 fn answers(
-    alloc: Global,
     text: &mut Text,
     connected: Result<tcp::Client<MemoryLink>, ConnectFault>,
     words: &str,
 ) -> bool {
     match connected {
-        Ok(mut client) => {
-            let is_done = steps(alloc, text, &mut client, words);
-            write!(text, "within {:?} ", client.timeout());
-            push_link(text, client.link());
-            is_done
-        }
+        Ok(mut client) => push_answers(text, &mut client, words),
         Err(fault) => {
             text.push_shown(fault);
             true
@@ -53,7 +55,6 @@ fn answers(
 
 /// The same of two clients of a connector that has one link, one after another.
 fn answers_twice(
-    alloc: Global,
     text: &mut Text,
     connector: &mut MemoryConnector<MemoryLink>,
     slave: Option<Slave>,
@@ -61,33 +62,31 @@ fn answers_twice(
     words: &str,
 ) -> bool {
     if !answers(
-        alloc,
         text,
-        connected(alloc, connector, slave, timeout),
+        connected(text.alloc, connector, slave, timeout),
         words,
     ) {
         return false;
     }
     text.push_str("; ");
     answers(
-        alloc,
         text,
-        connected(alloc, connector, slave, timeout),
+        connected(text.alloc, connector, slave, timeout),
         words,
     )
 }
 
 /// `tcp_connect`, a slave or `-`, a time-out in milliseconds or `-`, steps with commas between them, and the outside of the one link.
-pub fn answer(alloc: Global, text: &mut Text, words: &[Word<'_>]) -> bool {
+pub fn answer(text: &mut Text, words: &[Word]) -> bool {
     let [slave, timeout, steps, words @ ..] = words else {
         return false;
     };
-    match read_link(alloc, words) {
+    match read_link(text.alloc, words) {
         Some(link) => {
             let mut connector = MemoryConnector::new(Some(link));
             let slave = slave.byte().map(Slave);
-            let timeout = milliseconds(timeout.text);
-            answers_twice(alloc, text, &mut connector, slave, timeout, steps.text)
+            let timeout = milliseconds(timeout.text());
+            answers_twice(text, &mut connector, slave, timeout, steps.text())
         }
         None => false,
     }

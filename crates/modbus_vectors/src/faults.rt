@@ -8,10 +8,9 @@ use modbus_frame::{
 };
 use modbus_server::ProcessError;
 use modbus_tcp::TcpError;
-use std::fmt::{Debug, Display};
 
-fn transport(name: &str) -> Option<TransportError> {
-    Some(match name {
+fn transport(text: &mut Text, name: &str) -> bool {
+    let fault = match name {
         "NotConnected" => TransportError::NotConnected,
         "ReadFault" => TransportError::ReadFault,
         "WriteFault" => TransportError::WriteFault,
@@ -23,12 +22,14 @@ fn transport(name: &str) -> Option<TransportError> {
         "InvalidLength" => TransportError::InvalidLength,
         "InvalidProtocol" => TransportError::InvalidProtocol(65535),
         "TurnLimit" => TransportError::TurnLimit,
-        _ => return None,
-    })
+        _ => return false,
+    };
+    text.push_told(fault);
+    true
 }
 
-fn process(name: &str) -> Option<ProcessError> {
-    Some(match name {
+fn process(text: &mut Text, name: &str) -> bool {
+    let fault = match name {
         "ReadFault" => ProcessError::ReadFault,
         "WriteFault" => ProcessError::WriteFault,
         "TooManyRetries" => ProcessError::TooManyRetries,
@@ -39,8 +40,10 @@ fn process(name: &str) -> Option<ProcessError> {
         "InvalidLength" => ProcessError::InvalidLength,
         "InvalidProtocol" => ProcessError::InvalidProtocol(7),
         "NoMemory" => ProcessError::NoMemory,
-        _ => return None,
-    })
+        _ => return false,
+    };
+    text.push_told(fault);
+    true
 }
 
 /// The faults of a response that does not belong to its request.
@@ -70,44 +73,52 @@ fn protocol(name: &str) -> Option<ProtocolError> {
     })
 }
 
-fn encode(name: &str) -> Option<EncodeError> {
-    Some(match name {
+fn encode(text: &mut Text, name: &str) -> bool {
+    let fault = match name {
         "TooLong" => EncodeError::TooLong(254),
         "NoMemory" => EncodeError::NoMemory,
-        _ => return None,
-    })
+        _ => return false,
+    };
+    text.push_told(fault);
+    true
 }
 
-fn pdu(name: &str) -> Option<PduError> {
-    Some(match name {
+fn pdu(text: &mut Text, name: &str) -> bool {
+    let fault = match name {
         "Refused" => PduError::Refused(Reason::TooShort),
         "NoMemory" => PduError::NoMemory,
-        _ => return None,
-    })
+        _ => return false,
+    };
+    text.push_told(fault);
+    true
 }
 
-fn tcp(name: &str) -> Option<TcpError> {
-    Some(match name {
+fn tcp(text: &mut Text, name: &str) -> bool {
+    let fault = match name {
         "InvalidLength" => TcpError::InvalidLength,
         "InvalidProtocol" => TcpError::InvalidProtocol(7),
         "Invalid" => TcpError::Invalid(Reason::UndecodedData),
         "NoMemory" => TcpError::NoMemory,
-        _ => return None,
-    })
+        _ => return false,
+    };
+    text.push_told(fault);
+    true
 }
 
-fn error(name: &str) -> Option<Error> {
-    Some(match name {
+fn error(text: &mut Text, name: &str) -> bool {
+    let fault = match name {
         "NoMemory" => Error::NoMemory,
         "Transport" => Error::Transport(TransportError::BrokenPipe),
-        _ => return None,
-    })
+        _ => return false,
+    };
+    text.push_told(fault);
+    true
 }
 
-/// The text of a fault that may not be there.
-fn told<T: Debug + Display + Drop>(text: &mut Text, fault: Option<T>) -> bool {
-    match fault {
-        Some(fault) => text.push_told(fault),
+/// The text of such a fault.
+fn mismatch(text: &mut Text, name: &str) -> bool {
+    match protocol(name) {
+        Some(fault) => text.push_told(Error::Protocol(fault)),
         None => return false,
     }
     true
@@ -127,23 +138,23 @@ fn single(text: &mut Text, name: &str) -> bool {
 /// The text of a fault of this type.
 fn of_type(text: &mut Text, kind: &str, name: &str) -> bool {
     match kind {
-        "TransportError" => told(text, transport(name)),
-        "ProcessError" => told(text, process(name)),
-        "ProtocolError" => told(text, protocol(name).map(Error::Protocol)),
-        "EncodeError" => told(text, encode(name)),
-        "PduError" => told(text, pdu(name)),
-        "TcpError" => told(text, tcp(name)),
-        "Error" => told(text, error(name)),
+        "TransportError" => transport(text, name),
+        "ProcessError" => process(text, name),
+        "ProtocolError" => mismatch(text, name),
+        "EncodeError" => encode(text, name),
+        "PduError" => pdu(text, name),
+        "TcpError" => tcp(text, name),
+        "Error" => error(text, name),
         _ => false,
     }
 }
 
 /// `text` and the name of a fault.
-pub fn answer(text: &mut Text, call: &str, words: &[Word<'_>]) -> bool {
+pub fn answer(text: &mut Text, call: &str, words: &[Word]) -> bool {
     match words {
-        [word] if call == "text" => match word.text.split_once("::") {
+        [word] if call == "text" => match word.text().split_once("::") {
             Some((kind, name)) => of_type(text, kind, name),
-            None => single(text, word.text),
+            None => single(text, word.text()),
         },
         _ => false,
     }

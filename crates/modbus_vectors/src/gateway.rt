@@ -7,7 +7,6 @@ use crate::word::Word;
 use modbus_client::{Client, rtu};
 use modbus_gateway::process;
 use modbus_link::{MemoryLink, MemorySink, MemorySource};
-use std::alloc::Global;
 
 /// How many reads of the connection may give bytes.
 const TURNS: u64 = 64;
@@ -17,13 +16,12 @@ const ROOM: usize = 512;
 
 /// How a gateway ended, what the connection got, and what the line was left with.
 fn forward(
-    alloc: Global,
     text: &mut Text,
     line: &mut rtu::Client<MemoryLink>,
     source: &mut MemorySource,
     sink: &mut MemorySink,
 ) {
-    text.push_shown(process(alloc, source, sink, line, TURNS));
+    text.push_shown(process(text.alloc, source, sink, line, TURNS));
     text.push_str(" replied ");
     text.push_hex(sink.bytes());
     text.push_str("; ");
@@ -31,17 +29,12 @@ fn forward(
 }
 
 /// The same over a connection that gives these bytes.
-fn forwarded(
-    alloc: Global,
-    text: &mut Text,
-    line: &mut rtu::Client<MemoryLink>,
-    input: &[u8],
-) -> bool {
-    let Ok(mut source) = MemorySource::new(alloc, input, &[], &[]) else {
+fn forwarded(text: &mut Text, line: &mut rtu::Client<MemoryLink>, input: &[u8]) -> bool {
+    let Ok(mut source) = MemorySource::new(text.alloc, input, &[], &[]) else {
         return false;
     };
-    match MemorySink::new(alloc, ROOM, ROOM, &[]) {
-        Ok(mut sink) => forward(alloc, text, line, &mut source, &mut sink),
+    match MemorySink::new(text.alloc, ROOM, ROOM, &[]) {
+        Ok(mut sink) => forward(text, line, &mut source, &mut sink),
         Err(_) => return false,
     }
     true
@@ -49,7 +42,6 @@ fn forwarded(
 
 /// The same over a line that may be disconnected before.
 fn forwarded_over(
-    alloc: Global,
     text: &mut Text,
     call: &str,
     input: &[u8],
@@ -59,19 +51,19 @@ fn forwarded_over(
         text.push_shown(line.disconnect());
         text.push_str("; ");
     }
-    forwarded(alloc, text, line, input)
+    forwarded(text, line, input)
 }
 
 /// `gateway`, what the connection gives, and the outside of the line; `gateway_down`, over a line that was disconnected before.
-pub fn answer(alloc: Global, text: &mut Text, call: &str, words: &[Word<'_>]) -> bool {
+pub fn answer(text: &mut Text, call: &str, words: &[Word]) -> bool {
     let [input, words @ ..] = words else {
         return false;
     };
     let Some(input) = input.bytes() else {
         return false;
     };
-    match read_link(alloc, words) {
-        Some(link) => forwarded_over(alloc, text, call, input, &mut rtu::attach(alloc, link)),
+    match read_link(text.alloc, words) {
+        Some(link) => forwarded_over(text, call, input, &mut rtu::attach(text.alloc, link)),
         None => false,
     }
 }

@@ -161,18 +161,21 @@ fn push_ended(text: &mut Text, ended: Ended, peers: &Peers) {
 /// The answer of a listener of these peers, and what each of them was sent.
 fn listened<I: Framing, R: Wait>(
     rt: &R,
-    alloc: Global,
     text: &mut Text,
     spawner: &str,
     peers: &mut Peers,
     looks: Option<u64>,
 ) -> bool {
-    let Ok(acceptor) = accepting(alloc, peers.ports.as_slice(), peers.links.as_mut_slice()) else {
+    let Ok(acceptor) = accepting(
+        text.alloc,
+        peers.ports.as_slice(),
+        peers.links.as_mut_slice(),
+    ) else {
         return false;
     };
     let ended = ended(
         rt,
-        alloc,
+        text.alloc,
         spawner,
         &mut Server::<I, _>::new(acceptor),
         looks,
@@ -187,7 +190,6 @@ fn listened<I: Framing, R: Wait>(
 /// The answer of a listener in a framing.
 fn listened_in<R: Wait>(
     rt: &R,
-    alloc: Global,
     text: &mut Text,
     framing: &str,
     spawner: &str,
@@ -195,8 +197,8 @@ fn listened_in<R: Wait>(
     looks: Option<u64>,
 ) -> bool {
     match framing {
-        "rtu" => listened::<Inbox, R>(rt, alloc, text, spawner, peers, looks),
-        "tcp" => listened::<AduBuffer, R>(rt, alloc, text, spawner, peers, looks),
+        "rtu" => listened::<Inbox, R>(rt, text, spawner, peers, looks),
+        "tcp" => listened::<AduBuffer, R>(rt, text, spawner, peers, looks),
         _ => false,
     }
 }
@@ -208,44 +210,30 @@ fn peer_of(alloc: Global, word: &str) -> Option<(u16, MemoryLink)> {
 }
 
 /// The peers of these connections.
-fn peers_of(alloc: Global, words: &[Word<'_>]) -> Option<Peers> {
+fn peers_of(alloc: Global, words: &[Word]) -> Option<Peers> {
     let mut peers = Peers::new(alloc);
     for word in words {
-        let (port, link) = peer_of(alloc, word.text)?;
+        let (port, link) = peer_of(alloc, word.text())?;
         peers.push(port, link).ok()?;
     }
     Some(peers)
 }
 
 /// A framing; a spawner; and the connections.
-fn answer_of_each<R: Wait>(
-    rt: &R,
-    alloc: Global,
-    text: &mut Text,
-    words: &[Word<'_>],
-    looks: Option<u64>,
-) -> bool {
+fn answer_of_each<R: Wait>(rt: &R, text: &mut Text, words: &[Word], looks: Option<u64>) -> bool {
     let [framing, spawner, words @ ..] = words else {
         return false;
     };
-    match peers_of(alloc, words) {
+    match peers_of(text.alloc, words) {
         Some(mut peers) => {
-            listened_in(
-                rt,
-                alloc,
-                text,
-                framing.text,
-                spawner.text,
-                &mut peers,
-                looks,
-            )
+            listened_in(rt, text, framing.text(), spawner.text(), &mut peers, looks)
         }
         None => false,
     }
 }
 
 /// Eight peers, each with a link over an outside of its own that these words tell.
-fn eight_peers(alloc: Global, words: &[Word<'_>]) -> Option<Peers> {
+fn eight_peers(alloc: Global, words: &[Word]) -> Option<Peers> {
     let mut peers = Peers::new(alloc);
     for _ in 0..8 {
         peers.push(TAKES, read_link(alloc, words)?).ok()?;
@@ -254,29 +242,23 @@ fn eight_peers(alloc: Global, words: &[Word<'_>]) -> Option<Peers> {
 }
 
 /// The answer of an RTU listener of eight peers with such links.
-fn answer_of_eight<R: Wait>(rt: &R, alloc: Global, text: &mut Text, words: &[Word<'_>]) -> bool {
-    match eight_peers(alloc, words) {
-        Some(mut peers) => listened::<Inbox, R>(rt, alloc, text, "inline", &mut peers, None),
+fn answer_of_eight<R: Wait>(rt: &R, text: &mut Text, words: &[Word]) -> bool {
+    match eight_peers(text.alloc, words) {
+        Some(mut peers) => listened::<Inbox, R>(rt, text, "inline", &mut peers, None),
         None => false,
     }
 }
 
 /// `listen`, or `listen_until` and how often the signal is looked at before it is set; a framing; a spawner; and the connections. Or
 /// `listen_to_eight`, and the outside of each of eight connections.
-pub fn answer<R: Wait>(
-    rt: &R,
-    alloc: Global,
-    text: &mut Text,
-    call: &str,
-    words: &[Word<'_>],
-) -> bool {
+pub fn answer<R: Wait>(rt: &R, text: &mut Text, call: &str, words: &[Word]) -> bool {
     match (call, words) {
-        ("listen", _) => answer_of_each(rt, alloc, text, words, None),
+        ("listen", _) => answer_of_each(rt, text, words, None),
         ("listen_until", [looks, words @ ..]) => {
             let looks = looks.number().map(u64::from);
-            looks.is_some() && answer_of_each(rt, alloc, text, words, looks)
+            looks.is_some() && answer_of_each(rt, text, words, looks)
         }
-        ("listen_to_eight", _) => answer_of_eight(rt, alloc, text, words),
+        ("listen_to_eight", _) => answer_of_eight(rt, text, words),
         _ => false,
     }
 }

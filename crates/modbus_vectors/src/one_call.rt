@@ -1,5 +1,6 @@
 //! Single calls: polled over links in memory, and of a service without a link.
 
+use crate::clients::{push_called, push_sent};
 use crate::outside::read_outside;
 use crate::same_words::SameWords;
 use crate::text::Text;
@@ -10,6 +11,9 @@ use modbus_link::{Polled, PolledMemoryLink};
 use modbus_pdu::decode_request;
 use std::alloc::Global;
 use std::fmt::{Debug, Display};
+
+/// How many reads a polled call may make.
+const TURNS: u64 = 2;
 
 /// Appends an answer that is ready, and how many polls were pending before. False where it is not ready.
 fn push_ready<T: Debug + Drop, E: Debug + Display + Drop>(
@@ -44,8 +48,23 @@ fn poll<P: Protocol>(
     false
 }
 
-/// The same of a call that was opened, or why it was not; what was written, and, where it is asked for, how many responses of other
-/// transactions and units were dropped.
+/// The same of an open call; what was written, and, where it is asked for, how many responses of other transactions and units were dropped.
+fn poll_open<P: Protocol>(
+    text: &mut Text,
+    call: &mut PolledCall<P>,
+    link: &mut PolledMemoryLink,
+    tells_dropped: bool,
+) -> bool {
+    let is_ready = poll(text, call, link);
+    text.push_str(" wrote ");
+    text.push_hex(link.link().sink().bytes());
+    if tells_dropped {
+        write!(text, " dropped {}", call.dropped());
+    }
+    is_ready
+}
+
+/// The same of a call that was opened, or why it was not.
 fn poll_opened<P: Protocol>(
     text: &mut Text,
     opened: Result<PolledCall<P>, Error>,
@@ -53,17 +72,9 @@ fn poll_opened<P: Protocol>(
     tells_dropped: bool,
 ) -> bool {
     match opened {
-        Ok(mut call) => {
-            let is_ready = poll(text, &mut call, link);
-            text.push_str(" wrote ");
-            text.push_hex(link.link().sink().bytes());
-            if tells_dropped {
-                write!(text, " dropped {}", call.dropped());
-            }
-            is_ready
-        }
+        Ok(mut call) => poll_open(text, &mut call, link, tells_dropped),
         Err(error) => {
-            text.push_shown(Err::<(), Error>(error));
+            push_sent(text, Err(error));
             true
         }
     }
@@ -77,9 +88,38 @@ fn first_header(unit_id: u8) -> modbus_frame::tcp::Header {
     }
 }
 
+fn rtu_polled(
+    text: &mut Text,
+    slave: u8,
+    request: Request<'_>,
+    link: &mut PolledMemoryLink,
+) -> bool {
+    let opened = rtu::PolledCall::new(text.alloc, Slave(slave), request, TURNS);
+    poll_opened(text, opened, link, false)
+}
+
+fn tcp_polled(
+    text: &mut Text,
+    slave: u8,
+    request: Request<'_>,
+    link: &mut PolledMemoryLink,
+) -> bool {
+    let opened = tcp::PolledCall::new(text.alloc, first_header(slave), request, TURNS);
+    poll_opened(text, opened, link, false)
+}
+
+fn matching_polled(
+    text: &mut Text,
+    slave: u8,
+    request: Request<'_>,
+    link: &mut PolledMemoryLink,
+) -> bool {
+    let opened = tcp::MatchingCall::new(text.alloc, first_header(slave), request, TURNS);
+    poll_opened(text, opened, link, true)
+}
+
 /// The answer of a call over a link that may not be ready.
 fn polled(
-    alloc: Global,
     text: &mut Text,
     call: &str,
     slave: u8,
@@ -87,67 +127,64 @@ fn polled(
     link: &mut PolledMemoryLink,
 ) -> bool {
     match call {
-        "rtu_polled" => {
-            let opened = rtu::PolledCall::new(alloc, Slave(slave), request, 2);
-            poll_opened(text, opened, link, false)
-        }
-        "tcp_polled" => {
-            let opened = tcp::PolledCall::new(alloc, first_header(slave), request, 2);
-            poll_opened(text, opened, link, false)
-        }
-        "matching_polled" => {
-            let opened = tcp::MatchingCall::new(alloc, first_header(slave), request, 2);
-            poll_opened(text, opened, link, true)
-        }
-        _ => false,
+        "rtu_polled" => rtu_polled(text, slave, request, link),
+        "tcp_polled" => tcp_polled(text, slave, request, link),
+        _ => matching_polled(text, slave, request, link),
+    }
+}
+
+/// The same with the request of a PDU.
+fn polled_of(
+    text: &mut Text,
+    call: &str,
+    slave: u8,
+    pdu: &[u8],
+    link: &mut PolledMemoryLink,
+) -> bool {
+    match decode_request(text.alloc, pdu) {
+        Ok(request) => polled(text, call, slave, request, link),
+        Err(_) => false,
     }
 }
 
 /// A link that may not be ready, as these words say.
-fn link_of(alloc: Global, words: &[Word<'_>]) -> Option<PolledMemoryLink> {
+fn link_of(alloc: Global, words: &[Word]) -> Option<PolledMemoryLink> {
     read_outside(alloc, words)?.into_polled_link(alloc)
 }
 
-/// The answer of a service that answers so many registers, and how often it was asked.
-fn exchanged(alloc: Global, text: &mut Text, slave: u8, request: Request<'_>, count: u16) {
-    let mut service = SameWords::new(count);
-    text.push_outcome(exchange(alloc, Slave(slave), request, &mut service));
-    write!(text, " asked {}", service.calls);
-}
-
-/// The answer of the call with a request of a slave.
-fn answer_request(
-    alloc: Global,
-    text: &mut Text,
-    call: &str,
-    slave: u8,
-    request: Request<'_>,
-    words: &[Word<'_>],
-) -> bool {
-    match words {
-        [count] if call == "exchange_words" => match count.number() {
-            Some(count) => exchanged(alloc, text, slave, request, count),
-            None => return false,
-        },
-        _ => match link_of(alloc, words) {
-            Some(mut link) => return polled(alloc, text, call, slave, request, &mut link),
-            None => return false,
-        },
-    }
-    true
-}
-
-/// `rtu_polled`, `tcp_polled` or `matching_polled` (of transaction 1), a slave, a PDU and the outside of the link; or `exchange_words`, a slave, a PDU and how
-/// many registers a service answers. A polled call has two turns.
-pub fn answer(alloc: Global, text: &mut Text, call: &str, words: &[Word<'_>]) -> bool {
+/// `rtu_polled`, `tcp_polled` or `matching_polled` (of transaction 1), a slave, a PDU and the outside of the link. Such a call has two turns.
+pub fn answer(text: &mut Text, call: &str, words: &[Word]) -> bool {
     let [slave, pdu, words @ ..] = words else {
         return false;
     };
     let (Some(slave), Some(pdu)) = (slave.byte(), pdu.bytes()) else {
         return false;
     };
-    match decode_request(alloc, pdu) {
-        Ok(request) => answer_request(alloc, text, call, slave, request, words),
-        Err(_) => false,
+    match link_of(text.alloc, words) {
+        Some(mut link) => polled_of(text, call, slave, pdu, &mut link),
+        None => false,
     }
+}
+
+/// Asks a service with the request of a PDU.
+fn exchanged(text: &mut Text, slave: u8, pdu: &[u8], service: &mut SameWords) -> bool {
+    match decode_request(text.alloc, pdu) {
+        Ok(request) => push_called(text, exchange(text.alloc, Slave(slave), request, service)),
+        Err(_) => return false,
+    }
+    true
+}
+
+/// `exchange_words`, a slave, a PDU and how many registers a service answers; and how often it was asked.
+pub fn answer_exchange(text: &mut Text, words: &[Word]) -> bool {
+    let [slave, pdu, count] = words else {
+        return false;
+    };
+    let (Some(slave), Some(pdu), Some(count)) = (slave.byte(), pdu.bytes(), count.number()) else {
+        return false;
+    };
+    let mut service = SameWords::new(count);
+    let is_done = exchanged(text, slave, pdu, &mut service);
+    write!(text, " asked {}", service.calls);
+    is_done
 }

@@ -89,15 +89,15 @@ impl Draft {
     }
 
     /// Takes a word. False where it says nothing.
-    fn take(&mut self, word: &Word<'_>) -> bool {
-        if word.text == "down" {
+    fn take(&mut self, word: &Word) -> bool {
+        if word.text() == "down" {
             self.fails_to_shut = true;
             return true;
         }
         if let Some(piece) = word.bytes() {
             return self.take_piece(piece);
         }
-        match letter_and_number(word.text) {
+        match letter_and_number(word.text()) {
             Some((letter, number)) => self.take_number(letter, number),
             None => false,
         }
@@ -123,7 +123,7 @@ impl Draft {
 }
 
 /// What these words say. False where one of them says nothing.
-fn take_all(draft: &mut Draft, words: &[Word<'_>]) -> bool {
+fn take_all(draft: &mut Draft, words: &[Word]) -> bool {
     for word in words {
         if !draft.take(word) {
             return false;
@@ -133,7 +133,7 @@ fn take_all(draft: &mut Draft, words: &[Word<'_>]) -> bool {
 }
 
 /// What these words say; none where one of them says nothing.
-pub fn read_outside(alloc: Global, words: &[Word<'_>]) -> Option<Outside> {
+pub fn read_outside(alloc: Global, words: &[Word]) -> Option<Outside> {
     let mut draft = Draft::new(alloc);
     if !take_all(&mut draft, words) {
         return None;
@@ -156,16 +156,19 @@ fn sizes(alloc: Global, numbers: &[u64]) -> Result<Vec<usize>, AllocError> {
 }
 
 /// The link that these words say.
-pub fn read_link(alloc: Global, words: &[Word<'_>]) -> Option<MemoryLink> {
+pub fn read_link(alloc: Global, words: &[Word]) -> Option<MemoryLink> {
     Some(read_outside(alloc, words)?.into_link())
 }
 
 /// The line that these words say.
-pub fn read_line(alloc: Global, words: &[Word<'_>]) -> Option<TimedMemoryLink> {
+pub fn read_line(alloc: Global, words: &[Word]) -> Option<TimedMemoryLink> {
     read_outside(alloc, words)?.into_timed_link(alloc)
 }
 
 /// The link that a word says whose own words have a plus between them.
-pub fn read_joined(alloc: Global, joined: &str) -> Option<MemoryLink> {
-    read_link(alloc, split(alloc, joined, '+').ok()?.as_slice())
+pub fn read_joined(alloc: Global, word: &str) -> Option<MemoryLink> {
+    match split(alloc, word, '+') {
+        Ok(words) => read_link(alloc, words.as_slice()),
+        Err(_) => None,
+    }
 }

@@ -25,13 +25,13 @@ fn refused(text: &mut Text, error: PduError) -> bool {
 }
 
 /// The size and the bytes of a request's PDU.
-fn written(alloc: Global, text: &mut Text, request: &Request<'_>) -> bool {
+fn written(text: &mut Text, request: &Request<'_>) -> bool {
     match request_pdu_size(request) {
         Err(long) => write!(text, "{long:?}: {long}"),
         Ok(size) => {
             write!(text, "{size} ");
-            let mut buf = BytesMut::new(alloc);
-            if encode_request_pdu(alloc, &mut buf, request).is_err() {
+            let mut buf = BytesMut::new(text.alloc);
+            if encode_request_pdu(text.alloc, &mut buf, request).is_err() {
                 return false;
             }
             text.push_hex(buf.as_slice());
@@ -40,43 +40,42 @@ fn written(alloc: Global, text: &mut Text, request: &Request<'_>) -> bool {
     true
 }
 
-/// Whether the copy of a request is equal to it.
-fn is_copied(alloc: Global, request: &Request<'_>) -> bool {
-    match request.try_clone(alloc) {
-        Ok(copy) => copy == *request,
+fn is_same(found: &Request<'_>, wanted: &Request<'_>) -> bool {
+    found == wanted
+}
+
+/// Whether a copy of a request, once it owns its lists, is equal to it.
+fn is_owned(alloc: Global, copy: Request<'_>, request: &Request<'_>) -> bool {
+    match copy.into_owned(alloc) {
+        Ok(owned) => is_same(&owned, request),
         Err(_) => false,
     }
 }
 
-/// A copy of a request that owns its lists.
-fn owned(alloc: Global, request: &Request<'_>) -> Option<Request<'static>> {
-    request.try_clone(alloc).ok()?.into_owned(alloc).ok()
-}
-
-/// Whether that is equal to it.
-fn is_owned(alloc: Global, request: &Request<'_>) -> bool {
-    match owned(alloc, request) {
-        Some(copy) => copy == *request,
-        None => false,
+/// Appends whether the copy of a request is equal to it, and whether it is once it owns its lists.
+fn push_copied(text: &mut Text, request: &Request<'_>) -> bool {
+    match request.try_clone(text.alloc) {
+        Ok(copy) => {
+            write!(text, " {}", is_same(&copy, request));
+            write!(text, " {}", is_owned(text.alloc, copy, request));
+        }
+        Err(_) => return false,
     }
+    true
 }
 
 /// A request, how it is written, and whether its copies are equal to it.
-fn described(alloc: Global, text: &mut Text, request: &Request<'_>) -> bool {
+fn described(text: &mut Text, request: &Request<'_>) -> bool {
     text.push_str("Ok(");
     text.push_shown(request);
     write!(text, ") {:?} ", request.function_code());
-    let is_written = written(alloc, text, request);
-    let is_same = is_copied(alloc, request);
-    let is_owned_same = is_owned(alloc, request);
-    write!(text, " {is_same} {is_owned_same}");
-    is_written
+    written(text, request) && push_copied(text, request)
 }
 
 /// What is described of the request of a PDU.
-fn request(alloc: Global, text: &mut Text, pdu: &[u8]) -> bool {
-    match decode_request(alloc, pdu) {
-        Ok(found) => described(alloc, text, &found),
+fn request(text: &mut Text, pdu: &[u8]) -> bool {
+    match decode_request(text.alloc, pdu) {
+        Ok(found) => described(text, &found),
         Err(error) => refused(text, error),
     }
 }
@@ -111,13 +110,13 @@ fn parts_are_copied(alloc: Global, response: &Response) -> bool {
 }
 
 /// The size and the bytes of a response's PDU.
-fn response_written(alloc: Global, text: &mut Text, response: &Response) -> bool {
+fn response_written(text: &mut Text, response: &Response) -> bool {
     match response_pdu_size(response) {
         Err(long) => write!(text, "{long:?}: {long}"),
         Ok(size) => {
             write!(text, "{size} ");
-            let mut buf = BytesMut::new(alloc);
-            if encode_response_pdu(alloc, &mut buf, response).is_err() {
+            let mut buf = BytesMut::new(text.alloc);
+            if encode_response_pdu(text.alloc, &mut buf, response).is_err() {
                 return false;
             }
             text.push_hex(buf.as_slice());
@@ -135,30 +134,27 @@ fn response_is_copied(alloc: Global, response: &Response) -> bool {
 }
 
 /// A response, how it is written, and whether its copy is equal to it.
-fn response_described(alloc: Global, text: &mut Text, response: &Response) -> bool {
+fn response_described(text: &mut Text, response: &Response) -> bool {
     text.push_str("Ok(");
     text.push_shown(response);
     text.push_str(") ");
-    let is_written = response_written(alloc, text, response);
-    let is_same = response_is_copied(alloc, response) && parts_are_copied(alloc, response);
+    let is_written = response_written(text, response);
+    let is_same = response_is_copied(text.alloc, response)
+        && parts_are_copied(text.alloc, response);
     write!(text, " {is_same}");
     is_written
 }
 
 /// What is described of the response of a PDU.
-fn response(alloc: Global, text: &mut Text, pdu: Bytes) -> bool {
-    match decode_response(alloc, pdu) {
-        Ok(found) => response_described(alloc, text, &found),
+fn response(text: &mut Text, pdu: Bytes) -> bool {
+    match decode_response(text.alloc, pdu) {
+        Ok(found) => response_described(text, &found),
         Err(error) => refused(text, error),
     }
 }
 
 /// A response or an exception, and how it is written.
-fn answer_described(
-    alloc: Global,
-    text: &mut Text,
-    found: &Result<Response, ExceptionResponse>,
-) -> bool {
+fn answer_described(text: &mut Text, found: &Result<Response, ExceptionResponse>) -> bool {
     if let Err(refusal) = found
         && refusal.function.value() >= 0x80
     {
@@ -169,8 +165,8 @@ fn answer_described(
         Ok(size) => {
             text.push_shown(found);
             write!(text, " {size} ");
-            let mut buf = BytesMut::new(alloc);
-            if encode_response_result_pdu(alloc, &mut buf, found).is_err() {
+            let mut buf = BytesMut::new(text.alloc);
+            if encode_response_result_pdu(text.alloc, &mut buf, found).is_err() {
                 return false;
             }
             text.push_hex(buf.as_slice());
@@ -180,21 +176,21 @@ fn answer_described(
 }
 
 /// What is described of the response or the exception of a PDU.
-fn answered(alloc: Global, text: &mut Text, pdu: Bytes) -> bool {
-    match decode_response_pdu(alloc, pdu) {
-        Ok(found) => answer_described(alloc, text, &found.0),
+fn answered(text: &mut Text, pdu: Bytes) -> bool {
+    match decode_response_pdu(text.alloc, pdu) {
+        Ok(found) => answer_described(text, &found.0),
         Err(error) => refused(text, error),
     }
 }
 
 /// An exception, its text, and how it is written.
-fn exception_described(alloc: Global, text: &mut Text, found: ExceptionResponse) -> bool {
+fn exception_described(text: &mut Text, found: ExceptionResponse) -> bool {
     if found.function.value() >= 0x80 {
         return false;
     }
     write!(text, "Ok({found:?}): {found} ");
-    let mut buf = BytesMut::new(alloc);
-    if encode_exception_response_pdu(alloc, &mut buf, found).is_err() {
+    let mut buf = BytesMut::new(text.alloc);
+    if encode_exception_response_pdu(text.alloc, &mut buf, found).is_err() {
         return false;
     }
     text.push_hex(buf.as_slice());
@@ -202,9 +198,9 @@ fn exception_described(alloc: Global, text: &mut Text, found: ExceptionResponse)
 }
 
 /// What is described of the exception of a PDU.
-fn exception(alloc: Global, text: &mut Text, pdu: &[u8]) -> bool {
+fn exception(text: &mut Text, pdu: &[u8]) -> bool {
     match decode_exception(pdu) {
-        Ok(found) => return exception_described(alloc, text, found),
+        Ok(found) => return exception_described(text, found),
         Err(reason) => text.push_told(reason),
     }
     true
@@ -237,8 +233,8 @@ fn size_of_words(text: &mut Text, kind: &str, words: &[u16]) -> bool {
 }
 
 /// How a request of so many coils is written, all of them 0.
-fn size_of_coils(alloc: Global, text: &mut Text, count: usize) -> bool {
-    let Ok(coils) = Vec::from_elem(alloc, false, count) else {
+fn size_of_coils(text: &mut Text, count: usize) -> bool {
+    let Ok(coils) = Vec::from_elem(text.alloc, false, count) else {
         return false;
     };
     let coils = CowSlice::Borrowed(coils.as_slice());
@@ -247,8 +243,8 @@ fn size_of_coils(alloc: Global, text: &mut Text, count: usize) -> bool {
 }
 
 /// The same of so many bytes.
-fn size_of_custom(alloc: Global, text: &mut Text, count: usize) -> bool {
-    let Ok(data) = Vec::from_elem(alloc, 0u8, count) else {
+fn size_of_custom(text: &mut Text, count: usize) -> bool {
+    let Ok(data) = Vec::from_elem(text.alloc, 0u8, count) else {
         return false;
     };
     let data = CowSlice::Borrowed(data.as_slice());
@@ -257,41 +253,41 @@ fn size_of_custom(alloc: Global, text: &mut Text, count: usize) -> bool {
 }
 
 /// The same of so many coils, registers or bytes.
-fn sized(alloc: Global, text: &mut Text, kind: &str, count: usize) -> bool {
+fn sized(text: &mut Text, kind: &str, count: usize) -> bool {
     match kind {
-        "WriteMultipleCoils" => size_of_coils(alloc, text, count),
-        "Custom" => size_of_custom(alloc, text, count),
-        _ => match Vec::from_elem(alloc, 0u16, count) {
+        "WriteMultipleCoils" => size_of_coils(text, count),
+        "Custom" => size_of_custom(text, count),
+        _ => match Vec::from_elem(text.alloc, 0u16, count) {
             Ok(words) => size_of_words(text, kind, words.as_slice()),
             Err(_) => false,
         },
     }
 }
 
-fn of_bytes(alloc: Global, text: &mut Text, call: &str, pdu: &[u8]) -> bool {
+fn of_bytes(text: &mut Text, call: &str, pdu: &[u8]) -> bool {
     match call {
-        "request" => return request(alloc, text, pdu),
-        "exception" => return exception(alloc, text, pdu),
+        "request" => return request(text, pdu),
+        "exception" => return exception(text, pdu),
         _ => {}
     }
-    let Ok(pdu) = Bytes::copy_from_slice(alloc, pdu) else {
+    let Ok(pdu) = Bytes::copy_from_slice(text.alloc, pdu) else {
         return false;
     };
     match call {
-        "response" => response(alloc, text, pdu),
-        "answer" => answered(alloc, text, pdu),
+        "response" => response(text, pdu),
+        "answer" => answered(text, pdu),
         _ => false,
     }
 }
 
-pub fn answer(alloc: Global, text: &mut Text, call: &str, words: &[Word<'_>]) -> bool {
+pub fn answer(text: &mut Text, call: &str, words: &[Word]) -> bool {
     match words {
         [word] => match word.bytes() {
-            Some(pdu) => of_bytes(alloc, text, call, pdu),
+            Some(pdu) => of_bytes(text, call, pdu),
             None => false,
         },
         [kind, count] if call == "size" => match count.number() {
-            Some(count) => sized(alloc, text, kind.text, usize::from(count)),
+            Some(count) => sized(text, kind.text(), usize::from(count)),
             None => false,
         },
         _ => false,

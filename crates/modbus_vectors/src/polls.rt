@@ -16,17 +16,17 @@ fn item_of(word: &str) -> Option<Item> {
     })
 }
 
-fn items_of(alloc: Global, words: &[Word<'_>]) -> Option<Vec<Item>> {
+fn items_of(alloc: Global, words: &[Word]) -> Option<Vec<Item>> {
     let mut items = Vec::new(alloc);
     for word in words {
-        items.push(item_of(word.text)?).ok()?;
+        items.push(item_of(word.text())?).ok()?;
     }
     Some(items)
 }
 
 /// The plan of these items, and whether it covers them.
-fn push_plan(alloc: Global, text: &mut Text, items: &[Item]) {
-    match plan_reads(alloc, items) {
+fn push_plan(text: &mut Text, items: &[Item]) {
+    match plan_reads(text.alloc, items) {
         Ok(plan) => {
             let is_whole = plan.covers(items);
             for read in plan.reads() {
@@ -38,9 +38,9 @@ fn push_plan(alloc: Global, text: &mut Text, items: &[Item]) {
     }
 }
 
-fn planned(alloc: Global, text: &mut Text, words: &[Word<'_>]) -> bool {
-    match items_of(alloc, words) {
-        Some(items) => push_plan(alloc, text, items.as_slice()),
+fn planned(text: &mut Text, words: &[Word]) -> bool {
+    match items_of(text.alloc, words) {
+        Some(items) => push_plan(text, items.as_slice()),
         None => return false,
     }
     true
@@ -62,43 +62,43 @@ fn store_of(alloc: Global, numbers: &str) -> Option<RegisterStore> {
 }
 
 /// What a poll of these items gives. False where no plan covers them.
-fn push_poll(alloc: Global, text: &mut Text, store: &mut RegisterStore, items: &[Item]) -> bool {
-    let Ok(plan) = plan_reads(alloc, items) else {
+fn push_poll(text: &mut Text, store: &mut RegisterStore, items: &[Item]) -> bool {
+    let Ok(plan) = plan_reads(text.alloc, items) else {
         return false;
     };
     if !plan.covers(items) {
         return false;
     }
-    text.push_outcome(poll_service(alloc, Slave(1), items, &plan, store));
+    text.push_outcome(poll_service(text.alloc, Slave(1), items, &plan, store));
     true
 }
 
 /// The items of the points that these words name.
-fn points_of(alloc: Global, words: &[Word<'_>]) -> Option<Vec<Item>> {
+fn points_of(alloc: Global, words: &[Word]) -> Option<Vec<Item>> {
     let mut items = Vec::new(alloc);
     for word in words {
-        items.push(parse_point(word.text).ok()?.item).ok()?;
+        items.push(parse_point(word.text()).ok()?.item).ok()?;
     }
     Some(items)
 }
 
-fn polled(alloc: Global, text: &mut Text, numbers: &str, words: &[Word<'_>]) -> bool {
-    let Some(items) = points_of(alloc, words) else {
+fn polled(text: &mut Text, numbers: &str, words: &[Word]) -> bool {
+    let Some(items) = points_of(text.alloc, words) else {
         return false;
     };
-    match store_of(alloc, numbers) {
-        Some(mut store) => push_poll(alloc, text, &mut store, items.as_slice()),
+    match store_of(text.alloc, numbers) {
+        Some(mut store) => push_poll(text, &mut store, items.as_slice()),
         None => false,
     }
 }
 
 /// `point 100:u16`: what a word names; `items 0:1 100:2`: the plan of items, each an address and so many registers, and whether it covers them;
 /// `poll 1,2 0:u32`: the values of points of a store whose holding registers hold these numbers.
-pub fn answer(alloc: Global, text: &mut Text, call: &str, words: &[Word<'_>]) -> bool {
+pub fn answer(text: &mut Text, call: &str, words: &[Word]) -> bool {
     match (call, words) {
-        ("point", [word]) => text.push_outcome(parse_point(word.text)),
-        ("items", _) => return planned(alloc, text, words),
-        ("poll", [numbers, words @ ..]) => return polled(alloc, text, numbers.text, words),
+        ("point", [word]) => text.push_outcome(parse_point(word.text())),
+        ("items", _) => return planned(text, words),
+        ("poll", [numbers, words @ ..]) => return polled(text, numbers.text(), words),
         _ => return false,
     }
     true

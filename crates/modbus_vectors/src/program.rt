@@ -11,9 +11,9 @@ use std::alloc::{AllocError, Global};
 const ROOM: usize = 256;
 
 /// The words before a colon, and those after it.
-fn split<'w, 'l>(words: &'w [Word<'l>]) -> (&'w [Word<'l>], &'w [Word<'l>]) {
+fn split<'w, 'l>(words: &'w [Word]) -> (&'w [Word], &'w [Word]) {
     for (at, word) in words.iter().enumerate() {
-        if word.text == ":" {
+        if word.text() == ":" {
             return (&words[..at], &words[at + 1..]);
         }
     }
@@ -21,10 +21,10 @@ fn split<'w, 'l>(words: &'w [Word<'l>]) -> (&'w [Word<'l>], &'w [Word<'l>]) {
 }
 
 /// Words as they are handed over by the system.
-fn handed_over(alloc: Global, words: &[Word<'_>]) -> Result<Vec<String>, AllocError> {
+fn handed_over(alloc: Global, words: &[Word]) -> Result<Vec<String>, AllocError> {
     let mut handed = Vec::new(alloc);
     for word in words {
-        handed.push(String::from_str(alloc, word.text)?)?;
+        handed.push(String::from_str(alloc, word.text())?)?;
     }
     Ok(handed)
 }
@@ -47,14 +47,19 @@ fn push_errors(text: &mut Text, errors: &[u8]) {
 
 /// The status of a run, and its output and its text where those are asked for.
 fn push_run(
-    alloc: Global,
     text: &mut Text,
     call: &str,
     words: &[String],
     outside: &mut Outside,
     errors: &mut MemorySink,
 ) {
-    let status = run(alloc, words, &mut outside.source, &mut outside.sink, errors);
+    let status = run(
+        text.alloc,
+        words,
+        &mut outside.source,
+        &mut outside.sink,
+        errors,
+    );
     write!(text, "{status}");
     if call == "run" {
         text.push_str(" ");
@@ -65,27 +70,21 @@ fn push_run(
 }
 
 /// The same over the outside that these words say.
-fn ran(alloc: Global, text: &mut Text, call: &str, words: &[String], pieces: &[Word<'_>]) -> bool {
-    let Some(mut outside) = read_outside(alloc, pieces) else {
+fn ran(text: &mut Text, call: &str, words: &[String], pieces: &[Word]) -> bool {
+    let Some(mut outside) = read_outside(text.alloc, pieces) else {
         return false;
     };
-    match MemorySink::new(alloc, ROOM, ROOM, &[]) {
-        Ok(mut errors) => push_run(alloc, text, call, words, &mut outside, &mut errors),
+    match MemorySink::new(text.alloc, ROOM, ROOM, &[]) {
+        Ok(mut errors) => push_run(text, call, words, &mut outside, &mut errors),
         Err(_) => return false,
     }
     true
 }
 
 /// The answer of these words of the program.
-fn answer_words(
-    alloc: Global,
-    text: &mut Text,
-    call: &str,
-    words: &[String],
-    pieces: &[Word<'_>],
-) -> bool {
+fn answer_words(text: &mut Text, call: &str, words: &[String], pieces: &[Word]) -> bool {
     match call {
-        "run" | "status" => return ran(alloc, text, call, words, pieces),
+        "run" | "status" => return ran(text, call, words, pieces),
         "listening" => text.push_shown(listening(words)),
         _ => return false,
     }
@@ -93,10 +92,10 @@ fn answer_words(
 }
 
 /// `run`, the words of the program, a colon and its outside; `status` and the same, for its status alone; `listening` and the words.
-pub fn answer(alloc: Global, text: &mut Text, call: &str, words: &[Word<'_>]) -> bool {
+pub fn answer(text: &mut Text, call: &str, words: &[Word]) -> bool {
     let (words, pieces) = split(words);
-    match handed_over(alloc, words) {
-        Ok(words) => answer_words(alloc, text, call, words.as_slice(), pieces),
+    match handed_over(text.alloc, words) {
+        Ok(words) => answer_words(text, call, words.as_slice(), pieces),
         Err(_) => false,
     }
 }

@@ -76,14 +76,9 @@ fn retries_of(words: &str) -> Option<(u32, Resend)> {
 }
 
 /// What a step does to an RTU client over a connector, which also has `retries=1:reads`.
-fn rtu_step(
-    alloc: Global,
-    text: &mut Text,
-    client: &mut RtuOverTcpClient<Links>,
-    word: &str,
-) -> bool {
+fn rtu_step(text: &mut Text, client: &mut RtuOverTcpClient<Links>, word: &str) -> bool {
     let Some(retries) = word.strip_prefix("retries=") else {
-        return step(alloc, text, client, word);
+        return step(text, client, word);
     };
     let Some((retries, resend)) = retries_of(retries) else {
         return false;
@@ -93,34 +88,28 @@ fn rtu_step(
     true
 }
 
+/// Appends whether a client uses a link.
+fn push_linked(text: &mut Text, client: &RtuOverTcpClient<Links>) {
+    match client.link() {
+        Some(_) => text.push_str(" linked; "),
+        None => text.push_str(" apart; "),
+    }
+}
+
 /// The answers of such a client, each with whether a link is used then.
-fn rtu_steps(
-    alloc: Global,
-    text: &mut Text,
-    client: &mut RtuOverTcpClient<Links>,
-    words: &str,
-) -> bool {
+fn rtu_steps(text: &mut Text, client: &mut RtuOverTcpClient<Links>, words: &str) -> bool {
     for word in words.split(',') {
-        if !rtu_step(alloc, text, client, word) {
+        if !rtu_step(text, client, word) {
             return false;
         }
-        text.push_str(if client.link().is_some() {
-            " linked; "
-        } else {
-            " apart; "
-        });
+        push_linked(text, client);
     }
     true
 }
 
 /// The same, and the link, how often the last call tried, and how many links were not asked for.
-fn over_rtu(
-    alloc: Global,
-    text: &mut Text,
-    client: &mut RtuOverTcpClient<Links>,
-    words: &str,
-) -> bool {
-    let is_done = rtu_steps(alloc, text, client, words);
+fn over_rtu(text: &mut Text, client: &mut RtuOverTcpClient<Links>, words: &str) -> bool {
+    let is_done = rtu_steps(text, client, words);
     push_link(text, client.link());
     let left = client.connector().links.len();
     write!(text, " tries {} left {left}", client.tries());
@@ -128,32 +117,31 @@ fn over_rtu(
 }
 
 /// The answers of a TCP client over a connector, and its link.
-fn over_tcp(alloc: Global, text: &mut Text, client: &mut TcpClient<Links>, words: &str) -> bool {
-    let is_done = steps(alloc, text, client, words);
+fn over_tcp(text: &mut Text, client: &mut TcpClient<Links>, words: &str) -> bool {
+    let is_done = steps(text, client, words);
     push_link(text, client.link());
     is_done
 }
 
+/// The device that both connect to.
+fn device() -> SocketAddr {
+    SocketAddr::from((Ipv4Addr::LOCALHOST, 502))
+}
+
 /// Over a connector, by the call that is named.
-fn answers_over(
-    alloc: Global,
-    text: &mut Text,
-    call: &str,
-    slave: Slave,
-    words: &str,
-    links: Links,
-) -> bool {
-    let address = SocketAddr::from((Ipv4Addr::LOCALHOST, 502));
-    if call == "reconnect_rtu" {
-        let mut client = RtuOverTcpClient::new(alloc, links, address, slave);
-        return over_rtu(alloc, text, &mut client, words);
+fn answers_over(text: &mut Text, call: &str, slave: Slave, words: &str, links: Links) -> bool {
+    match call {
+        "reconnect_rtu" => over_rtu(
+            text,
+            &mut RtuOverTcpClient::new(text.alloc, links, device(), slave),
+            words,
+        ),
+        _ => over_tcp(
+            text,
+            &mut TcpClient::new(text.alloc, links, device(), slave),
+            words,
+        ),
     }
-    over_tcp(
-        alloc,
-        text,
-        &mut TcpClient::new(alloc, links, address, slave),
-        words,
-    )
 }
 
 type Line = SerialClient<TimedMemoryLink>;
@@ -178,22 +166,22 @@ fn set_quiet(text: &mut Text, client: &mut Line, words: &str) -> bool {
 }
 
 /// What a step does to a client of a line, which also has `quiet=4096:200`, `doubt` and `unsettled`.
-fn line_step(alloc: Global, text: &mut Text, client: &mut Line, word: &str) -> bool {
+fn line_step(text: &mut Text, client: &mut Line, word: &str) -> bool {
     if let Some(quiet) = word.strip_prefix("quiet=") {
         return set_quiet(text, client, quiet);
     }
     match word {
         "doubt" => text.push_shown(client.is_in_doubt()),
         "unsettled" => text.push_shown(client.unsettled()),
-        _ => return step(alloc, text, client, word),
+        _ => return step(text, client, word),
     }
     true
 }
 
 /// The answers of such a client.
-fn line_steps(alloc: Global, text: &mut Text, client: &mut Line, words: &str) -> bool {
+fn line_steps(text: &mut Text, client: &mut Line, words: &str) -> bool {
     for word in words.split(',') {
-        if !line_step(alloc, text, client, word) {
+        if !line_step(text, client, word) {
             return false;
         }
         text.push_str("; ");
@@ -202,8 +190,8 @@ fn line_steps(alloc: Global, text: &mut Text, client: &mut Line, words: &str) ->
 }
 
 /// The same, and what was written to its line.
-fn over_line(alloc: Global, text: &mut Text, client: &mut Line, words: &str) -> bool {
-    let is_done = line_steps(alloc, text, client, words);
+fn over_line(text: &mut Text, client: &mut Line, words: &str) -> bool {
+    let is_done = line_steps(text, client, words);
     match client.link() {
         Some(line) => push_written(text, line.link()),
         None => text.push_str("no link"),
@@ -212,44 +200,42 @@ fn over_line(alloc: Global, text: &mut Text, client: &mut Line, words: &str) -> 
 }
 
 /// The answers of a client of this line.
-fn answers_on_line(
-    alloc: Global,
-    text: &mut Text,
-    slave: Slave,
-    steps: &str,
-    line: TimedMemoryLink,
-) -> bool {
-    let mut client = SerialClient::new(alloc, line, slave, Duration::from_millis(SILENCE));
+fn answers_on_line(text: &mut Text, slave: Slave, steps: &str, line: TimedMemoryLink) -> bool {
+    let mut client = SerialClient::new(text.alloc, line, slave, Duration::from_millis(SILENCE));
     client.set_timeout(Some(Duration::from_millis(TIMEOUT)));
-    over_line(alloc, text, &mut client, steps)
+    over_line(text, &mut client, steps)
+}
+
+/// The answers of a client of the line that these words say.
+fn answer_on_line(text: &mut Text, slave: Slave, steps: &str, words: &[Word]) -> bool {
+    match read_line(text.alloc, words) {
+        Some(line) => answers_on_line(text, slave, steps, line),
+        None => false,
+    }
+}
+
+/// The answers of a client over a connector of the links that these words say.
+fn answer_over(text: &mut Text, call: &str, slave: Slave, steps: &str, words: &[Word]) -> bool {
+    let [first, second] = words else {
+        return false;
+    };
+    match links_of(text.alloc, first.text(), second.text()) {
+        Ok(links) => answers_over(text, call, slave, steps, links),
+        Err(_) => false,
+    }
 }
 
 /// The call of a slave, steps and what they go over.
-fn answer_steps(
-    alloc: Global,
-    text: &mut Text,
-    call: &str,
-    slave: Slave,
-    steps: &str,
-    words: &[Word<'_>],
-) -> bool {
-    match words {
-        [first, second] if call != "reconnect_serial" => {
-            match links_of(alloc, first.text, second.text) {
-                Ok(links) => answers_over(alloc, text, call, slave, steps, links),
-                Err(_) => false,
-            }
-        }
-        _ => match read_line(alloc, words) {
-            Some(line) => answers_on_line(alloc, text, slave, steps, line),
-            None => false,
-        },
+fn answer_steps(text: &mut Text, call: &str, slave: Slave, steps: &str, words: &[Word]) -> bool {
+    match call {
+        "reconnect_serial" => answer_on_line(text, slave, steps, words),
+        _ => answer_over(text, call, slave, steps, words),
     }
 }
 
 /// Whether a line is settled by one silence, of which at most a hundred bytes are dropped.
-fn settled(alloc: Global, text: &mut Text, words: &[Word<'_>]) -> bool {
-    match read_line(alloc, words) {
+fn settled(text: &mut Text, words: &[Word]) -> bool {
+    match read_line(text.alloc, words) {
         Some(mut line) => text.push_shown(settle(&mut line, 1, 100)),
         None => return false,
     }
@@ -258,15 +244,15 @@ fn settled(alloc: Global, text: &mut Text, words: &[Word<'_>]) -> bool {
 
 /// `reconnect_rtu` or `reconnect_tcp`, a slave, steps with commas between them, and two links, the one after the other; `reconnect_serial`, a
 /// slave, steps, and the outside of the line, `p8` a silence behind 8 bytes; or `reconnect_settle` and the outside of the line.
-pub fn answer(alloc: Global, text: &mut Text, call: &str, words: &[Word<'_>]) -> bool {
+pub fn answer(text: &mut Text, call: &str, words: &[Word]) -> bool {
     if call == "reconnect_settle" {
-        return settled(alloc, text, words);
+        return settled(text, words);
     }
     let [slave, steps, words @ ..] = words else {
         return false;
     };
     match slave.byte() {
-        Some(slave) => answer_steps(alloc, text, call, Slave(slave), steps.text, words),
+        Some(slave) => answer_steps(text, call, Slave(slave), steps.text(), words),
         None => false,
     }
 }

@@ -15,15 +15,22 @@ use modbus_link::{
 use modbus_rtu::Inbox;
 use modbus_server::tcp::AduBuffer;
 use modbus_server::{
-    Connection, ConnectionWorker, Forward, Framing, PolledProcess, ProcessError, Step, rtu,
-    rtu_over_tcp, tcp,
+    Connection, ConnectionWorker, Forward, Framing, PolledProcess, ProcessError, rtu, rtu_over_tcp,
+    tcp,
 };
 use modbus_service::OnlyUnit;
 use modbus_standard::StandardAnswers;
 use std::alloc::{AllocError, Global};
 use std::fmt::Debug;
 
-/// Appends the answer of a server, its output, how many bytes the source gave, and how often it asked.
+/// Appends the output of a server, how many bytes the source gave, and how often it asked.
+fn push_outside(text: &mut Text, source: &MemorySource, sink: &MemorySink, calls: u64) {
+    text.push_hex(sink.bytes());
+    let given = source.given();
+    write!(text, " read {given} asked {calls}");
+}
+
+/// Appends the answer of a server, and those.
 fn push_asked<T: Debug + Drop>(
     text: &mut Text,
     ended: T,
@@ -32,9 +39,7 @@ fn push_asked<T: Debug + Drop>(
     calls: u64,
 ) {
     write!(text, "{ended:?} ");
-    text.push_hex(sink.bytes());
-    let given = source.given();
-    write!(text, " read {given} asked {calls}");
+    push_outside(text, source, sink, calls);
 }
 
 /// The same of a server over a link.
@@ -48,7 +53,6 @@ fn push_over_link<T: Debug + Drop>(
 }
 
 fn served(
-    alloc: Global,
     text: &mut Text,
     framing: &str,
     service: &mut SameWords,
@@ -58,9 +62,9 @@ fn served(
     let source = &mut outside.source;
     let sink = &mut outside.sink;
     let ended = match framing {
-        "rtu" => rtu_over_tcp::process(alloc, source, sink, service, turns),
-        "tcp" => tcp::process(alloc, source, sink, service, turns),
-        "ascii" => modbus_ascii::ascii::process(alloc, source, sink, service, turns),
+        "rtu" => rtu_over_tcp::process(text.alloc, source, sink, service, turns),
+        "tcp" => tcp::process(text.alloc, source, sink, service, turns),
+        "ascii" => modbus_ascii::ascii::process(text.alloc, source, sink, service, turns),
         _ => return false,
     };
     push_asked(text, ended, source, sink, service.calls);
@@ -69,7 +73,6 @@ fn served(
 
 /// A source and a sink that are lent as one object, and a service that is lent.
 fn served_by_lent(
-    alloc: Global,
     text: &mut Text,
     framing: &str,
     service: &mut SameWords,
@@ -80,66 +83,96 @@ fn served_by_lent(
     let sink = &mut outside.sink;
     let link = &mut Both::new(&mut *source, &mut *sink);
     let ended = match framing {
-        "rtu" => rtu_over_tcp::process_link(alloc, link, &mut Forward(&mut *service), turns),
-        "tcp" => tcp::process_link(alloc, link, &mut Forward(&mut *service), turns),
+        "rtu" => rtu_over_tcp::process_link(text.alloc, link, &mut Forward(&mut *service), turns),
+        "tcp" => tcp::process_link(text.alloc, link, &mut Forward(&mut *service), turns),
         _ => return false,
     };
     push_asked(text, ended, source, sink, service.calls);
     true
 }
 
-/// Takes the steps of a connection: at 1 it may read, and at 0 it may not.
+/// Takes a step of a connection, where it can. Whether it did.
+fn take_step<I: Framing>(
+    text: &mut Text,
+    connection: &mut Connection<I>,
+    service: &mut SameWords,
+    may_read: bool,
+    outside: &mut Outside,
+) -> bool {
+    if !connection.is_open() || !connection.to_write().is_empty() {
+        return false;
+    }
+    let source = &mut outside.source;
+    let sink = &mut outside.sink;
+    text.push_shown(connection.step(text.alloc, source, sink, service, may_read));
+    text.push_str("; ");
+    true
+}
+
+/// The steps of a connection: at 1 it may read, and at 0 it may not.
 fn take_steps<I: Framing>(
-    alloc: Global,
+    text: &mut Text,
     connection: &mut Connection<I>,
     service: &mut SameWords,
     reads: &str,
     outside: &mut Outside,
-    steps: &mut Vec<Result<Step, ProcessError>>,
-) -> Result<(), AllocError> {
-    let source = &mut outside.source;
-    let sink = &mut outside.sink;
+) {
     for may_read in reads.as_bytes() {
-        if !connection.is_open() || !connection.to_write().is_empty() {
+        if !take_step(text, connection, service, *may_read == b'1', outside) {
             break;
         }
-        steps.push(connection.step(alloc, source, sink, service, *may_read == b'1'))?;
     }
-    Ok(())
 }
 
-/// What the steps of a new connection answer.
+/// The same of a new connection.
 fn stepped<I: Framing>(
-    alloc: Global,
+    text: &mut Text,
     service: &mut SameWords,
     reads: &str,
     outside: &mut Outside,
-) -> Result<Vec<Result<Step, ProcessError>>, AllocError> {
-    let mut steps = Vec::new(alloc);
-    let mut connection = Connection::<I>::open(alloc)?;
-    take_steps(alloc, &mut connection, service, reads, outside, &mut steps)?;
-    Ok(steps)
+) -> bool {
+    match Connection::<I>::open(text.alloc) {
+        Ok(mut connection) => take_steps(text, &mut connection, service, reads, outside),
+        Err(_) => return false,
+    }
+    true
 }
 
-/// Appends what the steps of a connection answer.
+/// The same in a framing, and what came of them.
 fn push_steps(
-    alloc: Global,
     text: &mut Text,
     framing: &str,
     service: &mut SameWords,
     reads: &str,
     outside: &mut Outside,
 ) -> bool {
-    let steps = match framing {
-        "rtu" => stepped::<Inbox>(alloc, service, reads, outside),
-        "tcp" => stepped::<AduBuffer>(alloc, service, reads, outside),
+    let is_done = match framing {
+        "rtu" => stepped::<Inbox>(text, service, reads, outside),
+        "tcp" => stepped::<AduBuffer>(text, service, reads, outside),
         _ => return false,
     };
-    match steps {
-        Ok(steps) => push_asked(text, steps, &outside.source, &outside.sink, service.calls),
-        Err(_) => return false,
+    push_outside(text, &outside.source, &outside.sink, service.calls);
+    is_done
+}
+
+/// `step`, a framing, how many registers the service answers, the steps, and the outside.
+pub fn answer_by_steps(text: &mut Text, words: &[Word]) -> bool {
+    let [framing, count, reads, words @ ..] = words else {
+        return false;
+    };
+    let Some(count) = count.number() else {
+        return false;
+    };
+    match read_outside(text.alloc, words) {
+        Some(mut outside) => push_steps(
+            text,
+            framing.text(),
+            &mut SameWords::new(count),
+            reads.text(),
+            &mut outside,
+        ),
+        None => false,
     }
-    true
 }
 
 /// How many of the next polls are pending, and the answer of the first that is not, among a hundred.
@@ -173,7 +206,6 @@ fn polled_anew<I: Framing>(
 }
 
 fn served_by_polls(
-    alloc: Global,
     text: &mut Text,
     framing: &str,
     service: &mut SameWords,
@@ -181,8 +213,8 @@ fn served_by_polls(
     link: &mut PolledMemoryLink,
 ) -> bool {
     let ended = match framing {
-        "rtu" => polled_anew::<Inbox>(alloc, link, service, turns),
-        "tcp" => polled_anew::<AduBuffer>(alloc, link, service, turns),
+        "rtu" => polled_anew::<Inbox>(text.alloc, link, service, turns),
+        "tcp" => polled_anew::<AduBuffer>(text.alloc, link, service, turns),
         _ => return false,
     };
     match ended {
@@ -193,15 +225,9 @@ fn served_by_polls(
 }
 
 /// An RTU server that a signal stops after so many looks.
-fn served_until(
-    alloc: Global,
-    text: &mut Text,
-    service: &mut SameWords,
-    looks: u64,
-    link: &mut MemoryLink,
-) {
+fn served_until(text: &mut Text, service: &mut SameWords, looks: u64, link: &mut MemoryLink) {
     let ended = rtu::Server::new(&mut *link).serve_until(
-        alloc,
+        text.alloc,
         service,
         &mut MemoryStop::new(looks),
     );
@@ -212,15 +238,9 @@ fn served_until(
 fn ignore(_error: ProcessError) {}
 
 /// One connection as work, which a signal stops after so many looks.
-fn worked<I: Framing>(
-    alloc: Global,
-    text: &mut Text,
-    service: &mut SameWords,
-    looks: u64,
-    link: &mut MemoryLink,
-) {
+fn worked<I: Framing>(text: &mut Text, service: &mut SameWords, looks: u64, link: &mut MemoryLink) {
     let ended = ConnectionWorker::<I, _, _, _, _>::new(
-        alloc,
+        text.alloc,
         &mut *link,
         Forward(&mut *service),
         ignore,
@@ -232,14 +252,13 @@ fn worked<I: Framing>(
 
 /// Slave 1 on a line that it shares with others.
 fn served_among_others(
-    alloc: Global,
     text: &mut Text,
     service: &mut SameWords,
     turns: u64,
     link: &mut BurstLink<TimedMemoryLink>,
 ) {
     let ended = modbus_burst::process_link(
-        alloc,
+        text.alloc,
         link,
         &mut OnlyUnit {
             unit: 1,
@@ -253,18 +272,18 @@ fn served_among_others(
 }
 
 /// The server of modbus_example, to which each byte is a request.
-fn served_by_bytes(alloc: Global, text: &mut Text, counter: &mut Counter, outside: &mut Outside) {
+fn served_by_bytes(text: &mut Text, counter: &mut Counter, outside: &mut Outside) {
     let source = &mut outside.source;
     let sink = &mut outside.sink;
-    let ended = serve_singles(alloc, source, sink, counter);
+    let ended = serve_singles(text.alloc, source, sink, counter);
     push_asked(text, ended, source, sink, counter.asked);
 }
 
 /// `serve_singles`, and the outside.
-pub fn answer_by_bytes(alloc: Global, text: &mut Text, words: &[Word<'_>]) -> bool {
-    match read_outside(alloc, words) {
+pub fn answer_by_bytes(text: &mut Text, words: &[Word]) -> bool {
+    match read_outside(text.alloc, words) {
         Some(mut outside) => {
-            served_by_bytes(alloc, text, &mut Counter::new(alloc), &mut outside);
+            served_by_bytes(text, &mut Counter::new(text.alloc), &mut outside);
         }
         None => return false,
     }
@@ -273,7 +292,6 @@ pub fn answer_by_bytes(alloc: Global, text: &mut Text, words: &[Word<'_>]) -> bo
 
 /// The answer of a server over a link, which a signal stops after so many looks.
 fn answer_over_link(
-    alloc: Global,
     text: &mut Text,
     call: &str,
     framing: &str,
@@ -282,25 +300,19 @@ fn answer_over_link(
     link: &mut MemoryLink,
 ) -> bool {
     match (call, framing) {
-        ("serve_until", "rtu") => served_until(alloc, text, service, looks, link),
-        ("work", "rtu") => worked::<Inbox>(alloc, text, service, looks, link),
-        ("work", "tcp") => worked::<AduBuffer>(alloc, text, service, looks, link),
+        ("serve_until", "rtu") => served_until(text, service, looks, link),
+        ("work", "rtu") => worked::<Inbox>(text, service, looks, link),
+        ("work", "tcp") => worked::<AduBuffer>(text, service, looks, link),
         _ => return false,
     }
     true
 }
 
 /// The answer of a slave on a line with this outside.
-fn answer_on_line(
-    alloc: Global,
-    text: &mut Text,
-    service: &mut SameWords,
-    turns: u64,
-    outside: Outside,
-) -> bool {
-    match outside.into_timed_link(alloc) {
+fn answer_on_line(text: &mut Text, service: &mut SameWords, turns: u64, outside: Outside) -> bool {
+    match outside.into_timed_link(text.alloc) {
         Some(line) => {
-            served_among_others(alloc, text, service, turns, &mut BurstLink::new(line));
+            served_among_others(text, service, turns, &mut BurstLink::new(line));
         }
         None => return false,
     }
@@ -309,22 +321,35 @@ fn answer_on_line(
 
 /// The answer of a server that is polled, over a link with this outside.
 fn answer_by_polls(
-    alloc: Global,
     text: &mut Text,
     framing: &str,
     service: &mut SameWords,
     turns: u64,
     outside: Outside,
 ) -> bool {
-    match outside.into_polled_link(alloc) {
-        Some(mut link) => served_by_polls(alloc, text, framing, service, turns, &mut link),
+    match outside.into_polled_link(text.alloc) {
+        Some(mut link) => served_by_polls(text, framing, service, turns, &mut link),
         None => false,
+    }
+}
+
+/// The answer of a server over this source and sink.
+fn answer_over_both(
+    text: &mut Text,
+    call: &str,
+    framing: &str,
+    service: &mut SameWords,
+    turns: u64,
+    outside: &mut Outside,
+) -> bool {
+    match call {
+        "serve" => served(text, framing, service, turns, outside),
+        _ => served_by_lent(text, framing, service, turns, outside),
     }
 }
 
 /// The answer of a server over this outside.
 fn answer_over(
-    alloc: Global,
     text: &mut Text,
     call: &str,
     framing: &str,
@@ -333,69 +358,38 @@ fn answer_over(
     mut outside: Outside,
 ) -> bool {
     match call {
-        "serve" if framing == "burst" => answer_on_line(alloc, text, service, turns, outside),
-        "serve" => served(alloc, text, framing, service, turns, &mut outside),
-        "serve_lent" => served_by_lent(alloc, text, framing, service, turns, &mut outside),
-        "polled_serve" => answer_by_polls(alloc, text, framing, service, turns, outside),
-        _ => {
-            let mut link = outside.into_link();
-            answer_over_link(alloc, text, call, framing, service, turns, &mut link)
+        "serve" | "serve_lent" => {
+            answer_over_both(text, call, framing, service, turns, &mut outside)
         }
-    }
-}
-
-/// The answer of a server whose service answers so.
-fn answer_with(
-    alloc: Global,
-    text: &mut Text,
-    call: &str,
-    framing: &str,
-    service: &mut SameWords,
-    turns: &Word<'_>,
-    mut outside: Outside,
-) -> bool {
-    if call == "step" {
-        return push_steps(alloc, text, framing, service, turns.text, &mut outside);
-    }
-    match turns.number() {
-        Some(turns) => {
-            answer_over(
-                alloc,
-                text,
-                call,
-                framing,
-                service,
-                u64::from(turns),
-                outside,
-            )
-        }
-        None => false,
+        "polled_serve" => answer_by_polls(text, framing, service, turns, outside),
+        _ => answer_over_link(
+            text,
+            call,
+            framing,
+            service,
+            turns,
+            &mut outside.into_link(),
+        ),
     }
 }
 
 /// `serve`, `serve_lent`, `polled_serve`, `serve_until` or `work`; a framing; how many registers the service answers; how many reads may
-/// give bytes, or how often the signal is looked at before it is set; and the outside. `step`, with the steps in place of that number. Of
-/// `serve burst` the words `p8` say behind how many bytes the line is silent.
-pub fn answer(alloc: Global, text: &mut Text, call: &str, words: &[Word<'_>]) -> bool {
+/// give bytes, or how often the signal is looked at before it is set; and the outside. Of `serve burst` the words `p8` say behind how many
+/// bytes the line is silent.
+pub fn answer(text: &mut Text, call: &str, words: &[Word]) -> bool {
     let [framing, count, turns, words @ ..] = words else {
         return false;
     };
-    let Some(count) = count.number() else {
+    let (Some(count), Some(turns)) = (count.number(), turns.number()) else {
         return false;
     };
-    let mut service = SameWords::new(count);
-    match read_outside(alloc, words) {
-        Some(outside) => {
-            answer_with(
-                alloc,
-                text,
-                call,
-                framing.text,
-                &mut service,
-                turns,
-                outside,
-            )
+    let service = &mut SameWords::new(count);
+    let turns = u64::from(turns);
+    match read_outside(text.alloc, words) {
+        Some(outside) if framing.text() == "burst" => {
+            answer_on_line(text, service, turns, outside)
         }
+        Some(outside) => answer_over(text, call, framing.text(), service, turns, outside),
         None => false,
     }
 }

@@ -1,6 +1,7 @@
 //! Requests to a register store.
 
 use crate::asking::ask_all;
+use crate::clients::push_called;
 use crate::text::Text;
 use crate::word::Word;
 use modbus_app::{Form, Mode, open};
@@ -28,39 +29,33 @@ fn store_of(alloc: Global, form: Form) -> Result<RegisterStore, StoreError> {
 }
 
 /// The answer of a store to a request, with no link.
-fn exchange_with(
-    alloc: Global,
-    text: &mut Text,
-    slave: Slave,
-    pdu: &[u8],
-    store: &mut RegisterStore,
-) -> bool {
-    let Ok(request) = decode_request(alloc, pdu) else {
+fn exchange_with(text: &mut Text, slave: Slave, pdu: &[u8], store: &mut RegisterStore) -> bool {
+    let Ok(request) = decode_request(text.alloc, pdu) else {
         return false;
     };
-    text.push_outcome(exchange(alloc, slave, request, store));
+    push_called(text, exchange(text.alloc, slave, request, store));
     true
 }
 
 /// The same of a seeded store of eight entries a table, which takes part in broadcasts.
-fn exchange_seeded(alloc: Global, text: &mut Text, slave: Slave, pdu: &[u8]) -> bool {
+fn exchange_seeded(text: &mut Text, slave: Slave, pdu: &[u8]) -> bool {
     let form = Form {
         mode: Mode::Rtu,
         size: 8,
         seeded: true,
     };
-    match open(alloc, form) {
-        Ok(mut store) => exchange_with(alloc, text, slave, pdu, &mut store),
+    match open(text.alloc, form) {
+        Ok(mut store) => exchange_with(text, slave, pdu, &mut store),
         Err(_) => false,
     }
 }
 
-fn exchanged(alloc: Global, text: &mut Text, words: &[Word<'_>]) -> bool {
+fn exchanged(text: &mut Text, words: &[Word]) -> bool {
     let [slave, pdu] = words else {
         return false;
     };
     match (slave.byte(), pdu.bytes()) {
-        (Some(slave), Some(pdu)) => exchange_seeded(alloc, text, Slave(slave), pdu),
+        (Some(slave), Some(pdu)) => exchange_seeded(text, Slave(slave), pdu),
         _ => false,
     }
 }
@@ -80,15 +75,15 @@ fn form_of(mode: &str, size: &str, contents: &str) -> Option<Form> {
 }
 
 /// The answers of the store that the words tell.
-fn stored(alloc: Global, text: &mut Text, words: &[Word<'_>]) -> bool {
+fn stored(text: &mut Text, words: &[Word]) -> bool {
     let [mode, size, contents, requests @ ..] = words else {
         return false;
     };
-    let Some(form) = form_of(mode.text, size.text, contents.text) else {
+    let Some(form) = form_of(mode.text(), size.text(), contents.text()) else {
         return false;
     };
-    match store_of(alloc, form) {
-        Ok(mut store) => return ask_all(alloc, text, &mut store, requests),
+    match store_of(text.alloc, form) {
+        Ok(mut store) => return ask_all(text, &mut store, requests),
         Err(error) => write!(text, "{error:?}: {error}"),
     }
     true
@@ -96,10 +91,10 @@ fn stored(alloc: Global, text: &mut Text, words: &[Word<'_>]) -> bool {
 
 /// `store rtu 8 seeded 1 0300010001`: a store of a mode, a size and contents, and the requests to it; `exchange 1 0300010001`: one request
 /// by the call of a client that has no link.
-pub fn answer(alloc: Global, text: &mut Text, call: &str, words: &[Word<'_>]) -> bool {
+pub fn answer(text: &mut Text, call: &str, words: &[Word]) -> bool {
     match call {
-        "store" => stored(alloc, text, words),
-        "exchange" => exchanged(alloc, text, words),
+        "store" => stored(text, words),
+        "exchange" => exchanged(text, words),
         _ => false,
     }
 }

@@ -2,51 +2,44 @@
 
 use crate::calls::answer;
 use crate::text::Text;
-use crate::word::Word;
-use std::alloc::{AllocError, Global};
+use crate::word::{Word, split};
 use std::io;
 use std::process::ExitCode;
 use std::sync::Wait;
 
 /// Appends the answer to the call that these words are, or that there is none.
-fn push_answer<R: Wait>(rt: &R, alloc: Global, text: &mut Text, words: &[Word<'_>]) {
+fn push_answer<R: Wait>(rt: &R, text: &mut Text, words: &[Word]) {
     let Some((call, rest)) = words.split_first() else {
         text.push_str("no call");
         return;
     };
-    if !answer(rt, alloc, text, call.text, rest) {
+    if !answer(rt, text, call.text(), rest) {
         text.push_str("no such call, or no such arguments");
     }
 }
 
-/// Appends what stands for a line of the input in the output.
-///
-/// # Errors
-/// `AllocError` where memory is refused for the words.
-fn push_line<R: Wait>(
-    rt: &R,
-    alloc: Global,
-    text: &mut Text,
-    line: &str,
-) -> Result<(), AllocError> {
-    if line.is_empty() || line.as_bytes()[0] == b'#' {
+/// Appends what stands for a line of the input, whose words have one blank between them, in the output.
+fn push_line<R: Wait>(rt: &R, text: &mut Text, line: &str) {
+    if line.is_empty() || line.starts_with('#') {
         text.push_str(line);
-        return Ok(());
+        return;
     }
-    let mut words = Vec::new(alloc);
-    for word in line.split_whitespace() {
-        words.push(Word::new(alloc, word))?;
+    match split(text.alloc, line, ' ') {
+        Ok(words) => push_answer(rt, text, words.as_slice()),
+        Err(_) => text.cut_short(),
     }
-    push_answer(rt, alloc, text, words.as_slice());
+}
+
+fn answer_line<R: Wait>(rt: &HostRuntime, waits: &R, line: &str) -> io::Result<()> {
+    let mut text = Text::new(rt.alloc());
+    push_line(waits, &mut text, line);
+    println!(rt; "{}", text.whole()?)?;
     Ok(())
 }
 
 fn answer_lines<R: Wait>(rt: &HostRuntime, waits: &R) -> io::Result<()> {
     for line in rt.lines(rt.alloc()) {
-        let line = line?;
-        let mut text = Text::new(rt.alloc());
-        push_line(waits, rt.alloc(), &mut text, line.as_str())?;
-        println!(rt; "{}", text.whole()?)?;
+        answer_line(rt, waits, line?.as_str())?;
     }
     Ok(())
 }

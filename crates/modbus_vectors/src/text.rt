@@ -6,6 +6,8 @@ use std::fmt::{Debug, Display};
 /// The text of an answer, which grows. Where memory is refused for a part it is cut short, which is told at its end alone.
 #[derive(Drop)]
 pub struct Text {
+    /// Where all that a call needs is allocated.
+    pub alloc: Global,
     text: String,
     is_short: bool,
 }
@@ -13,6 +15,7 @@ pub struct Text {
 impl Text {
     pub fn new(alloc: Global) -> Text {
         Text {
+            alloc,
             text: String::new(alloc),
             is_short: false,
         }
@@ -27,6 +30,11 @@ impl Text {
             return Err(AllocError);
         }
         Ok(self.text.as_str())
+    }
+
+    /// Cuts it short, where memory is refused for what it is made of.
+    pub fn cut_short(&mut self) {
+        self.is_short = true;
     }
 
     pub fn push_str(&mut self, part: &str) {

@@ -1,47 +1,67 @@
-//! Typed calls of any client, and through a box over a caller's client that answers one response.
+//! Typed calls of any client, and through a box over a caller's client that gives one answer.
 
 use crate::text::Text;
 use crate::word::Word;
 use bytes::Bytes;
 use modbus_client::Context;
 use modbus_client::prelude::*;
-use modbus_frame::{
-    Coils, Error, ResponsePdu, Result as Answer, ShutdownFault, TransportError, Words,
-};
+use modbus_frame::{Error, PduError, ResponsePdu, Result as Answer, ShutdownFault, TransportError};
 use modbus_pdu::{decode_request, decode_response_pdu};
-use std::alloc::Global;
+use std::alloc::{AllocError, Global};
+use std::fmt::Debug;
 use std::time::Duration;
 
-/// A client that answers once, whatever it is asked.
+/// A client that gives the answer of this PDU, whatever it is asked.
 #[derive(Drop)]
-struct Once {
-    answer: Option<Answer<Response>>,
+struct Prompted {
+    alloc: Global,
+    pdu: Bytes,
     slave: Slave,
     timeout: Option<Duration>,
 }
 
-impl SlaveContext for Once {
-    ghost selected = { λ once. once.slave.0 };
+impl SlaveContext for Prompted {
+    ghost selected = { λ it. it.slave.0 };
 
     fn set_slave(&mut self, slave: Slave) {
         self.slave = slave;
     }
 }
 
-impl Client for Once {
+/// What a client answers that gets this PDU.
+fn answer_of(alloc: Global, pdu: Bytes) -> Answer<Response> {
+    match decode_response_pdu(alloc, pdu) {
+        Ok(ResponsePdu(Ok(response))) => Ok(Ok(response)),
+        Ok(ResponsePdu(Err(refusal))) => Ok(Err(refusal.exception)),
+        Err(PduError::NoMemory) => Err(Error::NoMemory),
+        Err(PduError::Refused(reason)) => {
+            Err(Error::Transport(TransportError::InvalidResponse(reason)))
+        }
+    }
+}
+
+/// The same of a PDU that is kept; an empty one stands for a fault of the link.
+fn answer_again(alloc: Global, pdu: &Bytes) -> Answer<Response> {
+    if pdu.is_empty() {
+        return Err(Error::Transport(TransportError::BrokenPipe));
+    }
+    match pdu.clone() {
+        Ok(pdu) => answer_of(alloc, pdu),
+        Err(AllocError) => Err(Error::NoMemory),
+    }
+}
+
+impl Client for Prompted {
     ghost answers = { λ _ _ _ _. Unit {0} };
 
     ghost disconnects = { λ _ _ _. Unit {0} };
 
-    ghost time_limit = { λ once. once.timeout };
+    ghost time_limit = { λ it. it.timeout };
 
     ghost limits = { λ _ _ _. Unit {0} };
 
     fn call(&mut self, _request: Request<'_>) -> Answer<Response> {
-        match self.answer.take() {
-            Some(answer) => answer,
-            None => Err(Error::Transport(TransportError::NotConnected)),
-        }
+        answer_again(self.alloc, &self.pdu)
     }
 
     fn disconnect(&mut self) -> std::result::Result<(), ShutdownFault> {
@@ -57,46 +77,53 @@ impl Client for Once {
     }
 }
 
-/// Makes the typed call of a request that reads what is no table. What it reads is given as a response again.
-fn read_other<C: SyncReader>(client: &mut C, request: &Request<'_>) -> Answer<Response> {
-    Ok(match request {
-        Request::ReadFifoQueue(at) => client
-            .read_fifo_queue(*at)?
-            .map(|words| Response::ReadFifoQueue(Words::new(words))),
-        Request::ReadDeviceIdentification(code, id) => client
-            .read_device_identification(*code, *id)?
-            .map(|found| Response::ReadDeviceIdentification(found)),
-        _ => Err(ExceptionCode::IllegalFunction),
-    })
+/// Appends the answer of a typed call. The check of a caller then knows of `T` alone.
+fn push_answer<T: Debug + Drop>(text: &mut Text, answer: Answer<T>) {
+    text.push_shown(answer);
+}
+
+/// Makes the typed call of a request that reads what is no table.
+fn read_other<C: SyncReader>(text: &mut Text, client: &mut C, request: &Request<'_>) -> bool {
+    match request {
+        Request::ReadFifoQueue(at) => push_answer(text, client.read_fifo_queue(*at)),
+        Request::ReadDeviceIdentification(code, id) => {
+            push_answer(text, client.read_device_identification(*code, *id));
+        }
+        _ => return false,
+    }
+    true
 }
 
 /// The same of one that reads registers, or what is no table.
-fn read_words<C: SyncReader>(client: &mut C, request: &Request<'_>) -> Answer<Response> {
-    Ok(match request {
-        Request::ReadHoldingRegisters(at, count) => client
-            .read_holding_registers(*at, *count)?
-            .map(|words| Response::ReadHoldingRegisters(Words::new(words))),
-        Request::ReadInputRegisters(at, count) => client
-            .read_input_registers(*at, *count)?
-            .map(|words| Response::ReadInputRegisters(Words::new(words))),
-        Request::ReadWriteMultipleRegisters(at, count, to, words) => client
-            .read_write_multiple_registers(*at, *count, *to, words.as_slice())?
-            .map(|words| Response::ReadWriteMultipleRegisters(Words::new(words))),
-        _ => return read_other(client, request),
-    })
+fn read_words<C: SyncReader>(text: &mut Text, client: &mut C, request: &Request<'_>) -> bool {
+    match request {
+        Request::ReadHoldingRegisters(at, count) => {
+            push_answer(text, client.read_holding_registers(*at, *count));
+        }
+        Request::ReadInputRegisters(at, count) => {
+            push_answer(text, client.read_input_registers(*at, *count));
+        }
+        Request::ReadWriteMultipleRegisters(at, count, to, words) => {
+            push_answer(
+                text,
+                client.read_write_multiple_registers(*at, *count, *to, words.as_slice()),
+            );
+        }
+        _ => return read_other(text, client, request),
+    }
+    true
 }
 
 /// The same of any that reads.
-fn read<C: SyncReader>(client: &mut C, request: &Request<'_>) -> Answer<Response> {
-    Ok(match request {
-        Request::ReadCoils(at, count) => client
-            .read_coils(*at, *count)?
-            .map(|coils| Response::ReadCoils(Coils::new(coils))),
-        Request::ReadDiscreteInputs(at, count) => client
-            .read_discrete_inputs(*at, *count)?
-            .map(|inputs| Response::ReadDiscreteInputs(Coils::new(inputs))),
-        _ => return read_words(client, request),
-    })
+fn read<C: SyncReader>(text: &mut Text, client: &mut C, request: &Request<'_>) -> bool {
+    match request {
+        Request::ReadCoils(at, count) => push_answer(text, client.read_coils(*at, *count)),
+        Request::ReadDiscreteInputs(at, count) => {
+            push_answer(text, client.read_discrete_inputs(*at, *count));
+        }
+        _ => return read_words(text, client, request),
+    }
+    true
 }
 
 /// Makes the typed call of a request that writes.
@@ -117,64 +144,50 @@ fn write<C: SyncWriter>(client: &mut C, request: &Request<'_>) -> Answer<()> {
     }
 }
 
-/// The answer of the typed call of a request.
-pub fn ask<C: SyncClient>(text: &mut Text, client: &mut C, request: &Request<'_>) {
+/// The answer of the typed call of a request. False where it has none.
+pub fn ask<C: SyncClient>(text: &mut Text, client: &mut C, request: &Request<'_>) -> bool {
     match request.function_code().value() {
-        0x05 | 0x06 | 0x0F | 0x10 | 0x16 => text.push_shown(write(client, request)),
-        _ => text.push_shown(read(client, request)),
+        0x05 | 0x06 | 0x0F | 0x10 | 0x16 => {
+            push_answer(text, write(client, request));
+            true
+        }
+        _ => read(text, client, request),
     }
 }
 
-/// What the PDU of a response or an exception answers; an empty one stands for a fault of the link. None where it is no such PDU.
-fn answer_of(alloc: Global, pdu: &[u8]) -> Option<Answer<Response>> {
-    if pdu.is_empty() {
-        return Some(Err(Error::Transport(TransportError::BrokenPipe)));
-    }
-    let pdu = Bytes::copy_from_slice(alloc, pdu).ok()?;
-    match decode_response_pdu(alloc, pdu).ok()? {
-        ResponsePdu(Ok(response)) => Some(Ok(Ok(response))),
-        ResponsePdu(Err(refusal)) => Some(Ok(Err(refusal.exception))),
-    }
-}
-
-/// The answer of the typed call of a request, of a client that answers so.
-fn ask_once(
-    alloc: Global,
-    text: &mut Text,
-    request: &Request<'_>,
-    answer: Answer<Response>,
-) -> bool {
-    let once = Once {
-        answer: Some(answer),
+/// The answer of the typed call of a request, of a client that gives the answer of this PDU.
+fn ask_prompted(text: &mut Text, request: &Request<'_>, pdu: Bytes) -> bool {
+    let prompted = Prompted {
+        alloc: text.alloc,
+        pdu,
         slave: Slave(0),
         timeout: None,
     };
-    let Ok(once) = Box::new(alloc, once) else {
+    let Ok(prompted) = Box::new(text.alloc, prompted) else {
         return false;
     };
-    let client: Box<dyn Client> = once;
-    ask(text, &mut Context::from(client), request);
-    true
+    let client: Box<dyn Client> = prompted;
+    ask(text, &mut Context::from(client), request)
 }
 
-/// The same of the PDU of a request.
-fn ask_of(alloc: Global, text: &mut Text, pdu: &[u8], answer: Answer<Response>) -> bool {
-    match decode_request(alloc, pdu) {
-        Ok(request) => ask_once(alloc, text, &request, answer),
+/// The same of the bytes of both PDUs.
+fn ask_of(text: &mut Text, request: &[u8], pdu: Bytes) -> bool {
+    match decode_request(text.alloc, request) {
+        Ok(request) => ask_prompted(text, &request, pdu),
         Err(_) => false,
     }
 }
 
 /// `typed`, the PDU of a request, and the PDU of what the client answers: a response or an exception; `-` for a fault of its link.
-pub fn answer(alloc: Global, text: &mut Text, words: &[Word<'_>]) -> bool {
+pub fn answer(text: &mut Text, words: &[Word]) -> bool {
     let [request, answer] = words else {
         return false;
     };
     let (Some(request), Some(answer)) = (request.bytes(), answer.bytes()) else {
         return false;
     };
-    match answer_of(alloc, answer) {
-        Some(answer) => ask_of(alloc, text, request, answer),
-        None => false,
+    match Bytes::copy_from_slice(text.alloc, answer) {
+        Ok(pdu) => ask_of(text, request, pdu),
+        Err(_) => false,
     }
 }

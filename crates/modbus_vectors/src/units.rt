@@ -24,9 +24,9 @@ fn unit_of(alloc: Global, address: &str) -> Option<OnlyUnit<RegisterStore>> {
 }
 
 /// The answers of a store at an address.
-fn only(alloc: Global, text: &mut Text, address: &str, words: &[Word<'_>]) -> bool {
-    match unit_of(alloc, address) {
-        Some(mut unit) => ask_all(alloc, text, &mut unit, words),
+fn only(text: &mut Text, address: &str, words: &[Word]) -> bool {
+    match unit_of(text.alloc, address) {
+        Some(mut unit) => ask_all(text, &mut unit, words),
         None => false,
     }
 }
@@ -42,17 +42,16 @@ fn units_of(alloc: Global, addresses: &str) -> Option<Vec<OnlyUnit<RegisterStore
 
 /// The answers of several units, with this exception for an address that none has or silence, or why they cannot share their line.
 fn several(
-    alloc: Global,
     text: &mut Text,
     absent: Option<ExceptionCode>,
     addresses: &str,
-    words: &[Word<'_>],
+    words: &[Word],
 ) -> bool {
-    let Some(units) = units_of(alloc, addresses) else {
+    let Some(units) = units_of(text.alloc, addresses) else {
         return false;
     };
     match Units::new(units, absent) {
-        Ok(mut units) => return ask_all(alloc, text, &mut units, words),
+        Ok(mut units) => return ask_all(text, &mut units, words),
         Err(error) => write!(text, "Err({error:?})"),
     }
     true
@@ -60,12 +59,12 @@ fn several(
 
 /// `only_unit 5 5 0300010001`: a store at an address, and the requests on its line; `units 11 1,2 1 0300010001`: stores at several, with the
 /// exception for any other address or `-` for silence.
-pub fn answer(alloc: Global, text: &mut Text, call: &str, words: &[Word<'_>]) -> bool {
+pub fn answer(text: &mut Text, call: &str, words: &[Word]) -> bool {
     match (call, words) {
-        ("only_unit", [address, words @ ..]) => only(alloc, text, address.text, words),
+        ("only_unit", [address, words @ ..]) => only(text, address.text(), words),
         ("units", [absent, addresses, words @ ..]) => {
             let absent = absent.byte().map(ExceptionCode::new);
-            several(alloc, text, absent, addresses.text, words)
+            several(text, absent, addresses.text(), words)
         }
         _ => false,
     }

@@ -53,9 +53,9 @@ fn coils(alloc: Global, digits: &[u8]) -> Result<Option<Vec<bool>>, AllocError> 
 }
 
 /// The bytes of coils, and how many they are.
-fn packed(alloc: Global, text: &mut Text, states: &[bool]) -> bool {
-    let mut buf = BytesMut::new(alloc);
-    let Ok(count) = encode_packed_coils(alloc, &mut buf, states) else {
+fn packed(text: &mut Text, states: &[bool]) -> bool {
+    let mut buf = BytesMut::new(text.alloc);
+    let Ok(count) = encode_packed_coils(text.alloc, &mut buf, states) else {
         return false;
     };
     write!(text, "{} {count} ", packed_coils_size(states));
@@ -64,11 +64,11 @@ fn packed(alloc: Global, text: &mut Text, states: &[bool]) -> bool {
 }
 
 /// So many coils of bytes that hold as many.
-fn unpacked(alloc: Global, text: &mut Text, count: u16, data: &[u8]) -> bool {
+fn unpacked(text: &mut Text, count: u16, data: &[u8]) -> bool {
     if usize::from(count) > data.len().saturating_mul(8) {
         return false;
     }
-    match decode_packed_coils(alloc, data, count) {
+    match decode_packed_coils(text.alloc, data, count) {
         Ok(coils) => text.push_shown(coils),
         Err(AllocError) => return false,
     }
@@ -86,30 +86,30 @@ fn of_bytes(text: &mut Text, call: &str, data: &[u8]) -> bool {
     true
 }
 
-fn of_number(alloc: Global, text: &mut Text, call: &str, count: u16, data: &[u8]) -> bool {
+fn of_number(text: &mut Text, call: &str, count: u16, data: &[u8]) -> bool {
     match call {
         "check_crc" => check(text, data, count),
-        "unpacked" => return unpacked(alloc, text, count, data),
+        "unpacked" => return unpacked(text, count, data),
         _ => return false,
     }
     true
 }
 
-fn of_coils(alloc: Global, text: &mut Text, digits: &[u8]) -> bool {
-    match coils(alloc, digits) {
-        Ok(Some(states)) => packed(alloc, text, states.as_slice()),
+fn of_coils(text: &mut Text, digits: &[u8]) -> bool {
+    match coils(text.alloc, digits) {
+        Ok(Some(states)) => packed(text, states.as_slice()),
         _ => false,
     }
 }
 
-fn of_word(alloc: Global, text: &mut Text, call: &str, word: &Word<'_>) -> bool {
+fn of_word(text: &mut Text, call: &str, word: &Word) -> bool {
     match call {
         "slave" => {
-            slave(text, word.text);
+            slave(text, word.text());
             true
         }
-        "packed" if word.text == "-" => packed(alloc, text, &[]),
-        "packed" => of_coils(alloc, text, word.text.as_bytes()),
+        "packed" if word.text() == "-" => packed(text, &[]),
+        "packed" => of_coils(text, word.text().as_bytes()),
         _ => match word.bytes() {
             Some(data) => of_bytes(text, call, data),
             None => false,
@@ -117,15 +117,15 @@ fn of_word(alloc: Global, text: &mut Text, call: &str, word: &Word<'_>) -> bool 
     }
 }
 
-pub fn answer(alloc: Global, text: &mut Text, call: &str, words: &[Word<'_>]) -> bool {
+pub fn answer(text: &mut Text, call: &str, words: &[Word]) -> bool {
     match words {
         [] if call == "slave" => {
             slave(text, "");
             true
         }
-        [word] => of_word(alloc, text, call, word),
+        [word] => of_word(text, call, word),
         [count, word] => match (count.number(), word.bytes()) {
-            (Some(count), Some(data)) => of_number(alloc, text, call, count, data),
+            (Some(count), Some(data)) => of_number(text, call, count, data),
             _ => false,
         },
         _ => false,
