@@ -4,3 +4,4 @@ pub mod Marks
 pub mod Rounding
 pub mod Rounds
 pub mod Seating
+pub mod Serving

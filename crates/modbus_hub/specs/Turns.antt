@@ -1,5 +1,5 @@
 -- What a server of many connections on one thread does, round by round.
-use Rattle.std.specs.Prelude.{◌≡◌, ◌⊎◌, ℕ, ◌-◌, ◌^◌, ◌≤◌, List, [], ◌∷◌, length, None, IsSome, Result, Ok, Err, Bool, true, false, IsTrue}
+use Rattle.std.specs.Prelude.{◌≡◌, ◌⊎◌, ℕ, ◌-◌, ◌^◌, ◌≤◌, List, [], ◌∷◌, ◌++◌, length, None, IsSome, Result, Ok, Err, Bool, true, false, IsTrue}
 use Rattle.modbus_link.specs.declared.outside.Failed.{Failed}
 use Rattle.modbus_link.specs.declared.polled.Polled.{Polled}
 use Rattle.slab.specs.Slab.{get, slab_len}
@@ -7,7 +7,7 @@ use Rattle.modbus_ready.specs.declared.readiness.Ready.{Ready}
 use Rattle.modbus_ready.specs.declared.readiness.Ready.TheVariants.{Peer, Link}
 use Rattle.modbus_hub.specs.Accepts.{GivesLinks, GivesUntil, IsNobody, IsFault}
 use Rattle.modbus_hub.specs.Events.{Event, no_watch, no_memory, account_of, HasAnyTurn, links_of, counted_over}
-use Rattle.modbus_hub.specs.Seats.{SeatsState, DropsNone, ServesInTurn, is_spent_at}
+use Rattle.modbus_hub.specs.Seats.{SeatsState, DropsNone, IsDrop, ServesInTurn, is_spent_at}
 
 -- a server over such an acceptor and source of readiness, with such links
 pub record ServerState (A S L : Type 0) : Type 0 where
@@ -18,6 +18,11 @@ pub record ServerState (A S L : Type 0) : Type 0 where
   pub unseated : ℕ
   -- whether a peer may wait to be accepted
   pub is_asked : Bool
+
+-- a round, as the state that it left, and what happened in it
+pub record Round (A S L : Type 0) : Type 0 where
+  pub left : ServerState A S L
+  pub happened : List (Event L)
 
 -- the link under this key was found ready
 abbrev pub IsFound : ℕ → List Ready → Type 0
@@ -92,3 +97,29 @@ module _ {A S L : Type 0} (accepts : A → Result (Polled L) Failed → A → Ty
   TakesRound found old new (Ok done) history more = PeersCome old new history more × TurnsLeft old.seats more × TurnsFound (found new.readiness) history more
       × (IsTrue old.is_asked ⊎ IsPeerFound (found new.readiness) → AcceptsWaiting old new more)
   TakesRound found old new (Err failed) history more = (more ≡ []) × (new.acceptor ≡ old.acceptor) × (new.unseated ≡ old.unseated)
+
+  -- connections were let go, and nothing else changed
+  abbrev pub LetsGo : ServerState A S L → ServerState A S L → List (Event L) → List (Event L) → Type 0
+  LetsGo old new history more = IsDrop history more × (new.acceptor ≡ old.acceptor) × (new.readiness ≡ old.readiness) × (new.unseated ≡ old.unseated) × (new.is_asked ≡ old.is_asked)
+
+  -- a round, and then, where that was due, idle connections were let go
+  abbrev pub RoundAndDrops : (S → List Ready) → ServerState A S L → ServerState A S L → List (Event L) → List (Event L) → Type 0
+  RoundAndDrops found old new history more = (now : ServerState A S L) × (taken : List (Event L)) × (gone : List (Event L)) × (more ≡ taken ++ gone)
+      × TakesRound found old now (Ok tt) history taken × LetsGo now new (history ++ taken) gone
+
+  -- such rounds, one after another
+  abbrev pub GoesByRounds : (S → List Ready) → List (Round A S L) → ServerState A S L → ServerState A S L → List (Event L) → List (Event L) → Type 0
+  GoesByRounds found [] old new history more = (more ≡ []) × (new ≡ old)
+  GoesByRounds found (round ∷ rounds) old new history more = (later : List (Event L)) × (more ≡ round.happened ++ later) × RoundAndDrops found old round.left history round.happened
+      × GoesByRounds found rounds round.left new (history ++ round.happened) later
+
+  -- one that may have failed, and the links that came
+  abbrev pub TellsRound : (S → List Ready) → ServerState A S L → ServerState A S L → Result (Unit {0}) Failed → List (Event L) → List (Event L) → Type 0
+  TellsRound found old new (Ok done) history more = Comes old new history more × RoundAndDrops found old new history more
+  TellsRound found old new (Err failed) history more = Comes old new history more × TakesRound found old new (Err failed) history more
+
+  -- rounds one after another, of which the last may have failed, and the links that came
+  abbrev pub TellsRounds : {R : Type 0} → (S → List Ready) → ServerState A S L → ServerState A S L → Result R Failed → List (Event L) → List (Event L) → Type 0
+  TellsRounds found old new (Ok done) history more = Comes old new history more × ((rounds : List (Round A S L)) × GoesByRounds found rounds old new history more)
+  TellsRounds found old new (Err failed) history more = Comes old new history more
+      × ((rounds : List (Round A S L)) × (last : ServerState A S L) × GoesByRounds found rounds old last history more × TakesRound found last new (Err failed) (history ++ more) [])

@@ -5,7 +5,7 @@ ghost use Rattle.modbus_link.specs.Line.{meaning_of};
 ghost use Rattle.modbus_link.specs.Outside.{Rose};
 ghost use Rattle.slab.specs.Slab.{get, slab_len};
 ghost use Rattle.modbus_hub.specs.Seats.{SeatsGoOn, polled_by, IsDrop, NoMore, OneMore, KeepsLimit, KeepsMarks, MarksLeft, kept};
-ghost use Rattle.modbus_hub.specs.Turns.{AcceptsNext, AcceptsAsked, Brings, Comes, IsPeerFound, ServesFound, ServesLeft, TakesRound};
+ghost use Rattle.modbus_hub.specs.Turns.{AcceptsNext, AcceptsAsked, Brings, IsPeerFound, ServesFound, ServesLeft, TakesRound, TellsRound, TellsRounds};
 
 use crate::seats::{Limits, Seats};
 use modbus_frame::Terminated;
@@ -350,8 +350,8 @@ where
         ensures goes_on { SeatsGoOn I.framing V.answering
             (polled_by (meaning_of A.Link.input A.Link.output A.Link.line) A.Link.not_ready
             self.old.seats.reads)
-            (Comes A.accepts S.faults self.old self.new) self.old.seats.seats self.new.seats.seats
-            service.old.service service.new.service }
+            (TellsRound A.accepts S.faults S.found self.old self.new result) self.old.seats.seats
+            self.new.seats.seats service.old.service service.new.service }
     {
         let timeout = shorter(idle, Duration::from_millis(LOOK));
         match self.turn(service, timeout) {
@@ -370,9 +370,9 @@ where
     /// round, and at least ten times a second. With `idle`, a connection that has no turn for that long is let go, at the latest after
     /// twice that time.
     ///
-    /// Whatever the readiness that it is told of: there is one run of the service over what all connections were told, in the order of
-    /// their turns; the links that came are those that the acceptor gave; and each connection has, from the link as it came, the contract
-    /// of `process`.
+    /// It goes by rounds, each of which is a `turn`, behind which idle connections may be let go. Whatever the readiness that it is told of:
+    /// there is one run of the service over what all connections were told, in the order of their turns; the links that came are those that
+    /// the acceptor gave; and each connection has, from the link as it came, the contract of `process`.
     ///
     /// # Errors
     /// `Failed`, only where the count of faults of the source of readiness rose.
@@ -393,8 +393,8 @@ where
         ensures goes_on { SeatsGoOn I.framing V.answering
             (polled_by (meaning_of A.Link.input A.Link.output A.Link.line) A.Link.not_ready
             self.old.seats.reads)
-            (Comes A.accepts S.faults self.old self.new) self.old.seats.seats self.new.seats.seats
-            service.old.service service.new.service }
+            (TellsRounds A.accepts S.faults S.found self.old self.new result) self.old.seats.seats
+            self.new.seats.seats service.old.service service.new.service }
     {
         let _before = service.service();
         let mut swept = Instant::now(rt).ok();

@@ -1,10 +1,12 @@
-use Rattle.std.proofs.Common.{refl, arith, []}
+use Rattle.std.proofs.Common.{refl, arith, [], Ok, Err}
+use Rattle.modbus_frame.specs.declared.server.Terminated.{Terminated}
 use Rattle.modbus_link.specs.Line.{meaning_of}
 use Rattle.modbus_hub.specs.Seats.{polled_by}
-use Rattle.modbus_hub.specs.Turns.{Comes}
+use Rattle.modbus_hub.specs.Turns.{TellsRound, TellsRounds}
 use Rattle.modbus_hub.proofs.Counting.{within_both}
 use Rattle.modbus_hub.proofs.Seating.{go_both, go_same, go_under}
-use Rattle.modbus_hub.proofs.Rounding.{comes_both, none_come}
+use Rattle.modbus_hub.proofs.Rounding.{none_come}
+use Rattle.modbus_hub.proofs.Serving.{rounds_more, rounds_fail}
 use Rattle.modbus_hub.proofs.server.EventServer.serve_until.Goals as goal
 
 pub rounds-init : goal.rounds-init
@@ -14,8 +16,8 @@ rounds-init g c = (
   omega arith,
   omega arith,
   go_same g.I.Framing.framing g.V.Answerer.answering (polled_by (meaning_of g.A.Link.Ends.input g.A.Link.Ends.output g.A.Link.Ends.line) g.A.Link.PolledLink.not_ready c.args.self.now.seats.reads)
-      (Comes g.A.PolledAcceptor.accepts g.S.Readiness.faults c.args.self.now c.args.self.now) c.args.self.now.seats.seats c.args.self.now.seats.seats c.args.service.now.service
-      (λ key. refl) (λ start history all. none_come g.A.PolledAcceptor.accepts g.S.Readiness.faults c.args.self.now c.args.self.now history [] refl (omega arith) refl refl),
+      (TellsRounds g.A.PolledAcceptor.accepts g.S.Readiness.faults {R = Unit {0}} g.S.Readiness.found c.args.self.now c.args.self.now (Ok tt)) c.args.self.now.seats.seats c.args.self.now.seats.seats c.args.service.now.service
+      (λ key. refl) (λ start history all. (none_come g.A.PolledAcceptor.accepts g.S.Readiness.faults c.args.self.now c.args.self.now history [] refl (omega arith) refl refl, ([], (refl, refl)))),
   λ marks. marks,
 )
 
@@ -23,6 +25,7 @@ pub rounds-preserved : goal.rounds-preserved
 rounds-preserved g c =
     let accepts = g.A.PolledAcceptor.accepts in
     let faults = g.S.Readiness.faults in
+    let found = g.S.Readiness.found in
     let first = c.args.self.now in
     let now = c.rounds.self in
     let next = c.round.new.self in (
@@ -31,10 +34,10 @@ rounds-preserved g c =
       omega (arith, c.rounds.invariant.2, c.round.ensures.later),
       omega (arith, c.rounds.invariant.3, c.is_set.ensures.later),
       go_both g.I.Framing.framing g.V.Answerer.answering (polled_by (meaning_of g.A.Link.Ends.input g.A.Link.Ends.output g.A.Link.Ends.line) g.A.Link.PolledLink.not_ready c.args.self.now.seats.reads)
-          (Comes accepts faults first now) (Comes accepts faults now next) (Comes accepts faults first next)
+          (TellsRounds accepts faults {R = Unit {0}} found first now (Ok tt)) (TellsRound accepts faults found now next (Ok tt)) (TellsRounds accepts faults {R = Unit {0}} found first next (Ok tt))
           first.seats.seats now.seats.seats next.seats.seats c.args.service.now.service c.rounds.service.service c.round.new.service.service
           c.rounds.invariant.4
-          (go_under g.I.Framing.framing g.V.Answerer.answering (meaning_of g.A.Link.Ends.input g.A.Link.Ends.output g.A.Link.Ends.line) g.A.Link.PolledLink.not_ready now.seats.reads first.seats.reads (Comes accepts faults now next) now.seats.seats next.seats.seats c.rounds.service.service c.round.new.service.service c.rounds.invariant.0.0 c.round.ensures.goes_on) (comes_both accepts faults first now next),
+          (go_under g.I.Framing.framing g.V.Answerer.answering (meaning_of g.A.Link.Ends.input g.A.Link.Ends.output g.A.Link.Ends.line) g.A.Link.PolledLink.not_ready now.seats.reads first.seats.reads (TellsRound accepts faults found now next (Ok tt)) now.seats.seats next.seats.seats c.rounds.service.service c.round.new.service.service c.rounds.invariant.0.0 c.in-Ok.ensures.goes_on) (rounds_more accepts faults found first now next),
       λ marks. c.round.ensures.marks (c.rounds.invariant.5 marks),
     )
 
@@ -42,11 +45,13 @@ pub returns-in-Err-clause-goes_on : goal.returns-in-Err-clause-goes_on
 returns-in-Err-clause-goes_on g c =
     let accepts = g.A.PolledAcceptor.accepts in
     let faults = g.S.Readiness.faults in
+    let found = g.S.Readiness.found in
+    let failed = c.in-Err.failed in
     let first = c.args.self.now in
     let now = c.rounds.self in
     let next = c.round.new.self in
     go_both g.I.Framing.framing g.V.Answerer.answering (polled_by (meaning_of g.A.Link.Ends.input g.A.Link.Ends.output g.A.Link.Ends.line) g.A.Link.PolledLink.not_ready c.args.self.now.seats.reads)
-    (Comes accepts faults first now) (Comes accepts faults now next) (Comes accepts faults first next)
+    (TellsRounds accepts faults {R = Unit {0}} found first now (Ok tt)) (TellsRound accepts faults found now next (Err failed)) (TellsRounds accepts faults {R = Terminated} found first next (Err failed))
     first.seats.seats now.seats.seats next.seats.seats c.args.service.now.service c.rounds.service.service c.round.new.service.service
     c.rounds.invariant.4
-    (go_under g.I.Framing.framing g.V.Answerer.answering (meaning_of g.A.Link.Ends.input g.A.Link.Ends.output g.A.Link.Ends.line) g.A.Link.PolledLink.not_ready now.seats.reads first.seats.reads (Comes accepts faults now next) now.seats.seats next.seats.seats c.rounds.service.service c.round.new.service.service c.rounds.invariant.0.0 c.round.ensures.goes_on) (comes_both accepts faults first now next)
+    (go_under g.I.Framing.framing g.V.Answerer.answering (meaning_of g.A.Link.Ends.input g.A.Link.Ends.output g.A.Link.Ends.line) g.A.Link.PolledLink.not_ready now.seats.reads first.seats.reads (TellsRound accepts faults found now next (Err failed)) now.seats.seats next.seats.seats c.rounds.service.service c.round.new.service.service c.rounds.invariant.0.0 c.in-Err.ensures.goes_on) (rounds_fail accepts faults found Terminated failed first now next)
