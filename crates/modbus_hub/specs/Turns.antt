@@ -7,7 +7,7 @@ use Rattle.modbus_ready.specs.declared.readiness.Ready.{Ready}
 use Rattle.modbus_ready.specs.declared.readiness.Ready.TheVariants.{Peer, Link}
 use Rattle.modbus_hub.specs.Accepts.{GivesLinks, GivesUntil, IsNobody, IsFault}
 use Rattle.modbus_hub.specs.Events.{Event, no_watch, no_memory, account_of, HasAnyTurn, links_of, counted_over}
-use Rattle.modbus_hub.specs.Seats.{SeatsState, DropsNone, IsDrop, ServesInTurn, is_spent_at}
+use Rattle.modbus_hub.specs.Seats.{SeatsState, DropsNone, IsDrop, KeepsMarks, ServesInTurn, is_spent_at}
 
 -- a server over such an acceptor and source of readiness, with such links
 pub record ServerState (A S L : Type 0) : Type 0 where
@@ -102,10 +102,10 @@ module _ {A S L : Type 0} (accepts : A → Result (Polled L) Failed → A → Ty
   abbrev pub LetsGo : ServerState A S L → ServerState A S L → List (Event L) → List (Event L) → Type 0
   LetsGo old new history more = IsDrop history more × (new.acceptor ≡ old.acceptor) × (new.readiness ≡ old.readiness) × (new.unseated ≡ old.unseated) × (new.is_asked ≡ old.is_asked)
 
-  -- a round, and then, where that was due, idle connections were let go
+  -- a round, and then, where that was due, idle connections were let go; what is left stays marked
   abbrev pub RoundAndDrops : (S → List Ready) → ServerState A S L → ServerState A S L → List (Event L) → List (Event L) → Type 0
   RoundAndDrops found old new history more = (now : ServerState A S L) × (taken : List (Event L)) × (gone : List (Event L)) × (more ≡ taken ++ gone)
-      × TakesRound found old now (Ok tt) history taken × LetsGo now new (history ++ taken) gone
+      × TakesRound found old now (Ok tt) history taken × LetsGo now new (history ++ taken) gone × KeepsMarks old.seats new.seats
 
   -- such rounds, one after another
   abbrev pub GoesByRounds : (S → List Ready) → List (Round A S L) → ServerState A S L → ServerState A S L → List (Event L) → List (Event L) → Type 0

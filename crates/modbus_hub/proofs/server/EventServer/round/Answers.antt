@@ -20,7 +20,7 @@ returns-then-is_due-clause-goes_on g c =
     first.seats.seats now.seats.seats last.seats.seats c.args.service.now.service after after c.in-Ok.ensures.goes_on (rw (c.turn.ensures.limit.0) at c.drop_idle.ensures.goes_on)
     (λ history xs ys first_round drops. (
       then_drops accepts faults found first now last history xs ys c.drop_idle.ensures.acceptor c.drop_idle.ensures.readiness c.drop_idle.ensures.unseated first_round drops,
-      (now, xs, ys, refl, first_round, (drops, c.drop_idle.ensures.acceptor, c.drop_idle.ensures.readiness, c.drop_idle.ensures.unseated, c.drop_idle.ensures.asked)),
+      (now, xs, ys, refl, first_round, (drops, c.drop_idle.ensures.acceptor, c.drop_idle.ensures.readiness, c.drop_idle.ensures.unseated, c.drop_idle.ensures.asked), λ marks. c.drop_idle.ensures.marks (c.turn.ensures.marks marks)),
     ))
 
 pub returns-else-is_due-clause-goes_on : goal.returns-else-is_due-clause-goes_on
@@ -33,4 +33,4 @@ returns-else-is_due-clause-goes_on g c =
     go_as g.I.Framing.framing g.V.Answerer.answering (polled_by (meaning_of g.A.Link.Ends.input g.A.Link.Ends.output g.A.Link.Ends.line) g.A.Link.PolledLink.not_ready c.args.self.now.seats.reads)
     (TakesRound accepts faults found first now (Ok tt)) (TellsRound accepts faults found first now (Ok tt))
     first.seats.seats now.seats.seats c.args.service.now.service c.turn.new.service.service c.in-Ok.ensures.goes_on
-    (λ history more round. (round.0.0, (now, more, [], sym (append-nil more), round, (tt, refl, refl, refl, refl))))
+    (λ history more round. (round.0.0, (now, more, [], sym (append-nil more), round, (tt, refl, refl, refl, refl), c.turn.ensures.marks)))
