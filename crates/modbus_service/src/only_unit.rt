@@ -4,9 +4,10 @@
 //! 255 are reserved (MODBUS over Serial Line V1.02, section 2.2). A device does what a broadcast asks and sends nothing back
 //! (section 2.1), and leaves the requests for other devices alone.
 ghost use Rattle.std.specs.Prelude.{◌≡◌};
+ghost use Rattle.modbus_service.specs.Answering.{steady};
 ghost use Rattle.modbus_service.specs.OnlyUnit.{unsent_answer, only_unit, only_unit_takes};
 
-use crate::service::{Service, ServiceError};
+use crate::service::{Answerer, Service, ServiceError};
 use modbus_frame::{Response, Slave, SlaveId, SlaveRequest};
 use std::alloc::{AllocError, Global};
 
@@ -25,6 +26,9 @@ pub(crate) fn unsent(answer: Result<Option<Response>, ServiceError>) -> Result<(
 ///
 /// A broadcast is done by the service and is not answered, whatever the service said to it; this is so where `unit` is 0 too. A request
 /// for any other slave is not answered, and leaves the service as it was.
+///
+/// It is an [`Answerer`] and no [`Service`], so no service that answers by itself, as one does that tells the exceptions of requests that
+/// can't be read, can be put over it: that one would answer the requests for all other slaves. Such a service stands behind the address.
 #[derive(Drop)]
 pub struct OnlyUnit<S> {
     /// The address of the service.
@@ -33,12 +37,10 @@ pub struct OnlyUnit<S> {
     pub service: S,
 }
 
-impl<S: Service> Service for OnlyUnit<S> {
-    ghost answers = { only_unit S.answers };
+impl<S: Service> Answerer for OnlyUnit<S> {
+    ghost answering = { steady (only_unit S.answers) (only_unit_takes S.takes_memory) };
 
-    ghost takes_memory = { only_unit_takes S.takes_memory };
-
-    fn call(
+    fn ask(
         &mut self,
         alloc: Global,
         request: SlaveRequest<'_>,
