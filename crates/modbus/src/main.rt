@@ -1,12 +1,16 @@
 //! The program: a Modbus server over its standard streams, or over TCP.
 #![tactic(auto)]
 
-use modbus_app::{forwarding, listening, port, run};
+use modbus_about::{asked, tell};
+use modbus_app::{USAGE_LINE, forwarding, listening, port, run};
 use modbus_link::{ReadSource, WriteSink};
 use modbus_server::ProcessError;
 use std::alloc::{AllocError, Global};
 use std::env::{Env, FillError};
 use std::process::ExitCode;
+
+/// What its messages begin with.
+const PROGRAM: &str = "modbus";
 
 /// The bytes of the longest word of a form, and some more.
 const LONGEST_WORD: usize = 16;
@@ -40,6 +44,11 @@ fn main(rt: HostRuntime) -> ExitCode {
         modbus_app::report_fault(&mut errors, ProcessError::NoMemory);
         return ExitCode::from(modbus_app::NO_MEMORY);
     };
+    if let [word] = words.as_slice() {
+        if let Some(about) = asked(word.as_str()) {
+            return ExitCode::from(tell(&rt, PROGRAM, USAGE_LINE, about));
+        }
+    }
     if let Some((framing, port)) = listening(&words) {
         let notes = (WriteSink::new(rt.stderr()), WriteSink::new(rt.stderr()));
         let (_errors, status) = port::serve(

@@ -24,7 +24,7 @@ pub use crate::patient::{Keeper, PatientAcceptor};
 pub use crate::program::run;
 pub use crate::services::{Services, StoreServices};
 pub use crate::status::{
-    ACCEPT_FAULT, NO_MEMORY, PASSES_OUT, SPAWN_FAULT, USAGE, report, report_fault,
+    NO_MEMORY, USAGE_LINE, report, report_fault,
 };
 pub use crate::turning::TurningSpawner;
 pub use crate::watched::{WatchedAcceptor, WatchedLink};

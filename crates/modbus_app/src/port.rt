@@ -12,7 +12,7 @@ use crate::gateway::forward_to;
 use crate::listen::run_listen;
 use crate::patient::{Keeper, PatientAcceptor};
 use crate::services::{Services, StoreServices};
-use crate::status::{BIND_FAULT, BIND_LINE, NO_MEMORY, report, report_fault};
+use crate::status::{BIND_FAULT, BIND_LINE, NO_MEMORY, note, report, report_fault};
 use crate::turning::TurningSpawner;
 use crate::watched::WatchedAcceptor;
 use crate::words::Framing;
@@ -37,11 +37,14 @@ pub const RETRIES: u32 = 300;
 /// How many milliseconds are waited before that.
 const PAUSE: u64 = 100;
 
-/// The line of a listener that has no file descriptor left.
-const NO_DESCRIPTOR_LINE: &str = "modbus: no descriptor, peers are turned away\n";
+/// What is told of a listener that has no file descriptor left, behind the name of the program.
+const NO_DESCRIPTOR: &str = ": no descriptor, peers are turned away\n";
 
-/// The line of an accept that failed.
-const RETRY_LINE: &str = "modbus: accept fault, it is tried again\n";
+/// What is told of an accept that failed.
+const RETRY: &str = ": accept fault, it is tried again\n";
+
+/// The name of the program whose port this is.
+const PROGRAM: &str = "modbus";
 
 /// What keeps the listener of a port going. A peer has room where one more file descriptor could be had beside that of its link, so that
 /// the next accept has one.
@@ -50,6 +53,7 @@ pub struct PortKeeper<'r, R, N> {
     rt: &'r R,
     listener: TcpListener,
     notes: N,
+    program: &'static str,
     is_full: bool,
     is_faulty: bool,
 }
@@ -62,12 +66,19 @@ impl<'r, R, N> Model for PortKeeper<'r, R, N> {
 }
 
 impl<'r, R, N> PortKeeper<'r, R, N> {
-    /// One for the acceptor over this listener. It tells on `notes` what keeps peers waiting, once until it has passed.
-    pub fn new(rt: &'r R, listener: TcpListener, notes: N) -> PortKeeper<'r, R, N> {
+    /// One for the acceptor over this listener. It tells on `notes` what keeps peers waiting, once until it has passed; each line begins
+    /// with the name of the program.
+    pub fn new(
+        rt: &'r R,
+        listener: TcpListener,
+        notes: N,
+        program: &'static str,
+    ) -> PortKeeper<'r, R, N> {
         PortKeeper {
             rt,
             listener,
             notes,
+            program,
             is_full: false,
             is_faulty: false,
         }
@@ -78,7 +89,7 @@ impl<'r, R: Clock, N: Sink> Keeper for PortKeeper<'r, R, N> {
     fn has_room(&mut self) -> bool {
         let has_room = self.listener.try_clone().is_ok();
         if !has_room && !self.is_full {
-            report(&mut self.notes, NO_DESCRIPTOR_LINE);
+            note(&mut self.notes, self.program, NO_DESCRIPTOR);
         }
         self.is_full = !has_room;
         self.is_faulty = false;
@@ -87,7 +98,7 @@ impl<'r, R: Clock, N: Sink> Keeper for PortKeeper<'r, R, N> {
 
     fn wait(&mut self) {
         if !self.is_faulty {
-            report(&mut self.notes, RETRY_LINE);
+            note(&mut self.notes, self.program, RETRY);
             self.is_faulty = true;
         }
         thread::sleep(self.rt, Duration::from_millis(PAUSE));
@@ -199,7 +210,7 @@ where
             { start(scope, worker) },
         ),
     };
-    let mut spawner = TurningSpawner::new(spawners, notes);
+    let mut spawner = TurningSpawner::new(spawners, notes, PROGRAM);
     run_listen(
         rt,
         alloc,
@@ -355,7 +366,7 @@ where
     let (listener, share) = listener;
     let ended = AtomicBool::new(false);
     let accepting = WatchedAcceptor::new(TcpAcceptor::new(listener), &ended);
-    let keeper = PortKeeper::new(rt, share, notes.0);
+    let keeper = PortKeeper::new(rt, share, notes.0, PROGRAM);
     let listening = Listening {
         acceptor: PatientAcceptor::new(accepting, keeper, RETRIES),
         services: StoreServices::new(rt, &table, pass),

@@ -159,6 +159,12 @@ pub fn report<E: Sink>(errors: &mut E, line: &str)
     let _ = write_all(errors, line.as_bytes());
 }
 
+/// Writes a line that begins with the program's name, as far as the sink takes it.
+pub(crate) fn note<N: Sink>(notes: &mut N, program: &str, text: &str) {
+    report(notes, program);
+    report(notes, text);
+}
+
 /// Writes the line of a fault, as far as the sink takes it.
 pub fn report_fault<E: Sink>(errors: &mut E, error: ProcessError)
     ensures { Reports (E.output errors.old) (E.output errors.new) (line_of error) }

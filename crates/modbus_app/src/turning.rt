@@ -2,12 +2,12 @@
 ghost use Rattle.std.specs.Prelude.{◌≡◌};
 ghost use Rattle.modbus_app.specs.TurnsAway.{TurningState, StartsOrTurns};
 
-use crate::status::report;
+use crate::status::note;
 use modbus_link::{Failed, Sink, Spawner, Worker};
 use std::marker::Model;
 
-/// The line of a link that no thread could be had for.
-const NO_THREAD_LINE: &str = "modbus: no thread, peers are turned away\n";
+/// What is told of a link that no thread could be had for, behind the name of the program.
+const NO_THREAD: &str = ": no thread, peers are turned away\n";
 
 /// A spawner over another. Where that one can't start a worker, the worker is dropped with its link, which turns the peer away, and is
 /// counted. The first of several in a row is told by a line on `notes`.
@@ -15,6 +15,7 @@ const NO_THREAD_LINE: &str = "modbus: no thread, peers are turned away\n";
 pub struct TurningSpawner<P, N> {
     spawner: P,
     notes: N,
+    program: &'static str,
     taken: u64,
     turned: u64,
     is_told: bool,
@@ -30,13 +31,14 @@ impl<P, N> Model for TurningSpawner<P, N> {
 }
 
 impl<P, N> TurningSpawner<P, N> {
-    /// A spawner over this one that was given nothing.
-    pub fn new(spawner: P, notes: N) -> TurningSpawner<P, N>
+    /// A spawner over this one that was given nothing. What it tells on `notes` begins with the name of the program.
+    pub fn new(spawner: P, notes: N, program: &'static str) -> TurningSpawner<P, N>
         ensures { result ≡ record { spawner = spawner; taken = 0; turned = 0 } }
     {
         TurningSpawner {
             spawner,
             notes,
+            program,
             taken: 0,
             turned: 0,
             is_told: false,
@@ -62,7 +64,7 @@ impl<W: Worker, P: Spawner<W>, N: Sink> Spawner<W> for TurningSpawner<P, N> {
         }
         self.turned = self.turned.saturating_add(1);
         if !self.is_told {
-            report(&mut self.notes, NO_THREAD_LINE);
+            note(&mut self.notes, self.program, NO_THREAD);
             self.is_told = true;
         }
         Ok(())

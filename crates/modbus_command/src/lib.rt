@@ -7,4 +7,5 @@ mod words;
 
 pub use crate::arguments::{command, flag, option, positional};
 pub use crate::value::put_value;
-pub use crate::words::{FAILED, USAGE, say, why_no_point, words_of};
+pub use crate::words::{say, why_no_point, words_of};
+pub use modbus_about::{FAILED, USAGE, VERSION};

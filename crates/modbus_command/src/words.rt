@@ -1,19 +1,14 @@
 //! The words of a command line, and what a program says and tells that can't go on from them.
 ghost use Rattle.std.specs.Prelude.{◌≡◌, ◌≢◌, ◌⊎◌, IfErr};
 ghost use Rattle.clap.specs.Words.{kind_of};
-ghost use Rattle.modbus_command.specs.declared.words.TheConstants.{FAILED, USAGE};
+ghost use Rattle.modbus_about.specs.declared.TheConstants.{FAILED, USAGE};
 
 use clap::error::{Error, ErrorKind};
+use modbus_about::{FAILED, USAGE};
 use modbus_poll::PointError;
 use std::{env, io};
 
-/// The status where the system or memory is refused, or a device.
-pub const FAILED: u8 = 1;
-
-/// The status of words that can't be read.
-pub const USAGE: u8 = 2;
-
-/// Tells what clap has to say to the user of this program, and gives the status: 0 where the help was asked for and could be told.
+/// Tells what clap has to say to the user of this program, and gives the status: 0 where the help or the version was asked for and could be told.
 pub fn say(rt: &HostRuntime, program: &str, error: &Error) -> u8
     ensures memory { kind_of error.now ≡ ErrorKind.OutOfMemory → result ≡ FAILED }
     ensures usage { kind_of error.now ≢ ErrorKind.OutOfMemory

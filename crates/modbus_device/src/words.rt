@@ -2,7 +2,7 @@
 
 use crate::device::Texts;
 use clap::{Arg, ArgMatches, Command, Error, value_parser};
-use modbus_command::{FAILED, USAGE, command, flag, option, positional};
+use modbus_command::{FAILED, USAGE, VERSION, command, flag, option, positional};
 use modbus_frame::SlaveId;
 use std::alloc::{AllocError, AllocFailed, Global};
 use std::net::SocketAddr;
@@ -171,12 +171,13 @@ fn words<'a>(alloc: Global, silence: Arg<'a>, absent: Arg<'a>) -> Result<Vec<Arg
 fn whole<'a>(alloc: Global) -> Result<Command<'a>, AllocError> {
     let silence = silence(alloc)?;
     let words = words(alloc, silence, absent(alloc)?)?;
-    command(
+    let whole = command(
         alloc,
         "modbus_device",
         "A Modbus device: units with four tables each, on a serial line or a port",
         words,
-    )
+    )?;
+    Ok(whole.version(VERSION))
 }
 
 /// Reads the words of the command line, the program's name first.

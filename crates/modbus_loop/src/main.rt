@@ -8,29 +8,31 @@ mod serving;
 mod words;
 
 use mio::net::TcpListener;
+use modbus_about::{FAILED, USAGE, tell};
 use serving::serve;
 use std::net::SocketAddr;
 use std::process::ExitCode;
-use words::parse_args;
+use words::{Wish, parse_args};
 
-/// The status of words that are no form.
-const USAGE: u8 = 2;
-
-/// The status where the system refuses something.
-const REFUSED: u8 = 1;
+/// What it says of its words.
+const HELP: &str = "usage: modbus_loop tcp|rtu PORT [SECONDS]\n";
 
 fn main(rt: HostRuntime) -> ExitCode {
-    let Some(task) = parse_args(&rt) else {
-        let _ = eprintln!(rt; "modbus_loop: usage: modbus_loop tcp|rtu PORT [SECONDS]");
-        return ExitCode::from(USAGE);
+    let task = match parse_args(&rt) {
+        Some(Wish::Serve(task)) => task,
+        Some(Wish::Say(about)) => return ExitCode::from(tell(&rt, "modbus_loop", HELP, about)),
+        None => {
+            let _ = eprint!(rt; "modbus_loop: {HELP}");
+            return ExitCode::from(USAGE);
+        }
     };
     let address = SocketAddr::from(([127, 0, 0, 1], task.port));
     let Ok(listener) = TcpListener::bind(&rt, address) else {
         let _ = eprintln!(rt; "modbus_loop: bind fault");
-        return ExitCode::from(REFUSED);
+        return ExitCode::from(FAILED);
     };
     let _ = eprintln!(rt; "modbus_loop: listening on {address}");
     let fault = serve(&rt, task, listener);
     let _ = eprintln!(rt; "modbus_loop: {fault}");
-    ExitCode::from(REFUSED)
+    ExitCode::from(FAILED)
 }

@@ -1,5 +1,6 @@
 //! The words of the command line.
 
+use modbus_about::{About, asked};
 use std::env;
 
 /// How many seconds a connection may stay that has no turn, where the words do not say.
@@ -25,6 +26,15 @@ pub struct Task {
     pub idle: u64,
 }
 
+/// What the words ask for.
+#[derive(Clone, Copy, Debug, PartialEq, Eq)]
+pub enum Wish {
+    /// To serve.
+    Serve(Task),
+    /// To say something of itself.
+    Say(About),
+}
+
 /// The mode that a word names.
 fn mode_of(word: &str) -> Option<Mode> {
     match word {
@@ -42,17 +52,21 @@ fn seconds_of(word: &str) -> Option<u64> {
     }
 }
 
-/// The task that the words after the program name; none where they are no form.
-pub fn parse_args(rt: &HostRuntime) -> Option<Task> {
+/// What the words after the program's name ask for; none where they are no form.
+pub fn parse_args(rt: &HostRuntime) -> Option<Wish> {
     let mut words = env::args(rt).ok()?.skip(1);
-    let mode = mode_of(words.next()?.as_str())?;
+    let first = words.next()?;
+    if let Some(about) = asked(first.as_str()) {
+        return Some(Wish::Say(about));
+    }
+    let mode = mode_of(first.as_str())?;
     let port = words.next()?.as_str().parse().ok()?;
     let idle = match words.next() {
         Some(word) => seconds_of(word.as_str())?,
         None => IDLE,
     };
     match words.next() {
-        None => Some(Task { mode, port, idle }),
+        None => Some(Wish::Serve(Task { mode, port, idle })),
         Some(_) => None,
     }
 }

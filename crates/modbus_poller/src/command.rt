@@ -1,7 +1,7 @@
 //! The words of the command line.
 
 use clap::{Arg, ArgMatches, Command, Error, value_parser};
-use modbus_command::{command, flag, option, positional};
+use modbus_command::{VERSION, command, flag, option, positional};
 use std::alloc::{AllocError, Global};
 
 /// How values are printed.
@@ -182,6 +182,7 @@ fn whole<'a>(alloc: Global) -> Result<Command<'a>, AllocError> {
     let commands = commands(alloc)?;
     Command::new(alloc, "modbus_poller")
         .about("Reads and writes a Modbus TCP device")
+        .version(VERSION)
         .subcommand_required(true)
         .subcommands(commands)
 }

@@ -18,7 +18,7 @@ use std::process::ExitCode;
 use wanted::Refusal;
 
 /// What its messages begin with.
-const PROGRAM: &str = "poller";
+const PROGRAM: &str = "modbus_poller";
 
 fn poll<'a>(rt: &HostRuntime, given: &ArgMatches<'a>) -> Result<bool, Refusal<'a>> {
     Ok(polling::run(rt, &wanted::poll(rt.alloc(), given)?))
@@ -52,7 +52,7 @@ fn serve(rt: &HostRuntime, words: &[String]) -> u8 {
         Ok(true) => 0,
         Ok(false) => FAILED,
         Err(refusal) => {
-            let _ = eprintln!(rt; "poller: {refusal}");
+            let _ = eprintln!(rt; "modbus_poller: {refusal}");
             refusal.status()
         }
     }

@@ -128,9 +128,9 @@ fn tell_read(
                 points: wanted.points.as_slice(),
                 names: wanted.names,
             };
-            eprintln!(rt; "poller: {words} for{items}: {what}")
+            eprintln!(rt; "modbus_poller: {words} for{items}: {what}")
         }
-        None => eprintln!(rt; "poller: {what}"),
+        None => eprintln!(rt; "modbus_poller: {what}"),
     }
 }
 
@@ -153,7 +153,7 @@ fn tell(
                 error,
                 circumstances,
             };
-            eprintln!(rt; "poller: {device}: {what}")
+            eprintln!(rt; "modbus_poller: {device}: {what}")
         }
         PollError::Call { read, error } => {
             let what = NoAnswer {
@@ -170,7 +170,7 @@ fn tell(
             *read,
             &OtherCount(*found),
         ),
-        PollError::NoMemory => eprintln!(rt; "poller: no memory"),
+        PollError::NoMemory => eprintln!(rt; "modbus_poller: no memory"),
     }
 }
 
@@ -283,7 +283,7 @@ pub fn run(rt: &HostRuntime, wanted: &PollTask<'_, '_>) -> bool {
     match poll_or_plan(rt, wanted) {
         Ok(is_good) => is_good,
         Err(error) => {
-            let _ = eprintln!(rt; "poller: {error}");
+            let _ = eprintln!(rt; "modbus_poller: {error}");
             false
         }
     }

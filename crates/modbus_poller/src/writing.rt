@@ -37,7 +37,7 @@ fn tell(
         Ok(Ok(())) => true,
         Ok(Err(code)) => {
             let what = Refused(*code);
-            let _ = eprintln!(rt; "poller: {address}: {what}");
+            let _ = eprintln!(rt; "modbus_poller: {address}: {what}");
             false
         }
         Err(error) => {
@@ -45,7 +45,7 @@ fn tell(
                 error,
                 circumstances: circumstances(rt, client, device, began),
             };
-            let _ = eprintln!(rt; "poller: {address}: {what}");
+            let _ = eprintln!(rt; "modbus_poller: {address}: {what}");
             false
         }
     }
@@ -99,7 +99,7 @@ fn told(rt: &HostRuntime, tried: io::Result<bool>) -> bool {
     match tried {
         Ok(is_done) => is_done,
         Err(error) => {
-            let _ = eprintln!(rt; "poller: {error}");
+            let _ = eprintln!(rt; "modbus_poller: {error}");
             false
         }
     }

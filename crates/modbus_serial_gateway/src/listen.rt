@@ -5,9 +5,11 @@ ghost use Rattle.modbus_server.specs.declared.error.ServeError.TheVariants.{Acce
 ghost use Rattle.modbus_server.specs.Listener.{Exact, Balances};
 ghost use Rattle.modbus_serial_gateway.specs.Ends.{HasEnded, IsRefusedOrEnded};
 
-use crate::ending::{line, status};
+use crate::PROGRAM;
+use crate::ending::{BIND_LINE, NO_MEMORY_LINE, line};
 use itoa::Buffer;
-use modbus_app::port::{PortKeeper, RETRIES, bind, refused};
+use modbus_about::FAILED;
+use modbus_app::port::{PortKeeper, RETRIES, bind};
 use modbus_app::{PatientAcceptor, TurningSpawner, WatchedAcceptor, report};
 use modbus_gateway::Forwarder;
 use modbus_line::{LineServices, Opening, Services, ServicesOut, SharedLine};
@@ -15,6 +17,7 @@ use modbus_link::{Acceptor, FlagStop, Link, ScopeSpawner, Sink, Spawner, TcpAcce
 use modbus_server::tcp::{AduBuffer, ConnectionWorker};
 use modbus_server::{Answerer, ProcessError, ServeError, serve_acceptor};
 use std::alloc::Global;
+use std::io::ErrorKind;
 use std::marker::Brand;
 use std::net::{Net, SocketAddr, TcpListener, TcpStream};
 use std::sync::Wait;
@@ -30,7 +33,8 @@ const PARTS: u64 = 1 << 32;
 /// Tells where a listener waits for masters.
 fn announce<N: Sink>(notes: &mut N, port: u16) {
     let mut digits = Buffer::new();
-    report(notes, "modbus: listens on 127.0.0.1:");
+    report(notes, PROGRAM);
+    report(notes, ": listens on 127.0.0.1:");
     report(notes, digits.format(port));
     report(notes, "\n");
 }
@@ -127,7 +131,7 @@ where
             requires { H.IsAlwaysCallable worker.on_process_error }
         { start(scope, worker) },
     );
-    let mut spawner = TurningSpawner::new(workers, notes);
+    let mut spawner = TurningSpawner::new(workers, notes, PROGRAM);
     let error = serve_links(
         rt,
         alloc,
@@ -137,7 +141,7 @@ where
         &mut spawner,
     );
     report(errors, line(error));
-    status(error)
+    FAILED
 }
 
 /// Serves as `serve_in_scope` does, in a scope of its own, and gives `errors` back. `ended` is set once it does not go on; then it waits
@@ -213,7 +217,7 @@ where
     let ended = AtomicBool::new(false);
     let (listener, share) = listener;
     let accepting = WatchedAcceptor::new(TcpAcceptor::new(listener), &ended);
-    let keeper = PortKeeper::new(rt, share, notes.0);
+    let keeper = PortKeeper::new(rt, share, notes.0, PROGRAM);
     serve_in_threads(
         rt,
         alloc,
@@ -268,7 +272,7 @@ where
 /// Serves all connections to a port of this machine (127.0.0.1) over one line, each in a thread, by ADUs with an MBAP header. The error of
 /// a single connection ends that connection alone. It tells on `notes` what keeps peers waiting, and on the first of them where it listens.
 ///
-/// It gives `errors` back, with the line of the status: 11, 12 or 14 once it does not go on, or 15 where the system refuses the listener.
+/// It gives `errors` back, with the line that tells why it does not go on, or that the system refuses the listener.
 pub fn serve<R, C, E, N>(
     rt: &R,
     alloc: Global,
@@ -301,8 +305,12 @@ where
         }
         Err(error) => {
             let mut errors = errors;
-            let status = refused(error, &mut errors);
-            (errors, status)
+            let is_full = error.kind() == ErrorKind::OutOfMemory;
+            report(
+                &mut errors,
+                if is_full { NO_MEMORY_LINE } else { BIND_LINE },
+            );
+            (errors, FAILED)
         }
     }
 }

@@ -6,20 +6,23 @@ mod ending;
 mod listen;
 mod words;
 
+use ending::NO_MEMORY_LINE;
 use listen::serve;
-use modbus_app::{NO_MEMORY, USAGE, report, report_fault};
+use modbus_about::{About, FAILED, USAGE, asked, tell};
 use modbus_client::Client;
 use modbus_frame::Slave;
 use modbus_line::SerialLine;
 use modbus_link::{ReadSource, TerminalLink, WriteSink};
 use modbus_reconnect::SerialClient;
-use modbus_server::ProcessError;
 use modbus_terminal::TerminalLine;
 use std::env;
 use std::io::{ErrorKind, Result, Stdin, Stdout};
 use std::process::ExitCode;
 use std::time::Duration;
-use words::{Task, USAGE_LINE, read_words};
+use words::{HELP, Task, read_words};
+
+/// What its messages begin with.
+pub(crate) const PROGRAM: &str = "modbus_serial_gateway";
 
 /// How long a silence of the line is, in milliseconds.
 const SILENCE: u64 = 100;
@@ -27,11 +30,22 @@ const SILENCE: u64 = 100;
 /// How many bytes of a line in doubt are dropped until it is silent.
 const NOISE: usize = 4096;
 
+/// What the words ask for.
+enum Wish {
+    /// To serve.
+    Serve(Task),
+    /// To say something of itself.
+    Say(About),
+}
+
 /// What the words after the program's name ask for; `None` where they are no such words.
-fn task_of(rt: &HostRuntime) -> Result<Option<Task>> {
+fn wish_of(rt: &HostRuntime) -> Result<Option<Wish>> {
     let mut words = env::args(rt)?.skip(1);
     match (words.next(), words.next(), words.next()) {
-        (Some(port), Some(millis), None) => Ok(read_words(port.as_str(), millis.as_str())),
+        (Some(word), None, None) => Ok(asked(word.as_str()).map(Wish::Say)),
+        (Some(port), Some(millis), None) => {
+            Ok(read_words(port.as_str(), millis.as_str()).map(Wish::Serve))
+        }
         _ => Ok(None),
     }
 }
@@ -51,24 +65,25 @@ fn open_line(
 }
 
 fn main(rt: HostRuntime) -> ExitCode {
-    let mut errors = WriteSink::new(rt.stderr());
-    let task = match task_of(&rt) {
-        Ok(task) => task,
+    let wish = match wish_of(&rt) {
+        Ok(wish) => wish,
         Err(error) if error.kind() == ErrorKind::OutOfMemory => {
-            report_fault(&mut errors, ProcessError::NoMemory);
-            return ExitCode::from(NO_MEMORY);
+            let _ = eprint!(rt; "{NO_MEMORY_LINE}");
+            return ExitCode::from(FAILED);
         }
         Err(_) => None,
     };
-    match task {
-        Some(task) => {
+    match wish {
+        Some(Wish::Serve(task)) => {
             let line = open_line(&rt, task.millis);
+            let errors = WriteSink::new(rt.stderr());
             let notes = (WriteSink::new(rt.stderr()), WriteSink::new(rt.stderr()));
             let (_errors, status) = serve(&rt, rt.alloc(), task.port, line, errors, notes);
             ExitCode::from(status)
         }
+        Some(Wish::Say(about)) => ExitCode::from(tell(&rt, PROGRAM, HELP, about)),
         None => {
-            report(&mut errors, USAGE_LINE);
+            let _ = eprint!(rt; "{PROGRAM}: {HELP}");
             ExitCode::from(USAGE)
         }
     }

@@ -4,9 +4,9 @@ ghost use Rattle.modbus_serial_gateway.specs.Words.{nonzero_port, time_named, ta
 
 use modbus_poll::number_within;
 
-/// The line of a usage fault.
-pub const USAGE_LINE: &str =
-    "modbus: usage: modbus_serial_gateway PORT MILLISECONDS, a port from 1 to 65535 and a time from 1 to 60000\n";
+/// What it says of its words.
+pub const HELP: &str =
+    "usage: modbus_serial_gateway PORT MILLISECONDS, a port from 1 to 65535 and a time from 1 to 60000\n";
 
 /// What the words ask for.
 #[derive(Clone, Copy, Debug, PartialEq, Eq)]

@@ -21,21 +21,21 @@ use supervise::supervise;
 use words::Task;
 
 /// What its messages begin with.
-const PROGRAM: &str = "supervisor";
+const PROGRAM: &str = "modbus_supervisor";
 
 /// Tells why a list cannot be read, and gives the status.
 fn refuse(rt: &HostRuntime, file: &str, fault: ListFault<'_>) -> u8 {
     match fault {
         ListFault::NoMemory => {
-            let _ = eprintln!(rt; "supervisor: no memory");
+            let _ = eprintln!(rt; "modbus_supervisor: no memory");
             FAILED
         }
         ListFault::Empty => {
-            let _ = eprintln!(rt; "supervisor: {file}: no line has a device");
+            let _ = eprintln!(rt; "modbus_supervisor: {file}: no line has a device");
             USAGE
         }
         ListFault::Line { number, word, why } => {
-            let _ = eprintln!(rt; "supervisor: {file}: line {number}: {word}: {why}");
+            let _ = eprintln!(rt; "modbus_supervisor: {file}: line {number}: {word}: {why}");
             USAGE
         }
     }
@@ -55,7 +55,7 @@ fn serve_list(rt: &HostRuntime, task: &Task<'_>, text: &str) -> u8 {
     match served {
         Ok(()) => 0,
         Err(fault) => {
-            let _ = eprintln!(rt; "supervisor: {fault}");
+            let _ = eprintln!(rt; "modbus_supervisor: {fault}");
             FAILED
         }
     }
@@ -73,7 +73,7 @@ fn serve(rt: &HostRuntime, words: &[String]) -> u8 {
         Err(error) => {
             let file = task.file;
             let kind = error.kind();
-            let _ = eprintln!(rt; "supervisor: {file}: {kind}");
+            let _ = eprintln!(rt; "modbus_supervisor: {file}: {kind}");
             USAGE
         }
     }

@@ -110,7 +110,7 @@ impl<'l> Supervisor<'l> {
         if why == Why::NoFiles && !self.is_short_of_files {
             self.is_short_of_files = true;
             let _ = eprintln!(rt;
-                "supervisor: too many open files: devices are away that have no connection yet"
+                "modbus_supervisor: too many open files: devices are away that have no connection yet"
             );
         }
     }

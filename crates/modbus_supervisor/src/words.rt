@@ -1,7 +1,7 @@
 //! The words of the command line.
 
 use clap::{Arg, ArgMatches, Command, Error, value_parser};
-use modbus_command::{command, flag, option, positional};
+use modbus_command::{VERSION, command, flag, option, positional};
 use std::alloc::{AllocError, Global};
 
 /// What the words ask for.
@@ -80,12 +80,13 @@ fn whole<'a>(alloc: Global) -> Result<Command<'a>, AllocError> {
         count(alloc),
         plan(alloc),
     ]?;
-    command(
+    let whole = command(
         alloc,
         "modbus_supervisor",
         "Polls many Modbus TCP devices, and prints what changes",
         words,
-    )
+    )?;
+    Ok(whole.version(VERSION))
 }
 
 /// Reads the words of the command line, the program's name first.
