@@ -7,7 +7,7 @@ use Rattle.modbus_frame.specs.declared.code.ExceptionCode.TheVariants as code
 use Rattle.modbus_frame.specs.declared.response.Response.{Response}
 use Rattle.modbus_frame.specs.declared.response.Response.TheVariants as response
 use Rattle.modbus_frame.specs.Meaning.{Asked, ReadCoils, ReadDiscreteInputs, WriteSingleCoil, WriteMultipleCoils, ReadInputRegisters, ReadHoldingRegisters, WriteSingleRegister, WriteMultipleRegisters, ReportServerId, MaskWriteRegister, ReadWriteMultipleRegisters, ReadFifoQueue, ReadDeviceIdentification, Custom}
-use Rattle.modbus_pdu.specs.declared.limits.TheConstants.{MAX_PDU}
+use Rattle.modbus_pdu.specs.Limits.{max_pdu}
 use Rattle.modbus_pdu.specs.Limits.{max_read_coils, max_write_coils, max_read_registers, max_write_registers, max_read_write_registers, max_fifo_count}
 use Rattle.modbus_pdu.specs.ResponseLaws.{response_size}
 use Rattle.modbus_pdu.specs.ResponsePdu.{response_pdu}
@@ -16,7 +16,7 @@ use Rattle.modbus_store.specs.Tables.{Tables, entries, with_entries}
 use Rattle.modbus_store.specs.Step.{is_quantity, inside, if_in_bounds, both_count, both_inside, is_queue_count, queue_count, step_of, store_step}
 
 abbrev IsShort : ℕ → Outcome → Type 0
-IsShort n outcome = length (reply_pdu n outcome) ≤ MAX_PDU
+IsShort n outcome = length (reply_pdu n outcome) ≤ max_pdu
 
 exception_fits : (n : ℕ) (e : ExceptionCode) → IsShort n (exception e)
 unfolding reply_pdu
@@ -46,7 +46,7 @@ most_of most count e = leb-true count most (right (leb 1 count) (leb count most)
 
 -- by the sizes of responses
 module _ (sizes : (r : Response) → length (response_pdu r) ≡ response_size r) where
-  reply_fits : (n : ℕ) (r : Response) → response_size r ≤ MAX_PDU → IsShort n (reply r)
+  reply_fits : (n : ℕ) (r : Response) → response_size r ≤ max_pdu → IsShort n (reply r)
   unfolding reply_pdu
   reply_fits n r fits = omega (arith, sizes r)
 
@@ -89,7 +89,7 @@ module _ (sizes : (r : Response) → length (response_pdu r) ≡ response_size r
   step_fits n t (ReadDeviceIdentification read id) = exception_fits n code.IllegalFunction
   step_fits n t (Custom function bytes) = exception_fits n code.IllegalFunction
 
-  pub store_fits : (n : ℕ) (t : Tables) (slave : ℕ) (request : Asked) → length (reply_pdu n (store_step t slave request).0) ≤ MAX_PDU
+  pub store_fits : (n : ℕ) (t : Tables) (slave : ℕ) (request : Asked) → length (reply_pdu n (store_step t slave request).0) ≤ max_pdu
   unfolding store_step
   store_fits n t slave request = go (t.broadcast && eqb slave 0)
     where

@@ -2,7 +2,7 @@
 ghost use Rattle.std.specs.Prelude.{◌≡◌, ℕ, ◌≤◌, List, length, map, Option};
 ghost use Rattle.atomic_table.specs.Table.{State};
 ghost use Rattle.modbus_frame.specs.Meaning.{Asked};
-ghost use Rattle.modbus_pdu.specs.declared.limits.TheConstants.{MAX_PDU};
+ghost use Rattle.modbus_pdu.specs.Limits.{max_pdu};
 ghost use Rattle.modbus_service.specs.Outcome.{reply_pdu};
 ghost use Rattle.modbus_store.specs.Tables.{Tables};
 ghost use Rattle.modbus_store.specs.Step.{store_step};
@@ -19,7 +19,7 @@ use modbus_pdu::responses_have_sizes;
 /// Each answer of a store fits a PDU, which has at most 253 bytes (Modbus Application Protocol V1.1b3, section 4.1).
 pub fn answers_fit()
     ensures { (code : ℕ) (tables : Tables) (slave : ℕ) (request : Asked)
-        → length (reply_pdu code (store_step tables slave request).0) ≤ MAX_PDU }
+        → length (reply_pdu code (store_step tables slave request).0) ≤ max_pdu }
 {
     responses_have_sizes();
 }
