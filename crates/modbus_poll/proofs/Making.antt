@@ -1,6 +1,5 @@
 -- Reads, one after another.
 use Rattle.std.proofs.Common.{◌≡◌, ℕ, zero, suc, ◌<◌, List, [], ◌∷◌, ◌++◌, length, take, get_or, slice_get, Some, Result, Ok, Err, inl, inr, refl, sym, subst, arith}
-use Rattle.std.proofs.Math.Seq.{take-length}
 use Rattle.std.specs.Result.{IfErr, IsErrAnd}
 use Rattle.modbus_poll.specs.declared.read.Read.{Read}
 use Rattle.modbus_poll.specs.Words.{AreWordsOf}
@@ -29,12 +28,11 @@ module _ {S : Type 0} (asks : S → Read → WordsAnswer → S → Type 0) where
 
   -- no memory before the first read
   pub lacks_first : (reads : List Read) (old : S) → Stops asks old reads poll.NoMemory old
-  lacks_first reads old = record { place = 0; found = []; stands = inl refl }
+  lacks_first reads old = inl refl
 
   -- no memory after the last one
   pub lacks_last : (reads : List Read) (found : List (List ℕ)) (old new : S) → ReadsEach asks old reads found new → Stops asks old reads poll.NoMemory new
-  lacks_last reads found old new made =
-      record { place = length reads; found = found; stands = inl (subst (λ rs. ReadsEach asks old rs found new) (sym (take-length reads)) made) }
+  lacks_last reads found old new made = inr (inl (found, made))
 
   -- what an answer stops
   pub stops_at : (reads : List Read) (place : ℕ) (found : List (List ℕ)) (old before new : S) (read : Read) (answer : WordsAnswer) (fault : PollError)
@@ -57,11 +55,7 @@ module _ {S : Type 0} (asks : S → Read → WordsAnswer → S → Type 0) where
         other = takes.4;
       })
   stops_at reads place found old before new read answer poll.NoMemory is made asked takes =
-      record {
-        place = place;
-        found = found;
-        stands = inr (record { found = found; before = before; earlier = made; read = read; is = is; asked = subst (λ a. asks before read a new) takes asked });
-      }
+      inr (inr (place, record { found = found; before = before; earlier = made; read = read; is = is; asked = subst (λ a. asks before read a new) takes asked }))
 
   -- what stands after a result that tells this fault
   pub stops_with : {A : Type 0} (reads : List Read) (old new : S) (fault : PollError) (result : Result A PollError) → IsErrAnd result (λ told. told ≡ fault)

@@ -80,13 +80,13 @@ pub record AnswersOther {S : Type 0} (asks : PollMeaning S) (old : S) (reads : L
   pub counted : count ≡ length words
   pub other : count ≢ answers.read.count
 
--- Memory was refused after so many reads, each of which gave its words, or in the call of the next one.
-pub record LacksMemory {S : Type 0} (asks : PollMeaning S) (old : S) (reads : List Read)
-    (new : S) : Type 0 where
-  pub place : ℕ
-  pub found : List (List ℕ)
-  pub stands : ReadsEach asks old (take place reads) found new
-      ⊎ AnswersAt asks old reads place (Err error.NoMemory) new
+-- Memory was refused before the first read, after the last one, or in the call of a read, which was answered so after those before it. So
+-- where some reads gave their words and another answer came then, it is told.
+abbrev pub LacksMemory : {S : Type 0} → PollMeaning S → S → List Read → S → Type 0
+LacksMemory asks old reads new =
+    (new ≡ old)
+    ⊎ (((found : List (List ℕ)) × ReadsEach asks old reads found new)
+    ⊎ ((place : ℕ) × AnswersAt asks old reads place (Err error.NoMemory) new))
 
 -- what stands where a poll gives no values
 abbrev pub Stops : {S : Type 0} → PollMeaning S → S → List Read → PollError → S → Type 0
