@@ -1,7 +1,7 @@
 //! The lock of a shared store: what its slot holds, what a seat knows, the rule, and what each step tells.
 //!
 //! A pass draws a ticket, waits until the word `serving` shows it, takes the store out of the slot, and puts it back before it lets the
-//! next one in. `docs/ARCHITECTURE.md` lists the words and the steps.
+//! next one in. specs/Lock.antt has the words and the rule, steps.rt the steps, specs/Plays.antt what each of them tells.
 
 use crate::history::History;
 use crate::store::RegisterStore;
