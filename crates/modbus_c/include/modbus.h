@@ -230,8 +230,8 @@ modbus_served modbus_rtu_serve(const uint8_t *input, size_t input_len, bool *coi
                                size_t output_len);
 
 /* The same of the next text of Modbus ASCII that delivers a frame (SL 2.5.2). The output has room for MODBUS_LONGEST_TEXT bytes. All bytes
- * that are no part of such a text are skipped: MODBUS_WAITING tells how many have no part in one, whatever follows, and at most 513 are
- * left then. MODBUS_NO_LENGTH, MODBUS_FOREIGN and MODBUS_CROWD are not told. */
+ * that are no part of such a text are skipped: MODBUS_WAITING tells by `used` that at least so many have no part in one, whatever follows
+ * (of `:0G` it tells 0), and at most 513 are left then. MODBUS_NO_LENGTH, MODBUS_FOREIGN and MODBUS_CROWD are not told. */
 modbus_served modbus_ascii_serve(const uint8_t *input, size_t input_len, bool *coils, size_t coils_len, const bool *discrete_inputs,
                                  size_t discrete_inputs_len, uint16_t *holding_registers, size_t holding_registers_len,
                                  const uint16_t *input_registers, size_t input_registers_len, bool broadcast, uint8_t *output,
