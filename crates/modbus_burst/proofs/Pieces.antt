@@ -1,5 +1,5 @@
 -- The pieces of a burst, one after another.
-use Rattle.std.proofs.Common.{◌≡◌, inl, inr, ℕ, ◌+◌, ◌-◌, ◌<◌, ◌≤◌, min, List, [], ◌∷◌, ◌++◌, length, take, Option, Result, Ok, Err, IsTrue, refl, sym, ap, ◌∙◌, arith, length-append, append-nil, append_assoc, zero, suc}
+use Rattle.std.proofs.Common.{◌≡◌, inl, inr, ℕ, ◌+◌, ◌-◌, ◌<◌, ◌≤◌, min, List, [], ◌∷◌, ◌++◌, length, take, Option, Result, Ok, Err, IsTrue, refl, sym, ap, subst, ◌∙◌, arith, length-append, append-nil, append_assoc, zero, suc}
 use Rattle.std.proofs.lemmas.List.{take_all, take-append-le, length-take}
 use Rattle.std.proofs.Math.Seq.{take-append-add}
 use Rattle.std.specs.Io.{ReadsAtMost}
@@ -9,7 +9,7 @@ use Rattle.modbus_link.specs.declared.polled.Polled.TheVariants.{Ready, Pending}
 use Rattle.modbus_link.specs.Outside.{Input, Rose, Advances, Gives, bytes_read, front_of, ReadIsTold}
 use Rattle.modbus_link.specs.Polled.{at_once}
 use Rattle.modbus_link.specs.Runs.{Advances-same, Advances-both, bytes_read-none, read_more}
-use Rattle.modbus_burst.specs.Link.{last_count, FailsBy, EndsBurst, came, GoesOn, Finishes, GivesBurst}
+use Rattle.modbus_burst.specs.Link.{last_count, OneMore, FailsBy, EndsBurst, ComesBehind, came, GoesOn, Finishes, GivesBurst}
 
 -- so many silences were told, and nothing was read
 pub record Hushed (told : ℕ) (from to : Input) (idle now : ℕ) : Type 0 where
@@ -95,7 +95,7 @@ came_size (Err error) after bound = refl
 -- so many bytes of a burst stand in the room, after so many reads that each gave a byte
 pub record Sofar (rounds first count : ℕ) (from to : Input) (idle now : ℕ) (old new : List ℕ) : Type 0 where
   pub source : Advances from to
-  pub later : idle ≤ now
+  pub hush : now ≡ idle
   pub same : length new ≡ length old
   pub within : (first ≤ count) × (count ≤ length old)
   pub read : IsTrue from.told → rounds ≤ length (bytes_read from to)
@@ -104,7 +104,7 @@ pub record Sofar (rounds first count : ℕ) (from to : Input) (idle now : ℕ) (
 pub sofar_none : (first : ℕ) (a : Input) (idle : ℕ) (room : List ℕ) → first ≤ length room → Sofar 0 first first a a idle idle room room
 sofar_none first a idle room low = record {
   source = Advances-same a;
-  later = omega arith;
+  hush = refl;
   same = refl;
   within = (omega arith, low);
   read = λ told. omega arith;
@@ -114,7 +114,7 @@ sofar_none first a idle room low = record {
       ∙ ap (λ piece. take (length room) (take first room ++ piece)) (sym (bytes_read-none a a refl));
 }
 
-module _ (rounds first count : ℕ) (a b c : Input) (i j k : ℕ) (old mid new : List ℕ) (s : Sofar rounds first count a b i j old mid) (later : j ≤ k) where
+module _ (rounds first count : ℕ) (a b c : Input) (i j k : ℕ) (old mid new : List ℕ) (s : Sofar rounds first count a b i j old mid) where
   source_more : {result : Result (Polled ℕ) Failed} → GoesOn b c count mid new result → Advances a c
   source_more g = Advances-both a b c s.source g.source
 
@@ -131,10 +131,10 @@ module _ (rounds first count : ℕ) (a b c : Input) (i j k : ℕ) (old mid new :
       ∙ ap (take (length old)) (append_assoc (take first old) (bytes_read a b) (bytes_read b c))
       ∙ ap (λ piece. take (length old) (take first old ++ piece)) (sym (all_read g told))
 
-  pub sofar_more : (more next : ℕ) → GoesOn b c count mid new (Ok (Ready more)) → (more ≡ 0 → ⊥) → next ≡ min (length old) (count + more) → Sofar (rounds + 1) first next a c i k old new
-  sofar_more more next g some e = record {
+  pub sofar_more : (more next : ℕ) → k ≡ j → GoesOn b c count mid new (Ok (Ready more)) → (more ≡ 0 → ⊥) → next ≡ min (length old) (count + more) → Sofar (rounds + 1) first next a c i k old new
+  sofar_more more next hush g some e = record {
     source = source_more g;
-    later = let l = s.later in omega (arith, l, later);
+    hush = hush ∙ s.hush;
     same = g.same ∙ s.same;
     within = let w = s.within in (omega (arith, w.0, w.1, e), omega (arith, e));
     read = λ told.
@@ -149,32 +149,32 @@ module _ (rounds first count : ℕ) (a b c : Input) (i j k : ℕ) (old mid new :
       let n : count ≡ min (length old) (count + came result) = (let w = s.within in omega (arith, w.1, none)) in
       ap (λ n. take n new) n ∙ bytes_more result g told
 
-  pub finishes_silent : 0 < first → GoesOn b c count mid new (Ok Pending) → Rose j k → Finishes a c i k first old new (Ok count)
-  finishes_silent some g rose = record {
+  pub finishes_silent : 0 < first → GoesOn b c count mid new (Ok Pending) → OneMore j k → j ≤ k → Finishes a c i k first old new (Ok count)
+  finishes_silent some g more later = record {
     source = source_more g;
-    later = let l = s.later in omega (arith, l, later);
+    later = let h = s.hush in omega (arith, h, later);
     same = g.same ∙ s.same;
     within = s.within;
     front = λ told. still (Ok Pending) g refl told;
-    ends = inl (let w = s.within in omega (arith, some, w.0), let l = s.later in omega (arith, l, rose));
+    ends = inl (let w = s.within in omega (arith, some, w.0), subst (λ n. OneMore n k) s.hush more);
     cause = tt;
   }
 
-  pub finishes_ended : GoesOn b c count mid new (Ok (Ready 0)) → (IsTrue b.told → c.left ≡ []) → Finishes a c i k first old new (Ok count)
-  finishes_ended g ended = record {
+  pub finishes_ended : k ≡ j → GoesOn b c count mid new (Ok (Ready 0)) → (IsTrue b.told → c.left ≡ []) → Finishes a c i k first old new (Ok count)
+  finishes_ended hush g ended = record {
     source = source_more g;
-    later = let l = s.later in omega (arith, l, later);
+    later = let h = s.hush in omega (arith, h, hush);
     same = g.same ∙ s.same;
     within = s.within;
     front = λ told. still (Ok (Ready 0)) g refl told;
-    ends = inr (inl (λ told. ended (s.source.told ∙ told)));
+    ends = inr (hush ∙ s.hush, inl (λ told. ended (s.source.told ∙ told)));
     cause = tt;
   }
 
-  pub finishes_not : (error : Failed) → GoesOn b c count mid new (Err error) → Rose b.faults c.faults → Finishes a c i k first old new (Err error)
-  finishes_not error g rose = record {
+  pub finishes_not : (error : Failed) → j ≤ k → GoesOn b c count mid new (Err error) → Rose b.faults c.faults → Finishes a c i k first old new (Err error)
+  finishes_not error later g rose = record {
     source = source_more g;
-    later = let l = s.later in omega (arith, l, later);
+    later = let h = s.hush in omega (arith, h, later);
     same = g.same ∙ s.same;
     within = tt;
     front = λ told. tt;
@@ -186,35 +186,43 @@ module _ (rounds first count : ℕ) (a b c : Input) (i j k : ℕ) (old mid new :
 pub finishes_never : (rounds first count : ℕ) (a b : Input) (i j : ℕ) (old new : List ℕ) → Sofar rounds first count a b i j old new → last_count ≤ rounds → Finishes a b i j first old new (Ok count)
 finishes_never rounds first count a b i j old new s all = record {
   source = s.source;
-  later = s.later;
+  later = let h = s.hush in omega (arith, h);
   same = s.same;
   within = s.within;
   front = s.bytes;
-  ends = inr (inr (λ told. let r = s.read told in omega (arith, r, all)));
+  ends = inr (s.hush, inr (λ told. let r = s.read told in omega (arith, r, all)));
   cause = tt;
 }
 
 -- the first piece of a burst, and the rest of it
-module _ (a b c : Input) (i j k first : ℕ) (old mid new : List ℕ) (source : Advances a b) (later : i ≤ j) (same : length mid ≡ length old) (read : IsTrue a.told → bytes_read a b ≡ take first mid) where
-  whole : {result : Result ℕ Failed} → Finishes b c j k first mid new result → IsTrue a.told → bytes_read a c ≡ take first mid ++ bytes_read b c
-  whole f told = read_more a b c (take first mid) (bytes_read b c) source f.source read (λ told. refl) told
+module _ {L : Type 0} (input : L → Input) (idle : L → ℕ) (from mid to : L) (first : ℕ) (old before new : List ℕ) (source : Advances (input from) (input mid)) (later : idle from ≤ idle mid)
+    (same : length before ≡ length old) (read : IsTrue (input from).told → bytes_read (input from) (input mid) ≡ take first before) (behind : ComesBehind input idle from mid) where
+  abbrev Rest : Result ℕ Failed → Type 0
+  Rest result = Finishes (input mid) (input to) (idle mid) (idle to) first before new result
 
-  ends_whole : (count : ℕ) → {result : Result ℕ Failed} → Finishes b c j k first mid new result → EndsBurst b c j k count → EndsBurst a c i k count
-  ends_whole count f (inl (some, rose)) = inl (some, omega (arith, rose, later))
-  ends_whole count f (inr (inl ended)) = inr (inl (λ told. ended (source.told ∙ told)))
-  ends_whole count f (inr (inr long)) = inr (inr (λ told.
-      let n = ap length (whole f told) in let m = length-append (take first mid) (bytes_read b c) in let l = long (source.told ∙ told) in omega (arith, n, m, l)))
+  whole : {result : Result ℕ Failed} → Rest result → IsTrue (input from).told → bytes_read (input from) (input to) ≡ take first before ++ bytes_read (input mid) (input to)
+  whole f told = read_more (input from) (input mid) (input to) (take first before) (bytes_read (input mid) (input to)) source f.source read (λ told. refl) told
 
-  pub gives_burst : (result : Result ℕ Failed) → Finishes b c j k first mid new result → GivesBurst a c i k (length old) new result
+  ends_whole : (count : ℕ) → {result : Result ℕ Failed} → Rest result → EndsBurst (input mid) (input to) (idle mid) (idle to) count
+      → EndsBurst (input from) (input to) (idle behind.quiet) (idle to) count
+  ends_whole count f (inl (some, more)) = inl (some, subst (λ n. OneMore n (idle to)) behind.same more)
+  ends_whole count f (inr (hush, inl ended)) = inr (hush ∙ behind.same, inl (λ told. ended (source.told ∙ told)))
+  ends_whole count f (inr (hush, inr long)) = inr (
+    hush ∙ behind.same,
+    inr (λ told.
+        let n = ap length (whole f told) in let m = length-append (take first before) (bytes_read (input mid) (input to)) in let l = long (source.told ∙ told) in omega (arith, n, m, l)),
+  )
+
+  pub gives_burst : (result : Result ℕ Failed) → Rest result → GivesBurst input idle from to (length old) new result
   gives_burst (Ok count) f = record {
-    source = Advances-both a b c source f.source;
+    source = Advances-both (input from) (input mid) (input to) source f.source;
     later = let l = f.later in omega (arith, l, later);
-    front = λ told. f.front (source.told ∙ told) ∙ ap (λ n. take n (take first mid ++ bytes_read b c)) same ∙ ap (take (length old)) (sym (whole f told));
-    ends = ends_whole count f f.ends;
+    front = λ told. f.front (source.told ∙ told) ∙ ap (λ n. take n (take first before ++ bytes_read (input mid) (input to))) same ∙ ap (take (length old)) (sym (whole f told));
+    ends = record { quiet = behind.quiet; is_quiet = behind.is_quiet; ends = ends_whole count f f.ends };
     fails = tt;
   }
   gives_burst (Err error) f = record {
-    source = Advances-both a b c source f.source;
+    source = Advances-both (input from) (input mid) (input to) source f.source;
     later = let l = f.later in omega (arith, l, later);
     front = λ told. tt;
     ends = tt;
@@ -222,21 +230,29 @@ module _ (a b c : Input) (i j k first : ℕ) (old mid new : List ℕ) (source : 
   }
 
 -- nothing came before the end of the input
-pub gives_none : (a b : Input) (i j room : ℕ) (new : List ℕ) → Advances a b → i ≤ j → (IsTrue a.told → bytes_read a b ≡ []) → (IsTrue a.told → b.left ≡ []) → GivesBurst a b i j room new (Ok 0)
-gives_none a b i j room new source later read ended = record {
+pub gives_none : {L : Type 0} (input : L → Input) (idle : L → ℕ) (from to : L) (room : ℕ) (new : List ℕ) → Advances (input from) (input to) → idle from ≤ idle to
+    → (IsTrue (input from).told → bytes_read (input from) (input to) ≡ []) → (IsTrue (input from).told → (input to).left ≡ []) → ComesBehind input idle from to
+    → GivesBurst input idle from to room new (Ok 0)
+gives_none input idle from to room new source later read ended behind = record {
   source = source;
   later = later;
   front = λ told. sym (ap (take room) (read told) ∙ take_all room [] (omega arith));
-  ends = inr (inl ended);
+  ends = record { quiet = behind.quiet; is_quiet = behind.is_quiet; ends = inr (behind.same, inl ended) };
   fails = tt;
 }
 
 -- nothing is given
-pub gives_not : (a b : Input) (i j room : ℕ) (new : List ℕ) (error : Failed) → Advances a b → i ≤ j → FailsBy a b j → GivesBurst a b i j room new (Err error)
-gives_not a b i j room new error source later fails = record {
+pub gives_not : {L : Type 0} (input : L → Input) (idle : L → ℕ) (from to : L) (room : ℕ) (new : List ℕ) (error : Failed) → Advances (input from) (input to) → idle from ≤ idle to
+    → FailsBy (input from) (input to) (idle to) → GivesBurst input idle from to room new (Err error)
+gives_not input idle from to room new error source later fails = record {
   source = source;
   later = later;
   front = λ told. tt;
   ends = tt;
   fails = fails;
 }
+
+-- what came behind a moment when nothing had come
+pub comes_behind : {L : Type 0} (input : L → Input) (idle : L → ℕ) (from quiet to : L) (told : ℕ) → Hushed told (input from) (input quiet) (idle from) (idle quiet) → idle to ≡ idle quiet
+    → ComesBehind input idle from to
+comes_behind input idle from quiet to told h same = record { quiet = quiet; is_quiet = (h.source, h.read); same = same }

@@ -28,20 +28,47 @@ last_count = 2 ^ 64 - 1
 abbrev pub FailsBy : Input → Input → ℕ → Type 0
 FailsBy from to silences = Rose from.faults to.faults ⊎ (last_count ≤ silences)
 
--- Why a burst ended, of which so many bytes were given: by a silence behind a byte at least; by the end of the input; or it has as many
--- bytes as can be counted.
+-- a silence was counted, as far as it can be
+abbrev pub OneMore : ℕ → ℕ → Type 0
+OneMore before after = (after ≡ before + 1) ⊎ (last_count ≤ after)
+
+-- what a poll with this result adds to a count of silences: one where it told one, and else none
+abbrev pub CountsSilence : {E : Type 0} → Result (Polled ℕ) E → ℕ → ℕ → Type 0
+CountsSilence (Ok (Ready count)) before after = after ≡ before
+CountsSilence (Ok Pending) before after = OneMore before after
+CountsSilence (Err error) before after = after ≡ before
+
+-- Why a burst ended, of which so many bytes were given, by the silences that were counted before it began and when it ended: by the first
+-- silence behind a byte; by the end of the input, or as it has as many bytes as can be counted, and then with no silence in it.
 abbrev pub EndsBurst : Input → Input → ℕ → ℕ → ℕ → Type 0
 EndsBurst from to before after count =
-    ((0 < count) × Rose before after) ⊎ ((IsTrue from.told → to.left ≡ []) ⊎ (IsTrue from.told → last_count ≤ length (bytes_read from to)))
+    ((0 < count) × OneMore before after)
+    ⊎ ((after ≡ before) × ((IsTrue from.told → to.left ≡ []) ⊎ (IsTrue from.told → last_count ≤ length (bytes_read from to))))
 
--- One read into a room of this length: a link that was at one input and told so many silences gave what it had until the next silence, and
--- the front of that stands at the front of what is given. The rest of it is dropped.
-pub record GivesBurst (from to : Input) (before after room : ℕ) (given : List ℕ) (result : Result ℕ Failed) : Type 0 where
-  pub source : Advances from to
-  pub later : before ≤ after
-  pub front : IsTrue from.told → IfOk result (λ count. take count given ≡ take room (bytes_read from to))
-  pub ends : IfOk result (EndsBurst from to before after)
-  pub fails : OnErr result (FailsBy from to after)
+-- A link that was so had then, being so, given nothing yet.
+abbrev pub IsQuiet : {L : Type 0} → (L → Input) → L → L → Type 0
+IsQuiet input from quiet = Advances (input from) (input quiet) × (IsTrue (input from).told → bytes_read (input from) (input quiet) ≡ [])
+
+-- what came came at once behind such a moment, with no silence between
+pub record ComesBehind {L : Type 0} (input : L → Input) (silences : L → ℕ) (from to : L) : Type 0 where
+  pub quiet : L
+  pub is_quiet : IsQuiet input from quiet
+  pub same : silences to ≡ silences quiet
+
+-- the first byte came behind such a moment, and what came since is the whole burst
+pub record EndsBehind {L : Type 0} (input : L → Input) (silences : L → ℕ) (from to : L) (count : ℕ) : Type 0 where
+  pub quiet : L
+  pub is_quiet : IsQuiet input from quiet
+  pub ends : EndsBurst (input from) (input to) (silences quiet) (silences to) count
+
+-- One read into a room of this length of a link with such an input and such a count of silences: it gave what it had until the first silence
+-- behind a byte, and the front of that stands at the front of what is given. The rest of it is dropped.
+pub record GivesBurst {L : Type 0} (input : L → Input) (silences : L → ℕ) (from to : L) (room : ℕ) (given : List ℕ) (result : Result ℕ Failed) : Type 0 where
+  pub source : Advances (input from) (input to)
+  pub later : silences from ≤ silences to
+  pub front : IsTrue (input from).told → IfOk result (λ count. take count given ≡ take room (bytes_read (input from) (input to)))
+  pub ends : IfOk result (EndsBehind input silences from to)
+  pub fails : OnErr result (FailsBy (input from) (input to) (silences to))
 
 -- so many bytes came, and none where the link told silence
 abbrev pub came : Result (Polled ℕ) Failed → ℕ

@@ -8,12 +8,14 @@
 #![tactic(auto)]
 
 mod bursts;
+mod counted;
 mod frame;
 pub mod laws;
 mod line;
 mod link;
 
 pub use crate::bursts::{Bursts, MOST_READ};
+pub use crate::counted::CountedLink;
 pub use crate::frame::{NOISE_ADDRESS, SHORTEST_FRAME, frame_in, message_in};
 pub use crate::line::{Connection, ConnectionWorker, PolledProcess, process, process_link};
 pub use crate::link::BurstLink;

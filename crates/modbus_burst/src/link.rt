@@ -3,11 +3,11 @@ ghost use Rattle.std.specs.Prelude.{[], ◌≡◌, ◌⊎◌, ◌<◌, ◌≤◌
 ghost use Rattle.std.specs.Io.{ReadsAtMost, WritesAtMost};
 ghost use Rattle.modbus_link.specs.Outside.{Rose, Advances, Extends, bytes_appended, bytes_read, front_of, untold_input};
 ghost use Rattle.modbus_link.specs.Memory.{faults_after};
-ghost use Rattle.modbus_link.specs.Polled.{Waited};
 ghost use Rattle.modbus_link.specs.declared.polled.Polled.TheVariants.{Ready};
-ghost use Rattle.modbus_burst.specs.Link.{burst_at_start, output_over, last_count, FailsBy, GoesOn, Finishes, GivesBurst};
+ghost use Rattle.modbus_burst.specs.Link.{burst_at_start, output_over, last_count, CountsSilence, ComesBehind, FailsBy, GoesOn, Finishes, GivesBurst};
 
-use modbus_link::{Ends, Failed, Polled, Sink, Source, TimedLink};
+use crate::counted::CountedLink;
+use modbus_link::{Ends, Failed, Polled, Sink, Source};
 use std::marker::Model;
 
 /// The length in bytes of the room of a read that is dropped.
@@ -54,7 +54,7 @@ impl<L> BurstLink<L> {
 }
 
 /// Waits until bytes come, and reads those that fit: how many; 0 where the input has ended.
-fn begin<L: TimedLink>(link: &mut L, room: &mut [u8]) -> Result<usize, Failed>
+fn begin<L: CountedLink>(link: &mut L, room: &mut [u8]) -> Result<usize, Failed>
     requires { 0 < length room.old }
     ensures length { length room.new ≡ length room.old }
     ensures within { IfOk result (λ count. count ≤ length room.new) }
@@ -66,11 +66,12 @@ fn begin<L: TimedLink>(link: &mut L, room: &mut [u8]) -> Result<usize, Failed>
     ensures ended { result ≡ Ok 0 → IsTrue (L.input link.old).told → (L.input link.new).left ≡ [] }
     ensures fails { OnErr result
         (FailsBy (L.input link.old) (L.input link.new) (L.not_ready link.new)) }
+    ensures behind { IfOk result (λ count. ComesBehind L.input L.not_ready link.old link.new) }
     ensures sink { L.output link.new ≡ L.output link.old }
     ensures line { L.line link.new ≡ L.line link.old }
 {
     'silences: for _told in 0..u64::MAX {
-        match link.poll_read(room) {
+        match link.poll_counted(room) {
             Ok(Polled::Pending) => {}
             Ok(Polled::Ready(count)) => return Ok(count),
             Err(Failed) => return Err(Failed),
@@ -80,7 +81,7 @@ fn begin<L: TimedLink>(link: &mut L, room: &mut [u8]) -> Result<usize, Failed>
 }
 
 /// Reads what comes next behind `count` bytes of a burst that stand in the room, or drops it where the room is full: how many bytes came.
-fn poll_next<L: TimedLink>(
+fn poll_next<L: CountedLink>(
     link: &mut L,
     room: &mut [u8],
     count: usize,
@@ -89,22 +90,22 @@ fn poll_next<L: TimedLink>(
     ensures goes_on { GoesOn (L.input link.old) (L.input link.new) count room.old room.new result }
     ensures ended { result ≡ Ok (Ready 0) → IsTrue (L.input link.old).told → (L.input link.new).left
         ≡ [] }
-    ensures waited { Waited result (L.not_ready link.old) (L.not_ready link.new) }
+    ensures counted { CountsSilence result (L.not_ready link.old) (L.not_ready link.new) }
     ensures later { L.not_ready link.old ≤ L.not_ready link.new }
     ensures cause { OnErr result (Rose (L.input link.old).faults (L.input link.new).faults) }
     ensures sink { L.output link.new ≡ L.output link.old }
     ensures line { L.line link.new ≡ L.line link.old }
 {
     if count < room.len() {
-        link.poll_read(&mut room[count..])
+        link.poll_counted(&mut room[count..])
     } else {
         let mut dropped = [0; DROPPED];
-        link.poll_read(&mut dropped)
+        link.poll_counted(&mut dropped)
     }
 }
 
 /// Reads on until the link falls silent or ends: how many bytes of the burst stand in the room, of which `first` did before.
-fn finish<L: TimedLink>(link: &mut L, room: &mut [u8], first: usize) -> Result<usize, Failed>
+fn finish<L: CountedLink>(link: &mut L, room: &mut [u8], first: usize) -> Result<usize, Failed>
     requires some { 0 < first }
     requires within { first ≤ length room.old }
     ensures finishes { Finishes (L.input link.old) (L.input link.new) (L.not_ready link.old)
@@ -128,11 +129,11 @@ fn finish<L: TimedLink>(link: &mut L, room: &mut [u8], first: usize) -> Result<u
 }
 
 /// Reads a burst: how many bytes of it stand at the front of the room; 0 where the input has ended.
-fn read_burst<L: TimedLink>(link: &mut L, room: &mut [u8]) -> Result<usize, Failed>
+fn read_burst<L: CountedLink>(link: &mut L, room: &mut [u8]) -> Result<usize, Failed>
     requires { 0 < length room.old }
     ensures bound { ReadsAtMost result room.new }
-    ensures gives { GivesBurst (L.input link.old) (L.input link.new) (L.not_ready link.old)
-        (L.not_ready link.new) (length room.old) room.new result }
+    ensures gives { GivesBurst L.input L.not_ready link.old link.new (length room.old) room.new
+        result }
     ensures sink { L.output link.new ≡ L.output link.old }
     ensures line { L.line link.new ≡ L.line link.old }
 {
@@ -144,7 +145,7 @@ fn read_burst<L: TimedLink>(link: &mut L, room: &mut [u8]) -> Result<usize, Fail
 }
 
 /// Waits until the link takes a front of the bytes: how many.
-fn write_through<L: TimedLink>(link: &mut L, piece: &[u8]) -> Result<usize, Failed>
+fn write_through<L: CountedLink>(link: &mut L, piece: &[u8]) -> Result<usize, Failed>
     ensures bound { WritesAtMost result piece.now }
     ensures some { IfOk result (λ count. 0 < length piece.now → 0 < count) }
     ensures sink { Extends (L.output link.old) (L.output link.new) }
@@ -166,7 +167,7 @@ fn write_through<L: TimedLink>(link: &mut L, piece: &[u8]) -> Result<usize, Fail
     Err(Failed)
 }
 
-impl<L: TimedLink> Ends for BurstLink<L> {
+impl<L: CountedLink> Ends for BurstLink<L> {
     ghost input = { λ it. untold_input it.read_faults };
 
     ghost output = { λ it. output_over (L.output it.link) it.write_faults };
@@ -174,7 +175,7 @@ impl<L: TimedLink> Ends for BurstLink<L> {
     ghost line = { λ it. L.line it.link };
 }
 
-impl<L: TimedLink> Source for BurstLink<L> {
+impl<L: CountedLink> Source for BurstLink<L> {
     /// Reads one burst: waits until bytes come, and reads until the link falls silent again. What does not fit into the room is dropped.
     /// Where the input ends within a burst, what came of it is given, and the next read gives none.
     ///
@@ -189,9 +190,8 @@ impl<L: TimedLink> Source for BurstLink<L> {
             ≡ output_over (L.output self.old.link) self.old.write_faults }
         ensures line { L.line self.new.link ≡ L.line self.old.link }
 
-        ensures gives { GivesBurst (L.input self.old.link) (L.input self.new.link)
-            (L.not_ready self.old.link) (L.not_ready self.new.link) (length room.old) room.new
-            result }
+        ensures gives { GivesBurst L.input L.not_ready self.old.link self.new.link
+            (length room.old) room.new result }
         ensures counts { self.new ≡ record self.old {
           link = self.new.link;
           read_faults = faults_after result self.old.read_faults;
@@ -207,7 +207,7 @@ impl<L: TimedLink> Source for BurstLink<L> {
     }
 }
 
-impl<L: TimedLink> Sink for BurstLink<L> {
+impl<L: CountedLink> Sink for BurstLink<L> {
     /// Writes through to the link.
     ///
     /// # Errors

@@ -3,9 +3,9 @@ ghost use Rattle.std.specs.Prelude.{IfErr};
 ghost use Rattle.modbus_burst.specs.Line.{IsOfNoBurst};
 
 use crate::device::LineDevice;
-use modbus_burst::{BurstLink, process_link};
+use modbus_burst::{BurstLink, CountedLink, process_link};
 use modbus_link::{
-    Connector, Link, ReadSource, TcpConnector, TerminalLink, TimedLink, TimedTcpLink, WriteSink,
+    Connector, Link, ReadSource, TcpConnector, TerminalLink, TimedTcpLink, WriteSink,
 };
 use modbus_server::ProcessError;
 use modbus_terminal::TerminalLine;
@@ -35,7 +35,7 @@ pub fn connect(rt: &HostRuntime, address: SocketAddr, silence: u64) -> Option<Ti
 ///
 /// # Errors
 /// Those of `modbus_burst::process_link`: a fault of the line, refused memory.
-pub fn serve<L: TimedLink + Drop>(
+pub fn serve<L: CountedLink + Drop>(
     alloc: Global,
     line: L,
     device: &mut LineDevice,
