@@ -53,7 +53,7 @@ def single_writes(count):
         else:
             pdu = b"\x06" + address + rtu.word(rng.randrange(0x10000))
         body = b"\x01" + pdu
-        yield body + rtu.crc(body).to_bytes(2, "little")
+        yield rtu.framed(body)
 
 
 def one_register(function):
@@ -64,7 +64,7 @@ def one_register(function):
         for _ in range(count):
             address = rtu.word(rng.randrange(rtu.TABLE))
             body = b"\x01" + bytes((function,)) + address + rtu.word(1)
-            yield body + rtu.crc(body).to_bytes(2, "little")
+            yield rtu.framed(body)
 
     return frames
 

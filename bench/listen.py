@@ -22,6 +22,9 @@ import time
 
 HERE = os.path.dirname(os.path.abspath(__file__))
 TOP = os.path.dirname(HERE)
+sys.path.insert(0, os.path.join(TOP, "tools"))
+from wire import free_port
+
 LOOP = os.path.join(TOP, "crates", "modbus_loop", "out", "modbus_loop")
 THREADS = os.path.join(TOP, "crates", "modbus", "out", "modbus")
 CONNECTIONS = (1, 8, 256, 1_000, 4_000)
@@ -44,11 +47,6 @@ def built(folder, place, *libraries):
     source = os.path.join(HERE, place + ".c")
     subprocess.run(["gcc", "-O2", "-Wall", "-o", program, source, *libraries], check=True)
     return program
-
-
-def free_port():
-    with socket.create_server(("127.0.0.1", 0)) as listener:
-        return listener.getsockname()[1]
 
 
 @contextlib.contextmanager

@@ -15,23 +15,13 @@ import tempfile
 import time
 
 TOP = os.path.dirname(os.path.dirname(os.path.abspath(__file__)))
+sys.path.insert(0, os.path.join(TOP, "tools"))
+from wire import framed
+
 PROGRAM = os.path.join(TOP, "crates", "modbus", "out", "modbus")
 FRAMES = 200_000
 SEED = 1
 TABLE = 1024
-
-
-def crc(data):
-    """CRC-16/MODBUS (MODBUS over Serial Line V1.02, section 6.2.2)."""
-    register = 0xFFFF
-    for byte in data:
-        register ^= byte
-        for _ in range(8):
-            low = register & 1
-            register >>= 1
-            if low:
-                register ^= 0xA001
-    return register
 
 
 def word(number):
@@ -58,7 +48,7 @@ def frames(count):
     rng = random.Random(SEED)
     for _ in range(count):
         body = b"\x01" + request(rng)
-        yield body + crc(body).to_bytes(2, "little")
+        yield framed(body)
 
 
 def resident(pid):
