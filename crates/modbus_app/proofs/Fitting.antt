@@ -3,7 +3,7 @@ use Rattle.std.proofs.Common.{◌≡◌, ℕ, ◌≤◌, List, [], ◌∷◌, le
 use Rattle.std.specs.Prelude.{All}
 use Rattle.std.proofs.lemmas.List.Elements.{All-cons, All-nil}
 use Rattle.modbus_frame.specs.Meaning.{Asked}
-use Rattle.modbus_pdu.specs.declared.limits.TheConstants.{MAX_PDU}
+use Rattle.modbus_pdu.specs.Limits.{max_pdu}
 use Rattle.modbus_pdu.specs.Message.{Message}
 use Rattle.modbus_service.specs.Outcome.{Outcome, reply_pdu, code_of}
 use Rattle.modbus_server.specs.Exchanges.{Exchange, GivesOutcome, Run, ReplyFits}
@@ -16,7 +16,7 @@ use Rattle.modbus_store.specs.Tables.{Tables}
 use Rattle.modbus_store.specs.Step.{device, store_step}
 
 -- where the store's answers fit
-module _ (answers_fit : (code : ℕ) (tables : Tables) (slave : ℕ) (request : Asked) → length (reply_pdu code (store_step tables slave request).0) ≤ MAX_PDU) where
+module _ (answers_fit : (code : ℕ) (tables : Tables) (slave : ℕ) (request : Asked) → length (reply_pdu code (store_step tables slave request).0) ≤ max_pdu) where
   pub each_fits : (F : Framing) (old new : Tables) (x : Exchange F) → GivesOutcome F device old x new → ReplyFits F x
   each_fits F old new x e = omega (arith, ap (λ (o : Outcome × Tables). length (reply_pdu (code_of x.request) o.0)) e, answers_fit (code_of x.request) old (F.slave x.header) x.request)
 

@@ -13,7 +13,7 @@ use Rattle.modbus_link.specs.Memory.{SourceState, SinkState, source_input, sink_
 use Rattle.modbus_link.specs.Outside.{Input, Output, Rose, bytes_appended}
 use Rattle.modbus_link.specs.Reads.{totals}
 use Rattle.modbus_link.specs.Runs.{RisesTo-count}
-use Rattle.modbus_pdu.specs.declared.limits.TheConstants.{MAX_PDU}
+use Rattle.modbus_pdu.specs.Limits.{max_pdu}
 use Rattle.modbus_pdu.specs.Laws.{IsInRange, IsReadable, ReadsBack, request_size}
 use Rattle.modbus_pdu.specs.RequestOf.{request_of}
 use Rattle.modbus_pdu.specs.RequestPdu.{request_pdu}
@@ -191,7 +191,7 @@ run_is tables end (request ∷ requests) (x ∷ xs) (next, step, rest) e =
 reply_short : (x : Exchange rtu) → ReplyFits rtu x → length (reply_of rtu x) ≤ 256
 reply_short x fits = by_outcome x.outcome fits
   where
-    by_outcome : (outcome : Outcome) → length (reply_pdu (code_of x.request) outcome) ≤ MAX_PDU → length (framed_outcome rtu x.header (code_of x.request) outcome) ≤ 256
+    by_outcome : (outcome : Outcome) → length (reply_pdu (code_of x.request) outcome) ≤ max_pdu → length (framed_outcome rtu x.header (code_of x.request) outcome) ≤ 256
     by_outcome silence fits = omega arith
     by_outcome (reply response) fits = omega (arith, length-frame x.header (reply_pdu (code_of x.request) (reply response)))
     by_outcome (exception code) fits = omega (arith, length-frame x.header (reply_pdu (code_of x.request) (exception code)))
@@ -235,7 +235,7 @@ abbrev pub RequestsAreQuiet : Type 0
 RequestsAreQuiet = (asked : List (ℕ × Asked)) → AllByRecursion (λ (one : ℕ × Asked). IsFramedAsk one.1) asked → IsQuietLine (stream_of (map message_of asked)) (map message_of asked)
 
 abbrev pub AnswersFit : Type 0
-AnswersFit = (code : ℕ) (tables : Tables) (slave : ℕ) (request : Asked) → length (reply_pdu code (store_step tables slave request).0) ≤ MAX_PDU
+AnswersFit = (code : ℕ) (tables : Tables) (slave : ℕ) (request : Asked) → length (reply_pdu code (store_step tables slave request).0) ≤ max_pdu
 
 pub record Laws : Type 0 where
   pub sizes : HaveSizes

@@ -7,7 +7,7 @@ ghost use Rattle.modbus_server.specs.Tcp.{tcp};
 ghost use Rattle.modbus_gateway.specs.Forwarded.{Forwarded};
 ghost use Rattle.modbus_client.specs.Connects.{connector_of};
 ghost use Rattle.modbus_app.specs.Ends.{EndsBy};
-ghost use Rattle.modbus_app.specs.Gateway.{ForwardsTo};
+ghost use Rattle.modbus_app.specs.Gateway.{ForwardsTo, ForwardsLent};
 ghost use Rattle.modbus_server.specs.Moment.{moment};
 
 use crate::status::{CONNECT_FAULT, CONNECT_LINE, report, report_fault, status};
@@ -17,7 +17,7 @@ use modbus_link::{Connector, Failed, Link, Sink, Source};
 use std::alloc::Global;
 use std::net::SocketAddr;
 
-/// Forwards the requests of one Modbus TCP connection to a line, and answers the status of how that ended, which it tells.
+/// Forwards the requests of one Modbus TCP connection by this client of a line, and answers the status of how that ended, which it tells.
 ///
 /// | Status | When |
 /// |---|---|
@@ -31,7 +31,7 @@ use std::net::SocketAddr;
 /// | 11 | memory was refused |
 ///
 /// A fault of the line has no status: it is told to the master by an exception.
-pub fn run_gateway<S: Source, K: Sink, L: Link + Send + Drop, E: Sink>(
+pub fn forward_client<S: Source, K: Sink, L: Link + Send + Drop, E: Sink>(
     alloc: Global,
     source: &mut S,
     sink: &mut K,
@@ -57,8 +57,31 @@ pub fn run_gateway<S: Source, K: Sink, L: Link + Send + Drop, E: Sink>(
     }
 }
 
-/// Makes a link to the line at this address, and forwards to it as `run_gateway` does, by a client that waits for each reply for as long as it
-/// takes.
+/// Attaches a client to the link of a line, which is lent, and forwards by it as `forward_client` does. The client waits for each reply for
+/// as long as the link takes, in `modbus_client::TURNS` reads that give bytes at most. The link is not shut down.
+pub fn run_gateway<S: Source, K: Sink, L: Link + Send, E: Sink>(
+    alloc: Global,
+    source: &mut S,
+    sink: &mut K,
+    link: &mut L,
+    errors: &mut E,
+) -> u8
+    ensures ends { ForwardsLent (meaning_of L.input L.output L.line) link.old
+        (outside (S.input source.old) (K.output sink.old))
+        (outside (S.input source.new) (K.output sink.new))
+        (E.output errors.old, E.output errors.new) result }
+    ensures complete { IsTrue (S.input source.old).told
+        → IsCleanLine tcp (S.input source.old).left → length (S.input source.old).left < 2 ^ 64 - 1
+        → (Rose (S.input source.old).faults (S.input source.new).faults → ⊥)
+        → (Rose (K.output sink.old).faults (K.output sink.new).faults → ⊥)
+        → (result ≡ 0) ⊎ (result ≡ 11) }
+{
+    let mut line = rtu::attach(alloc, link);
+    forward_client(alloc, source, sink, &mut line, errors)
+}
+
+/// Makes a link to the line at this address, and forwards to it as `forward_client` does, by a client that waits for each reply for as long
+/// as it takes.
 ///
 /// It answers 16 where the connector failed; then nothing was read or written, but for the line that tells it.
 pub(crate) fn forward_to<C: Connector, S: Source, K: Sink, E: Sink>(
@@ -80,7 +103,7 @@ where
     match connector.connect(line, None) {
         Ok(link) => {
             let mut client = rtu::attach(alloc, link);
-            run_gateway(alloc, source, sink, &mut client, errors)
+            forward_client(alloc, source, sink, &mut client, errors)
         }
         Err(Failed) => {
             report(errors, CONNECT_LINE);

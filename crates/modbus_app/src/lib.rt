@@ -18,7 +18,7 @@ mod watched;
 mod words;
 
 pub use crate::device::{open, open_shared};
-pub use crate::gateway::run_gateway;
+pub use crate::gateway::{forward_client, run_gateway};
 pub use crate::listen::run_listen;
 pub use crate::patient::{Keeper, PatientAcceptor};
 pub use crate::program::run;

@@ -38,7 +38,7 @@ fn push_output(text: &mut Text, output: &[u8]) {
 }
 
 /// What a run told.
-fn push_errors(text: &mut Text, errors: &[u8]) {
+pub fn push_errors(text: &mut Text, errors: &[u8]) {
     match std::str::from_utf8(errors) {
         Ok(found) => write!(text, "{found:?}"),
         Err(_) => text.push_str("no text"),
