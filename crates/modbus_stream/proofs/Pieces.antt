@@ -1,7 +1,8 @@
 -- The pieces of a stream: they are taken off one after another, and bytes are pieces and a rest in one way.
-use Rattle.std.proofs.Common.{◌≡◌, inl, inr, ℕ, ◌≤◌, List, [], ◌∷◌, ◌++◌, length, map, take, drop, refl, sym, ap, ◌∙◌, subst, arith, length-append, append-nil, append_assoc}
+use Rattle.std.proofs.Common.{◌≡◌, inl, inr, ℕ, ◌≤◌, List, [], ◌∷◌, ◌++◌, length, ◌+◌, ◌-◌, map, take, drop, refl, sym, ap, ◌∙◌, subst, arith, length-append, append-nil, append_assoc}
 use Rattle.std.specs.Prelude.{All}
-use Rattle.std.proofs.lemmas.List.{get_or_append_left, map-append, take-append-drop, take_at, drop_at}
+use lib.Seq.{paste}
+use Rattle.std.proofs.lemmas.List.{get_or_append_left, length-drop, take_all, map-append, take-append-drop, take_at, drop_at}
 use Rattle.std.proofs.lemmas.List.Elements.{All-append, All-cons, All-nil, All-head, All-tail}
 use Rattle.std.proofs.lemmas.Grind.{flat_map-append}
 use Rattle.modbus_frame.specs.declared.tcp.Header.{Header}
@@ -101,3 +102,11 @@ nothing_left read left messages before clean are partial =
     let all : stream_of are.pieces ++ left ≡ stream_of clean.pieces ++ [] = sym are.joined ∙ clean.joined in
     let first = first_pieces are.pieces clean.pieces left [] are.whole clean.whole all nothing_is_partial in
     none_partial left first.0 (whole_later are.pieces first.0 (subst (All IsPiece) first.1 clean.whole)) (first.2 ∙ append-nil (stream_of first.0)) partial
+
+-- what is left of bytes whose rest was moved to the front
+pub moved : (bytes : List ℕ) (count left : ℕ) → left ≡ length bytes - count → take left (paste bytes 0 (drop count bytes) (length bytes - count)) ≡ drop count bytes
+moved bytes count left e =
+    let rest = drop count bytes in
+    let size : length rest ≡ length bytes - count = length-drop count bytes in
+    let all : take (length bytes - count) rest ≡ rest = take_all (length bytes - count) rest (omega (arith, size)) in
+    ap (λ front. take left (front ++ drop (0 + (length bytes - count)) bytes)) all ∙ take_at rest (drop (0 + (length bytes - count)) bytes) left (size ∙ sym e)

@@ -37,6 +37,10 @@ IsShort held = length held < longest_adu
 abbrev pub read_room : ℕ
 read_room = longest_response
 
+-- how many bytes are ever held: less than the longest piece has, and a read
+abbrev pub most_held : ℕ
+most_held = longest_adu - 1 + read_room
+
 -- each read has the same room
 abbrev pub HasWholeRoom : List ℕ → ℕ → Type 0
 HasWholeRoom bytes room = room ≡ read_room
@@ -57,8 +61,8 @@ stream = record {
   room = λ held. read_room;
   longest_read = read_room;
   seam = 0;
-  most = longest_adu - 1 + read_room;
+  most = most_held;
   HasRoom = HasWholeRoom;
-  ReadsTakeMemory = Unit {0};
+  ReadsTakeMemory = ⊥;
   reply_room = longest_response;
 }

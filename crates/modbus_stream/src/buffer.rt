@@ -1,6 +1,7 @@
 //! The bytes that a server read and did not use yet, as a framing: pieces of a stream.
+ghost use Rattle.std.specs.Prelude.{◌≡◌, ◌-◌, ◌≤◌, length, drop, vec_capacity};
 ghost use Rattle.modbus_server.specs.declared.error.ProcessError.TheVariants.{TooManyRetries};
-ghost use Rattle.modbus_stream.specs.Framing.{stream};
+ghost use Rattle.modbus_stream.specs.Framing.{stream, most_held};
 
 use crate::piece::{first_end, message_in};
 use bytes::BytesMut;
@@ -8,16 +9,60 @@ use modbus_frame::tcp::Header;
 use modbus_frame::{EncodeError, ExceptionResponse, Front, PduError, Request, Response, SlaveId};
 use modbus_server::{Framing, NoFault, ProcessError};
 use modbus_standard::decode_any;
-use modbus_tcp::{LONGEST_RESPONSE, encode_response_adu};
+use modbus_tcp::{LONGEST_ADU, LONGEST_RESPONSE, encode_response_adu};
 use std::alloc::{AllocError, Global};
+use std::marker::Model;
 
 /// How many bytes a read has room for: as many as the longest ADU of a request has.
 const ROOM: usize = LONGEST_RESPONSE;
 
+/// How many bytes are ever held: less than the longest piece has, and a read.
+const MOST: usize = LONGEST_ADU - 1 + ROOM;
+
 /// The bytes that were fed and not used yet: less than a piece, once all whole ones are taken off.
+///
+/// Its room is taken as it is opened, for the longest piece that a header can tell, so a read takes no memory.
 #[derive(Drop)]
 pub struct StreamBuffer {
-    bytes: BytesMut,
+    bytes: Vec<u8>,
+    // how many of them were taken off
+    taken: usize,
+}
+
+/// A contract sees the bytes that are held.
+impl Model for StreamBuffer {
+    ghost use Rattle.std.specs.Prelude.{ℕ, ◌≤◌, List, length, drop, vec_capacity};
+    ghost use Rattle.modbus_stream.specs.Framing.{most_held};
+
+    ghost Value = { List ℕ };
+
+    ghost view = { λ it. drop it.taken it.bytes.items };
+
+    ghost invariant = { λ it. record {
+      within : it.taken ≤ length it.bytes.items;
+      room : most_held ≤ vec_capacity it.bytes;
+    } };
+}
+
+impl StreamBuffer {
+    /// The bytes that are held.
+    #[inline(always)]
+    fn bytes_held(&self) -> &[u8]
+        ensures { result.now ≡ self.now }
+    {
+        &self.bytes.as_slice()[self.taken..]
+    }
+}
+
+/// Takes so many bytes off the front of these, and moves the others there.
+fn drop_front(bytes: &mut Vec<u8>, count: usize)
+    requires { count ≤ length bytes.old.items }
+    ensures items { bytes.new.items ≡ drop count bytes.old.items }
+    ensures capacity { vec_capacity bytes.new ≡ vec_capacity bytes.old }
+{
+    let left = bytes.len() - count;
+    bytes.copy_within(count.., 0);
+    bytes.truncate(left);
 }
 
 impl Framing for StreamBuffer {
@@ -31,9 +76,9 @@ impl Framing for StreamBuffer {
 
     ghost told = { λ fault. TooManyRetries };
 
-    ghost held = { λ buffer. buffer.bytes.items };
+    ghost held = { λ buffer. buffer };
 
-    ghost free = { λ buffer. buffer.bytes.spare };
+    ghost free = { λ buffer. most_held - length buffer };
 
     fn tell(_fault: NoFault) -> ProcessError {
         ProcessError::TooManyRetries
@@ -72,17 +117,18 @@ impl Framing for StreamBuffer {
 
     fn open(alloc: Global) -> Result<StreamBuffer, AllocError> {
         Ok(StreamBuffer {
-            bytes: BytesMut::new(alloc),
+            bytes: Vec::with_capacity(alloc, MOST)?,
+            taken: 0,
         })
     }
 
     fn is_empty(&self) -> bool {
-        self.bytes.is_empty()
+        self.bytes_held().is_empty()
     }
 
     #[inline(always)]
     fn front<'a>(&'a self, _seam: &'a mut [u8]) -> Result<Front<'a, Header>, NoFault> {
-        let held = self.bytes.as_slice();
+        let held = self.bytes_held();
         match first_end(held) {
             None => Ok(Front::Waiting { dropped: 0 }),
             Some(end) => {
@@ -93,7 +139,11 @@ impl Framing for StreamBuffer {
     }
 
     fn advance(&mut self, count: usize) {
-        self.bytes.advance(count);
+        self.taken += count;
+        if self.taken == self.bytes.len() {
+            self.bytes.clear();
+            self.taken = 0;
+        }
     }
 
     fn room(&self) -> usize {
@@ -101,11 +151,15 @@ impl Framing for StreamBuffer {
     }
 
     fn make_room(&mut self, _alloc: Global) -> Result<(), AllocError> {
-        self.bytes.reserve(ROOM)
+        Ok(())
     }
 
     fn append(&mut self, piece: &[u8]) {
-        self.bytes.extend_reserved(piece);
+        if self.bytes.len() + piece.len() > MOST {
+            drop_front(&mut self.bytes, self.taken);
+            self.taken = 0;
+        }
+        let _ = self.bytes.extend_from_slice(piece);
     }
 
     fn laws() {}
