@@ -23,9 +23,7 @@ pub use crate::listen::run_listen;
 pub use crate::patient::{Keeper, PatientAcceptor};
 pub use crate::program::run;
 pub use crate::services::{Services, StoreServices};
-pub use crate::status::{
-    NO_MEMORY, USAGE_LINE, report, report_fault,
-};
+pub use crate::status::{NO_MEMORY, USAGE_LINE, report, report_fault};
 pub use crate::turning::TurningSpawner;
 pub use crate::watched::{WatchedAcceptor, WatchedLink};
 pub use crate::words::{Form, Framing, Mode, Task, forwarding, listening, read_words};
