@@ -1,7 +1,7 @@
 //! The units of the device.
 
 use modbus_command::{FAILED, USAGE};
-use modbus_diagnostics::Port;
+use modbus_diagnostics::{Port, PortError};
 use modbus_frame::{ExceptionCode, SlaveId};
 use modbus_identity::{Identified, Identity, IdentityError};
 use modbus_service::{OnlyUnit, Units, UnitsError};
@@ -59,6 +59,15 @@ impl From<UnitsError> for OpenError {
         match error {
             UnitsError::OutOfRange(unit) => OpenError::Unit(unit),
             UnitsError::Twice(unit) => OpenError::Twice(unit),
+        }
+    }
+}
+
+impl From<PortError> for OpenError {
+    fn from(error: PortError) -> OpenError {
+        match error {
+            PortError::BadUnits(wrong) => OpenError::from(wrong),
+            PortError::NoRoom => OpenError::NoMemory,
         }
     }
 }
@@ -142,12 +151,8 @@ fn open_unit(alloc: Global, plan: &Plan<'_>) -> Result<Unit, OpenError> {
     })
 }
 
-/// The units of a device, each with four tables of zeros. They are silent to a request for any other, or tell that it is not there by the
-/// exception 0B.
-///
-/// # Errors
-/// The first address that is no unit's or stands twice, a number of entries out of range, a text that is too long, or refused memory.
-pub fn open(alloc: Global, plan: &Plan<'_>) -> Result<Device, OpenError> {
+/// The units of a device, each with four tables of zeros.
+fn open_units(alloc: Global, plan: &Plan<'_>) -> Result<Vec<OnlyUnit<Unit>>, OpenError> {
     let mut units = Vec::new(alloc);
     for address in plan.units {
         units.push(OnlyUnit {
@@ -155,10 +160,33 @@ pub fn open(alloc: Global, plan: &Plan<'_>) -> Result<Device, OpenError> {
             service: open_unit(alloc, plan)?,
         })?;
     }
-    let absent = if plan.tells_absent {
-        Some(ExceptionCode::GatewayTargetDevice)
-    } else {
-        None
-    };
-    Ok(Units::new(units, absent)?)
+    Ok(units)
+}
+
+impl Plan<'_> {
+    /// The answer to a request for a unit that is not there.
+    fn absent(&self) -> Option<ExceptionCode> {
+        if self.tells_absent {
+            Some(ExceptionCode::GatewayTargetDevice)
+        } else {
+            None
+        }
+    }
+}
+
+/// The units of a device, each with four tables of zeros. They are silent to a request for any other, or tell that it is not there by the
+/// exception 0B.
+///
+/// # Errors
+/// The first address that is no unit's or stands twice, a number of entries out of range, a text that is too long, or refused memory.
+pub fn open(alloc: Global, plan: &Plan<'_>) -> Result<Device, OpenError> {
+    Ok(Units::new(open_units(alloc, plan)?, plan.absent())?)
+}
+
+/// The same units on a serial line, whose port has heard nothing.
+///
+/// # Errors
+/// Those of `open`.
+pub fn open_line(alloc: Global, plan: &Plan<'_>) -> Result<LineDevice, OpenError> {
+    Ok(Port::new(alloc, open_units(alloc, plan)?, plan.absent())?)
 }

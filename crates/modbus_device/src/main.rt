@@ -10,11 +10,11 @@ mod listen;
 mod words;
 
 use clap::ArgMatches;
-use device::{Device, LineDevice, Plan, open};
+use device::{Device, LineDevice, OpenError, Plan, open, open_line};
 use mio::net::TcpListener;
 use modbus_command::{FAILED, say, words_of};
-use modbus_diagnostics::Port;
 use modbus_server::ProcessError;
+use std::alloc::Global;
 use std::net::SocketAddr;
 use std::process::ExitCode;
 use words::{Place, Task};
@@ -49,20 +49,6 @@ fn serve_stream(
     }
 }
 
-/// Serves the serial line that the words name; the status.
-fn serve_line(rt: &HostRuntime, task: Task, device: Device) -> u8 {
-    let Task {
-        place,
-        units,
-        entries: _,
-    } = task;
-    let mut device = Port::new(units, device);
-    match place {
-        Place::Stream(address, silence) => serve_stream(rt, address, silence, &mut device),
-        _ => ended(rt, line::serve(rt.alloc(), line::terminal(rt), &mut device)),
-    }
-}
-
 /// The listener at an address, which is told; none where the system refuses it.
 fn bind(rt: &HostRuntime, address: SocketAddr) -> Option<TcpListener> {
     let listener = TcpListener::bind(rt, address).ok()?;
@@ -81,16 +67,33 @@ fn read_task(rt: &HostRuntime, matches: &ArgMatches<'_>) -> Result<Task, u8> {
     }
 }
 
+/// What was opened to be served.
+enum Opened {
+    /// The units behind a port of Modbus TCP at this address.
+    Port(SocketAddr, Device),
+    /// The units on the serial line at this place.
+    Line(Place, LineDevice),
+}
+
+/// The units that a task asks for, where they are reached.
+fn open_place(alloc: Global, place: Place, plan: &Plan<'_>) -> Result<Opened, OpenError> {
+    Ok(match place {
+        Place::Port(address) => Opened::Port(address, open(alloc, plan)?),
+        _ => Opened::Line(place, open_line(alloc, plan)?),
+    })
+}
+
 /// The units that the words ask for; or the status where there are none, which is told.
-fn open_units(rt: &HostRuntime, matches: &ArgMatches<'_>, task: &Task) -> Result<Device, u8> {
+fn open_matched(rt: &HostRuntime, matches: &ArgMatches<'_>) -> Result<Opened, u8> {
+    let task = read_task(rt, matches)?;
     let plan = Plan {
         units: task.units.as_slice(),
         entries: task.entries,
         texts: words::texts_of(matches),
         tells_absent: matches.get_flag("absent"),
     };
-    match open(rt.alloc(), &plan) {
-        Ok(device) => Ok(device),
+    match open_place(rt.alloc(), task.place, &plan) {
+        Ok(opened) => Ok(opened),
         Err(error) => {
             let _ = eprintln!(rt; "modbus_device: {error}");
             Err(error.status())
@@ -98,18 +101,19 @@ fn open_units(rt: &HostRuntime, matches: &ArgMatches<'_>, task: &Task) -> Result
     }
 }
 
-/// What was asked for, and the units.
-fn open_matched(rt: &HostRuntime, matches: &ArgMatches<'_>) -> Result<(Task, Device), u8> {
-    let task = read_task(rt, matches)?;
-    let device = open_units(rt, matches, &task)?;
-    Ok((task, device))
-}
-
-/// What the words ask for, and the units; or the status, which is told.
-fn open_task(rt: &HostRuntime, words: &[String]) -> Result<(Task, Device), u8> {
+/// What the words ask for; or the status, which is told.
+fn open_task(rt: &HostRuntime, words: &[String]) -> Result<Opened, u8> {
     match words::parse(rt.alloc(), words) {
         Ok(matches) => open_matched(rt, &matches),
         Err(error) => Err(say(rt, PROGRAM, &error)),
+    }
+}
+
+/// Serves the serial line at this place; the status.
+fn serve_line(rt: &HostRuntime, place: Place, mut device: LineDevice) -> u8 {
+    match place {
+        Place::Stream(address, silence) => serve_stream(rt, address, silence, &mut device),
+        _ => ended(rt, line::serve(rt.alloc(), line::terminal(rt), &mut device)),
     }
 }
 
@@ -118,12 +122,10 @@ fn main(rt: HostRuntime) -> ExitCode {
         Ok(words) => words,
         Err(status) => return ExitCode::from(status),
     };
-    let (task, device) = match open_task(&rt, words.as_slice()) {
-        Ok(opened) => opened,
+    let (address, device) = match open_task(&rt, words.as_slice()) {
+        Ok(Opened::Port(address, device)) => (address, device),
+        Ok(Opened::Line(place, device)) => return ExitCode::from(serve_line(&rt, place, device)),
         Err(status) => return ExitCode::from(status),
-    };
-    let Place::Port(address) = task.place else {
-        return ExitCode::from(serve_line(&rt, task, device));
     };
     let Some(listener) = bind(&rt, address) else {
         let _ = eprintln!(rt; "modbus_device: no listener at {address}");

@@ -1,3 +1,4 @@
+pub mod Addresses
 pub mod Tally
 pub mod Runs
 pub mod Noise

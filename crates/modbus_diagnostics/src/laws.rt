@@ -2,7 +2,7 @@
 ghost use Rattle.std.specs.Prelude.{◌≡◌, ℕ, List, [], ◌∷◌, true, false};
 ghost use Rattle.modbus_standard.specs.Unread.{any_request_of};
 ghost use Rattle.modbus_diagnostics.specs.Heard.{is_noise};
-ghost use Rattle.modbus_diagnostics.specs.Port.{CountsAll, TellsCounts, PortRuns};
+ghost use Rattle.modbus_diagnostics.specs.Port.{AddressesStay, CountsAll, TellsCounts, PortRuns};
 
 use modbus_service::Answerer;
 
@@ -16,6 +16,11 @@ pub fn counters_are_counts<H, S: Answerer>()
 /// A run of a port is a run of its service over the messages that do not ask the port itself, in order, with the same answers.
 pub fn port_runs<H, S: Answerer>()
     ensures { PortRuns H S.answering }
+{}
+
+/// The units behind a port keep their addresses, so that a port which was made of units counts for exactly these in each run.
+pub fn addresses_stay<H, S: Answerer>()
+    ensures { AddressesStay H S.answering }
 {}
 
 /// What stands where a PDU is asks as noise exactly where there is no byte of it.

@@ -12,5 +12,5 @@ mod query;
 
 pub use crate::counters::{Counters, Ended};
 pub use crate::heard::Heard;
-pub use crate::port::Port;
+pub use crate::port::{Port, PortError};
 pub use crate::query::Query;

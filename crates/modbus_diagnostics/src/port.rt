@@ -1,42 +1,99 @@
 //! A port: what hears a line, counts, and answers for its counters.
-ghost use Rattle.std.specs.Prelude.{◌≡◌};
+ghost use Rattle.std.specs.Prelude.{◌≡◌, IfOk};
 ghost use Rattle.modbus_frame.specs.Meaning.{meaning};
 ghost use Rattle.modbus_service.specs.Answering.{Keeps};
-ghost use Rattle.modbus_diagnostics.specs.Counters.{zeros};
-ghost use Rattle.modbus_diagnostics.specs.Port.{told_end, counted_when, hearing, port_answering};
+ghost use Rattle.modbus_diagnostics.specs.Port.{addresses_of, MakesPort, told_end, counted_when, hearing, port_answering};
 
 use crate::counters::{Counters, Ended};
 use crate::heard::{Heard, hear};
 use crate::query::reply;
-use modbus_frame::{Response, SlaveId, SlaveRequest};
-use modbus_service::{Answerer, ServiceError};
-use std::alloc::Global;
+use modbus_frame::{ExceptionCode, Response, SlaveId, SlaveRequest};
+use modbus_service::{Answerer, OnlyUnit, ServiceError, Units, UnitsError};
+use std::alloc::{AllocError, Global};
+use std::marker::Model;
+
+/// Why there is no port.
+#[derive(Clone, Copy, Debug, PartialEq, Eq)]
+pub enum PortError {
+    /// The addresses of its units are not those of single devices, or not distinct.
+    BadUnits(UnitsError),
+    /// Memory was refused.
+    NoRoom,
+}
 
 /// A port of a serial line: it counts what its line brings, and answers what asks one of its units for that (section 6.8).
 ///
 /// Its service is asked each message but those, also the ones for other devices, and is silent to these as `Units` is.
 #[derive(Drop)]
 pub struct Port<S> {
-    /// The addresses of its units.
-    pub units: Vec<SlaveId>,
-    /// What answers all else.
-    pub service: S,
-    /// What it has counted.
-    pub counters: Counters,
+    // the addresses of its units
+    units: Vec<SlaveId>,
+    // what answers all else
+    service: S,
+    // what it has counted
+    counters: Counters,
+}
+
+/// A contract sees the addresses of its units, its service, and what it has counted.
+impl<S> Model for Port<S> {
+    ghost use Rattle.modbus_diagnostics.specs.Port.{PortState};
+
+    ghost Value = { PortState S };
+
+    ghost view = { λ it. record { units = it.units.items; service = it.service; counters = it.counters } };
+}
+
+/// The addresses of these units.
+fn addresses_of<S>(alloc: Global, units: &[OnlyUnit<S>]) -> Result<Vec<SlaveId>, AllocError>
+    ensures { IfOk result (λ list. list.items ≡ addresses_of units.now) }
+{
+    let mut addresses = Vec::new(alloc);
+    for it in units {
+        addresses.push(it.unit)?;
+    }
+    Ok(addresses)
+}
+
+impl<S: Drop> Port<Units<S>> {
+    /// A port that has heard nothing, of these units: what is for one of them or for all is for the port, and nothing else is. `absent`
+    /// is the exception for an address that no unit has, or silence, as on a line that is shared.
+    ///
+    /// # Errors
+    /// The first address that is out of range, or that an earlier unit has too; or refused memory.
+    pub fn new(
+        alloc: Global,
+        units: Vec<OnlyUnit<S>>,
+        absent: Option<ExceptionCode>,
+    ) -> Result<Port<Units<S>>, PortError>
+        ensures { MakesPort units.items absent result }
+    {
+        let Ok(addresses) = addresses_of(alloc, &units) else {
+            return Err(PortError::NoRoom);
+        };
+        match Units::new(units, absent) {
+            Ok(service) => Ok(Port {
+                units: addresses,
+                service,
+                counters: Counters::zero(),
+            }),
+            Err(error) => Err(PortError::BadUnits(error)),
+        }
+    }
 }
 
 impl<S> Port<S> {
-    /// A port with these units that has heard nothing.
-    pub fn new(units: Vec<SlaveId>, service: S) -> Port<S>
-        ensures units { result.units ≡ units }
-        ensures service { result.service ≡ service }
-        ensures counters { result.counters ≡ zeros }
+    /// The addresses of its units.
+    pub fn units(&self) -> &[SlaveId]
+        ensures { result.now ≡ self.now.units }
     {
-        Port {
-            units,
-            service,
-            counters: Counters::zero(),
-        }
+        &self.units
+    }
+
+    /// What it has counted.
+    pub fn counters(&self) -> Counters
+        ensures { result ≡ self.now.counters }
+    {
+        self.counters
     }
 }
 
@@ -94,7 +151,8 @@ impl<S: Answerer> Answerer for Port<S> {
     ) -> Result<Option<Response>, ServiceError> {
         let heard = hear(&self.units, &request);
         let told = tell(&mut self.service, alloc, self.counters, heard, request);
-        self.counters = after_told(self.counters, heard, &told);
+        let counters = after_told(self.counters, heard, &told);
+        self.counters = counters;
         told
     }
 }

@@ -1,0 +1,6 @@
+use Rattle.std.proofs.Common.{◌≡◌, take}
+use Rattle.modbus_diagnostics.specs.Port.{addresses_of}
+use Rattle.modbus_diagnostics.proofs.port.addresses_of.Given as goal
+
+abbrev pub invariant-loop-it : goal.invariant-loop-it
+invariant-loop-it g l = l.addresses.items ≡ addresses_of (take l.it-index l.units)
