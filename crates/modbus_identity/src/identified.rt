@@ -35,6 +35,9 @@ fn asks_of(request: &Request<'_>) -> Asks
 ///
 /// A stream of objects has as many as fit a response, and says where to go on. An object that is not there is told as exception 02 where it
 /// was asked for alone; a stream then begins at its first object.
+///
+/// On a line that is shared it stands behind the address of its unit: over an `OnlyUnit` it would answer for all devices, and that is no
+/// `Service`, so that order has no type. It stands behind `StandardAnswers`, which has answered what can't be read.
 #[derive(Drop)]
 pub struct Identified<S> {
     /// What it says of itself.

@@ -78,6 +78,10 @@ pub fn unread_request(request: &Request<'_>) -> Option<Unread>
 /// (Modbus Application Protocol V1.1b3, section 6): 01 for function code 0 or a MEI type that is not known, 03 for a value, a count or a
 /// length that doesn't fit. What is no PDU, or has the function code of an exception, is not answered. A function code without a layout of
 /// its own is the service's to answer, with 01 where it doesn't know it.
+///
+/// On a line that is shared it stands behind the address of its unit, as `OnlyUnit { unit, service: StandardAnswers { .. } }`: over one it
+/// would tell the exceptions of what is for other devices. `OnlyUnit` is no `Service`, so that order has no type. What says what the device
+/// is (`Identified`) stands behind it, so that it is asked for what can be read alone.
 #[derive(Drop)]
 pub struct StandardAnswers<S> {
     /// What answers the requests that could be read.

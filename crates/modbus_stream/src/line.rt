@@ -57,8 +57,8 @@ pub fn process_link<L: Source + Sink, V: Answerer>(
 /// - `BytesRemaining`: the input ended within a piece.
 /// - `ResponseTooLong`: the service answered a response whose PDU has this many bytes, more than 253.
 /// - `TurnLimit`: `turns` reads gave bytes, and all that they allow was answered.
-/// - `NoMemory`: memory was refused: as the connection was opened, for a request that carries a list or that has no layout of its own, or in
-///   the service. A read and a reply take none.
+/// - `NoMemory`: memory was refused: as the connection was opened, for a request that carries a list or that has no layout of its own,
+///   or in the service. A read and a reply take none.
 ///
 /// `TooManyRetries`, `InvalidRequest`, `InvalidLength` and `InvalidProtocol` never come, whatever a client sends. After any error but
 /// `WriteFault`, each reply to a request before the failing place was written whole.
