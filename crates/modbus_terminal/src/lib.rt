@@ -69,9 +69,9 @@ impl<'r, R: Clock, I: Read, O: Write> Ends for TerminalLine<'r, R, I, O> {
 impl<'r, R: Clock, I: Read, O: Write> PolledLink for TerminalLine<'r, R, I, O> {
     ghost not_ready = { λ line. line.silences };
 
-    /// Reads what the terminal has. A read that gives no byte is the end of the line where it took less than 20 milliseconds by the clock, as
-    /// that of a port does whose converter was pulled out, or of a pipe that was closed; else it is a silence, also where the clock can't be
-    /// read.
+    /// Reads what the terminal has. A read that gives no byte is the end of the line where it took less than 20 milliseconds by the clock,
+    /// as that of a port does whose converter was pulled out, or of a pipe that was closed; else it is a silence, also where the clock
+    /// can't be read.
     ///
     /// # Errors
     /// `Failed` where the reader failed.

@@ -1,7 +1,7 @@
 //! One read of a terminal, and how long it took.
 //!
-//! A reading of the clock is made in one way and is never copied. A read takes the reading before it, and gives its answer with it; only then
-//! comes the one after it. So no other readings than those around a read stand beside its answer.
+//! A reading of the clock is made in one way and is never copied. A read takes the reading before it, and gives its answer with it; only
+//! then comes the one after it. So no other readings than those around a read stand beside its answer.
 ghost use Rattle.std.specs.Prelude.{◌≡◌, ◌<◌, ◌≤◌, length, IfOk};
 ghost use Rattle.std.specs.Io.{ReadsAtMost};
 ghost use Rattle.modbus_link.specs.Polled.{at_once};
