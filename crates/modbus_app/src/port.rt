@@ -53,7 +53,7 @@ pub struct PortKeeper<'r, R, N> {
     rt: &'r R,
     listener: TcpListener,
     notes: N,
-    program: &'static str,
+    program: &'r str,
     is_full: bool,
     is_faulty: bool,
 }
@@ -72,7 +72,7 @@ impl<'r, R, N> PortKeeper<'r, R, N> {
         rt: &'r R,
         listener: TcpListener,
         notes: N,
-        program: &'static str,
+        program: &'r str,
     ) -> PortKeeper<'r, R, N> {
         PortKeeper {
             rt,

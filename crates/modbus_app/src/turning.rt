@@ -12,17 +12,17 @@ const NO_THREAD: &str = ": no thread, peers are turned away\n";
 /// A spawner over another. Where that one can't start a worker, the worker is dropped with its link, which turns the peer away, and is
 /// counted. The first of several in a row is told by a line on `notes`.
 #[derive(Drop)]
-pub struct TurningSpawner<P, N> {
+pub struct TurningSpawner<'p, P, N> {
     spawner: P,
     notes: N,
-    program: &'static str,
+    program: &'p str,
     taken: u64,
     turned: u64,
     is_told: bool,
 }
 
 /// What a contract knows of it is the spawner below, and its counts.
-impl<P, N> Model for TurningSpawner<P, N> {
+impl<'p, P, N> Model for TurningSpawner<'p, P, N> {
     ghost use Rattle.modbus_app.specs.TurnsAway.{TurningState};
 
     ghost Value = { TurningState P };
@@ -30,9 +30,9 @@ impl<P, N> Model for TurningSpawner<P, N> {
     ghost view = { λ it. record { spawner = it.spawner; taken = it.taken; turned = it.turned } };
 }
 
-impl<P, N> TurningSpawner<P, N> {
+impl<'p, P, N> TurningSpawner<'p, P, N> {
     /// A spawner over this one that was given nothing. What it tells on `notes` begins with the name of the program.
-    pub fn new(spawner: P, notes: N, program: &'static str) -> TurningSpawner<P, N>
+    pub fn new(spawner: P, notes: N, program: &'p str) -> TurningSpawner<'p, P, N>
         ensures { result ≡ record { spawner = spawner; taken = 0; turned = 0 } }
     {
         TurningSpawner {
@@ -46,7 +46,7 @@ impl<P, N> TurningSpawner<P, N> {
     }
 }
 
-impl<W: Worker, P: Spawner<W>, N: Sink> Spawner<W> for TurningSpawner<P, N> {
+impl<'p, W: Worker, P: Spawner<W>, N: Sink> Spawner<W> for TurningSpawner<'p, P, N> {
     ghost faults = { λ _. 0 };
 
     ghost started = { λ it. it.taken };
