@@ -1,10 +1,14 @@
 //! Polls, once or again and again.
+ghost use Rattle.std.specs.Prelude.{map, IfOk};
+ghost use Rattle.modbus_poll.specs.Inputs.{AsksInputs};
+ghost use Rattle.modbus_poll.specs.Polls.{AsksClient, GivesValues};
+ghost use Rattle.modbus_poller.specs.Tables.{PollsTables};
 
 use crate::device::{DeviceClient, circumstances, client_of};
 use crate::fault::{Circumstances, NoAnswer, OtherCount, Refused, registers};
 use crate::lines::{csv_header, csv_line, in_order, json_line, table_lines};
 use crate::wanted::{Format, PollTask};
-use modbus_client::Client;
+use modbus_client::{Client, Reader};
 use modbus_frame::{Error, TransportError};
 use modbus_poll::{Point, PollError, Read, Table, Value};
 use modbus_reconnect::Resend;
@@ -61,11 +65,14 @@ impl fmt::Display for ItemsOf<'_, '_> {
 }
 
 /// The values of the items in holding registers.
-fn read_holding(
+fn read_holding<R: Reader>(
     alloc: Global,
-    client: &mut DeviceClient<'_>,
+    client: &mut R,
     wanted: &PollTask<'_, '_>,
-) -> Result<Vec<Value>, Trouble> {
+) -> Result<Vec<Value>, Trouble>
+    ensures { IfOk result (λ values. GivesValues (AsksClient R.Client.answers) client.old
+        wanted.now.holding.plan wanted.now.holding.items.items values.items client.new) }
+{
     match wanted.holding.poll(alloc, client) {
         Ok(values) => Ok(values),
         Err(error) => Err(Trouble {
@@ -76,11 +83,14 @@ fn read_holding(
 }
 
 /// The values of the items in input registers.
-fn read_input(
+fn read_input<R: Reader>(
     alloc: Global,
-    client: &mut DeviceClient<'_>,
+    client: &mut R,
     wanted: &PollTask<'_, '_>,
-) -> Result<Vec<Value>, Trouble> {
+) -> Result<Vec<Value>, Trouble>
+    ensures { IfOk result (λ values. GivesValues (AsksInputs R.Client.answers) client.old
+        wanted.now.input.plan wanted.now.input.items.items values.items client.new) }
+{
     match wanted.input.poll_inputs(alloc, client) {
         Ok(values) => Ok(values),
         Err(error) => Err(Trouble {
@@ -90,12 +100,16 @@ fn read_input(
     }
 }
 
-/// The values of the items, in their order.
-fn read_values(
+/// The values of the items, in their order, each by the reads of its own table.
+fn read_values<R: Reader>(
     alloc: Global,
-    client: &mut DeviceClient<'_>,
+    client: &mut R,
     wanted: &PollTask<'_, '_>,
-) -> Result<Vec<Value>, Trouble> {
+) -> Result<Vec<Value>, Trouble>
+    ensures { IfOk result (λ values. PollsTables (AsksClient R.Client.answers)
+        (AsksInputs R.Client.answers) client.old wanted.now.holding wanted.now.input
+        (map (λ point. point.table) wanted.now.points.items) values.items client.new) }
+{
     let holding = read_holding(alloc, client, wanted)?;
     let input = read_input(alloc, client, wanted)?;
     match in_order(alloc, wanted.points.as_slice(), holding, input) {

@@ -1,23 +1,38 @@
-//! Writes of registers and coils.
+//! Writes of registers and coils. None is ever sent twice: where its answer is late, nobody can tell whether the device did it.
+ghost use Rattle.std.specs.Prelude.{◌≡◌};
 
 use crate::device::{Device, DeviceClient, circumstances, client_of};
 use crate::fault::{NoAnswer, Refused};
 use crate::wanted::WriteTask;
 use modbus_client::{Client, Writer};
 use modbus_frame::{Coil, Result, Word};
+use modbus_reconnect::Resend;
 use std::io;
 use std::time::Instant;
 
-/// Writes one register by function code 06, several by 16 (V1.1b3, sections 6.6 and 6.12).
-fn write_registers(client: &mut DeviceClient<'_>, wanted: &WriteTask<Word>) -> Result<()> {
+/// Lets each call make one try from then on.
+fn allow_one_try(client: &mut DeviceClient<'_>)
+    ensures { client.new ≡ record client.old { retries = 0; resend = Resend.Never } }
+{
+    client.set_retries(0, Resend::Never);
+}
+
+/// Writes one register by function code 06, several by 16 (V1.1b3, sections 6.6 and 6.12), in one try.
+fn write_registers(client: &mut DeviceClient<'_>, wanted: &WriteTask<Word>) -> Result<()>
+    ensures { client.new.tries ≡ 1 }
+{
+    allow_one_try(client);
     match wanted.values.as_slice() {
         [value] => client.write_single_register(wanted.first, *value),
         values => client.write_multiple_registers(wanted.first, values),
     }
 }
 
-/// Writes one coil by function code 05, several by 15 (V1.1b3, sections 6.5 and 6.11).
-fn write_coils(client: &mut DeviceClient<'_>, wanted: &WriteTask<Coil>) -> Result<()> {
+/// Writes one coil by function code 05, several by 15 (V1.1b3, sections 6.5 and 6.11), in one try.
+fn write_coils(client: &mut DeviceClient<'_>, wanted: &WriteTask<Coil>) -> Result<()>
+    ensures { client.new.tries ≡ 1 }
+{
+    allow_one_try(client);
     match wanted.values.as_slice() {
         [state] => client.write_single_coil(wanted.first, *state),
         states => client.write_multiple_coils(wanted.first, states),

@@ -1,5 +1,6 @@
 //! What is watched of a device: its reads, and what was seen last of each item.
-ghost use Rattle.std.specs.Prelude.{◌≡◌, ◌≢◌, ◌++◌, Some, OnOk};
+ghost use Rattle.std.specs.Prelude.{◌≡◌, ◌≢◌, ◌⊎◌, ◌++◌, length, Some, OnOk};
+ghost use Rattle.modbus_supervisor.specs.Reads.{GivesPoint, value_seen};
 ghost use Rattle.modbus_supervisor.specs.SeenLine.{seen_line};
 
 use crate::lines::{Label, away_line, back_line, changed_line, refused_line};
@@ -54,6 +55,33 @@ impl WatchedItem<'_> {
         lines.extend_from_slice(line.as_slice())?;
         self.seen = Some(seen);
         Ok(())
+    }
+
+    /// Takes its value from the words of the read at a place, where that read is its own and is of its table; else nothing is seen of it.
+    fn take_value(
+        &mut self,
+        alloc: Global,
+        device: Label<'_>,
+        place: usize,
+        read: &TableRead,
+        words: &[Word],
+        lines: &mut Vec<u8>,
+    ) -> Result<(), AllocError>
+        ensures own { self.old.read ≡ place → GivesPoint read.now self.old.point
+            → length words.now ≡ read.now.read.count
+            → OnOk result (self.new ≡ record self.old {
+              seen = Some (Seen.Value (value_seen read.now words.now self.old.point));
+            }) }
+        ensures another { (self.old.read ≢ place) ⊎ (GivesPoint read.now self.old.point → ⊥)
+            → OnOk result ((self.new ≡ self.old) × (lines.new.items ≡ lines.old.items)) }
+    {
+        if self.read != place || !read.gives(&self.point) {
+            return Ok(());
+        }
+        match value_in(alloc, &read.read, words, &self.point.item)? {
+            Some(value) => self.see(alloc, device, Seen::Value(value), lines),
+            None => Ok(()),
+        }
     }
 }
 
@@ -184,12 +212,7 @@ impl<'l> Watched<'l> {
         lines: &mut Vec<u8>,
     ) -> Result<(), AllocError> {
         for item in self.items.iter_mut() {
-            if item.read != self.place {
-                continue;
-            }
-            if let Some(value) = value_in(alloc, &read.read, words, &item.point.item)? {
-                item.see(alloc, self.label, Seen::Value(value), lines)?;
-            }
+            item.take_value(alloc, self.label, self.place, &read, words, lines)?;
         }
         self.place = self.place.saturating_add(1);
         Ok(())
