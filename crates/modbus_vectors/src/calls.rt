@@ -5,8 +5,8 @@
 use crate::text::Text;
 use crate::word::Word;
 use crate::{
-    clients, codecs, connecting, faults, gateway, listeners, one_call, pdus, polls, program,
-    reconnect, servers, store, typed, units, values,
+    clients, codecs, connecting, context, faults, gateway, listeners, one_call, passes, pdus,
+    polls, program, reconnect, servers, store, typed, units, values,
 };
 use std::sync::Wait;
 
@@ -29,7 +29,8 @@ fn answer_over_links(text: &mut Text, call: &str, words: &[Word]) -> bool {
         "rtu_call" | "rtu_lent" | "tcp_call" | "matching_call" => {
             clients::answer(text, call, words)
         }
-        "tcp_connect" => connecting::answer(text, words),
+        "tcp_attach" => clients::answer_attached(text, words),
+        "tcp_connect" | "matching_connect" => connecting::answer(text, call, words),
         "rtu_polled" | "tcp_polled" | "matching_polled" => one_call::answer(text, call, words),
         "exchange_words" => one_call::answer_exchange(text, words),
         _ => false,
@@ -40,6 +41,7 @@ fn answer_over_links(text: &mut Text, call: &str, words: &[Word]) -> bool {
 fn answer_clients(text: &mut Text, call: &str, words: &[Word]) -> bool {
     match call {
         "typed" => typed::answer(text, words),
+        "context" | "context_poll" => context::answer(text, call, words),
         _ if call.starts_with("gateway") => gateway::answer(text, call, words),
         _ if call.starts_with("reconnect") => reconnect::answer(text, call, words),
         _ => answer_over_links(text, call, words),
@@ -47,9 +49,13 @@ fn answer_clients(text: &mut Text, call: &str, words: &[Word]) -> bool {
 }
 
 /// The calls of servers and listeners.
-fn answer_servers<R: Wait>(rt: &R, text: &mut Text, call: &str, words: &[Word]) -> bool {
+fn answer_servers<R: Wait + Sync>(rt: &R, text: &mut Text, call: &str, words: &[Word]) -> bool {
     match call {
         "serve_singles" => servers::answer_by_bytes(text, words),
+        "serve_forever" => servers::answer_forever(text, words),
+        "run_listen" => listeners::answer_shared(rt, text, words),
+        "listen_not" => listeners::answer_given_back(text, words),
+        "passes" => passes::answer(rt, text, words),
         "listen" | "listen_until" | "listen_to_eight" => {
             listeners::answer(rt, text, call, words)
         }
@@ -64,7 +70,7 @@ fn answer_servers<R: Wait>(rt: &R, text: &mut Text, call: &str, words: &[Word]) 
 /// The calls of the program and its device, and of polls.
 fn answer_program(text: &mut Text, call: &str, words: &[Word]) -> bool {
     match call {
-        "store" | "exchange" => store::answer(text, call, words),
+        "store" | "exchange" | "entries" => store::answer(text, call, words),
         "only_unit" | "units" => units::answer(text, call, words),
         "point" | "items" | "poll" => polls::answer(text, call, words),
         "run" | "status" | "listening" => program::answer(text, call, words),
@@ -73,7 +79,7 @@ fn answer_program(text: &mut Text, call: &str, words: &[Word]) -> bool {
 }
 
 /// Every call.
-pub fn answer<R: Wait>(rt: &R, text: &mut Text, call: &str, words: &[Word]) -> bool {
+pub fn answer<R: Wait + Sync>(rt: &R, text: &mut Text, call: &str, words: &[Word]) -> bool {
     answer_program(text, call, words)
         || answer_servers(rt, text, call, words)
         || answer_clients(text, call, words)

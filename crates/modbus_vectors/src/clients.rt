@@ -6,7 +6,9 @@ use crate::text::Text;
 use crate::typed::ask;
 use crate::word::{Word, bytes_of};
 use modbus_client::{Client, rtu, tcp};
-use modbus_frame::{Error, Request, Response, Result as Answer, Slave, SlaveContext};
+use modbus_frame::{
+    Error, Request, Response, Result as Answer, Slave, SlaveContext, TransportError,
+};
 use modbus_link::MemoryLink;
 use modbus_pdu::decode_request;
 use std::borrow::CowSlice;
@@ -56,6 +58,30 @@ fn call_typed<C: Client>(text: &mut Text, client: &mut C, pdu: &[u8]) -> bool {
     }
 }
 
+/// Whether a call with one byte more than fits a PDU is refused as that.
+fn is_refused<C: Client>(client: &mut C) -> bool {
+    let request = Request::Custom(0x41, CowSlice::Borrowed(&[0; 253]));
+    matches!(
+        client.call(request),
+        Err(Error::Transport(TransportError::RequestTooLong(254)))
+    )
+}
+
+/// How many of so many such calls are.
+fn count_refused<C: Client>(text: &mut Text, client: &mut C, count: &str) -> bool {
+    let Ok(count) = count.parse() else {
+        return false;
+    };
+    let mut refused = 0u32;
+    for _ in 0..count {
+        if is_refused(client) && refused < u32::MAX {
+            refused += 1;
+        }
+    }
+    write!(text, "{refused} refused");
+    true
+}
+
 /// What a step of this kind does with its PDU.
 fn step_with<C: Client>(text: &mut Text, client: &mut C, kind: &str, pdu: &[u8]) -> bool {
     match kind {
@@ -85,6 +111,7 @@ fn step_of<C: Client>(text: &mut Text, client: &mut C, kind: &str, word: &str) -
     match kind {
         "slave" => select(text, client, word),
         "timeout" => set_timeout(text, client, word),
+        "refused" => count_refused(text, client, word),
         _ => match bytes_of(text.alloc, word) {
             Some(pdu) => step_with(text, client, kind, pdu.as_slice()),
             None => false,
@@ -92,8 +119,9 @@ fn step_of<C: Client>(text: &mut Text, client: &mut C, kind: &str, word: &str) -
     }
 }
 
-/// What a step of a line does to any client: `disconnect`, `slave=9`, `timeout=2000` in milliseconds, a call of a function by its number with
-/// any data, as `custom=4100`, the typed call of a request by its PDU, as `typed=0300000001`, or a call by the PDU of its request.
+/// What a step of a line does to any client: `disconnect`, `slave=9`, `timeout=2000` in milliseconds, `refused=9` calls that are too long,
+/// a call of a function by its number with any data, as `custom=4100`, the typed call of a request by its PDU, as `typed=0300000001`, or a
+/// call by the PDU of its request.
 pub fn step<C: Client>(text: &mut Text, client: &mut C, step: &str) -> bool {
     if step == "disconnect" {
         text.push_shown(client.disconnect());
@@ -183,6 +211,17 @@ fn push_tcp(text: &mut Text, client: &mut tcp::Client<MemoryLink>, words: &str) 
 
 fn over_tcp(text: &mut Text, slave: Slave, words: &str, link: MemoryLink) -> bool {
     push_tcp(text, &mut tcp::attach_slave(text.alloc, link, slave), words)
+}
+
+/// `tcp_attach`, steps with commas between them, and the outside of the link: of a device that is alone behind its address.
+pub fn answer_attached(text: &mut Text, words: &[Word]) -> bool {
+    let [steps, words @ ..] = words else {
+        return false;
+    };
+    match read_link(text.alloc, words) {
+        Some(link) => push_tcp(text, &mut tcp::attach(text.alloc, link), steps.text()),
+        None => false,
+    }
 }
 
 /// The same of a client that drops the responses of other transactions and units, and how many its last call dropped.

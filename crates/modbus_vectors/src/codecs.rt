@@ -14,8 +14,8 @@ use modbus_frame::{EncodeError, RequestPdu, ResponsePdu, rtu, tcp};
 use modbus_link::MemorySource;
 use modbus_pdu::{decode_request, decode_response_pdu};
 use modbus_rtu::{
-    FrameDecoder, Inbox, NoLength, RequestDecoder, ResponseDecoder, next_frame, request_pdu_len,
-    response_pdu_len,
+    FrameDecoder, Inbox, NoLength, RequestDecoder, ResponseDecoder, judge, next_frame,
+    request_pdu_len, response_pdu_len,
 };
 use modbus_tcp::{AduDecoder, TransactionIds, front};
 use std::alloc::Global;
@@ -406,6 +406,7 @@ fn of_bytes(text: &mut Text, call: &str, data: &[u8]) -> bool {
         "request_len" => length(text, request_pdu_len(data)),
         "response_len" => length(text, response_pdu_len(data)),
         "next_frame" => text.push_shown(next_frame(data)),
+        "verdict" => text.push_shown(judge(data)),
         "tcp_front" => text.push_shown(front(data)),
         "ascii_server" => ascii_server(text, data),
         "ascii_client" => ascii_client(text, data),

@@ -12,6 +12,11 @@ use std::alloc::Global;
 use std::net::{Ipv4Addr, SocketAddr};
 use std::time::Duration;
 
+/// The device that all connect to.
+fn device() -> SocketAddr {
+    SocketAddr::from((Ipv4Addr::LOCALHOST, 502))
+}
+
 /// Connects by the call that takes no more than these.
 fn connected(
     alloc: Global,
@@ -19,13 +24,12 @@ fn connected(
     slave: Option<Slave>,
     timeout: Option<Duration>,
 ) -> Result<tcp::Client<MemoryLink>, ConnectFault> {
-    let address = SocketAddr::from((Ipv4Addr::LOCALHOST, 502));
     match (slave, timeout) {
-        (None, None) => tcp::connect(alloc, connector, address),
-        (Some(slave), None) => tcp::connect_slave(alloc, connector, address, slave),
-        (None, Some(_)) => tcp::connect_with_timeout(alloc, connector, address, timeout),
+        (None, None) => tcp::connect(alloc, connector, device()),
+        (Some(slave), None) => tcp::connect_slave(alloc, connector, device(), slave),
+        (None, Some(_)) => tcp::connect_with_timeout(alloc, connector, device(), timeout),
         (Some(slave), Some(_)) => {
-            tcp::connect_slave_with_timeout(alloc, connector, address, slave, timeout)
+            tcp::connect_slave_with_timeout(alloc, connector, device(), slave, timeout)
         }
     }
 }
@@ -76,8 +80,53 @@ fn answers_twice(
     )
 }
 
-/// `tcp_connect`, a slave or `-`, a time-out in milliseconds or `-`, steps with commas between them, and the outside of the one link.
-pub fn answer(text: &mut Text, words: &[Word]) -> bool {
+/// The answers of a client that drops the responses of other transactions and units, how long it waits, and its link.
+fn push_matching(
+    text: &mut Text,
+    client: &mut tcp::MatchingClient<MemoryLink>,
+    words: &str,
+) -> bool {
+    let is_done = steps(text, client, words);
+    write!(text, "within {:?} ", client.timeout());
+    push_link(text, client.link());
+    is_done
+}
+
+/// The same of one that is connected. False where there is no connection.
+fn answers_of_matching(
+    text: &mut Text,
+    connector: &mut MemoryConnector<MemoryLink>,
+    slave: Slave,
+    timeout: Option<Duration>,
+    words: &str,
+) -> bool {
+    match tcp::connect_matching(text.alloc, connector, device(), slave, timeout) {
+        Ok(mut client) => push_matching(text, &mut client, words),
+        Err(ConnectFault) => false,
+    }
+}
+
+/// The answers by the call that is named.
+fn answers_by(
+    text: &mut Text,
+    call: &str,
+    connector: &mut MemoryConnector<MemoryLink>,
+    slave: Option<Slave>,
+    timeout: Option<Duration>,
+    words: &str,
+) -> bool {
+    match (call, slave) {
+        ("matching_connect", Some(slave)) => {
+            answers_of_matching(text, connector, slave, timeout, words)
+        }
+        ("tcp_connect", _) => answers_twice(text, connector, slave, timeout, words),
+        _ => false,
+    }
+}
+
+/// `tcp_connect` or `matching_connect`, a slave or `-`, a time-out in milliseconds or `-`, steps with commas between them, and the outside
+/// of the one link.
+pub fn answer(text: &mut Text, call: &str, words: &[Word]) -> bool {
     let [slave, timeout, steps, words @ ..] = words else {
         return false;
     };
@@ -86,7 +135,7 @@ pub fn answer(text: &mut Text, words: &[Word]) -> bool {
             let mut connector = MemoryConnector::new(Some(link));
             let slave = slave.byte().map(Slave);
             let timeout = milliseconds(timeout.text());
-            answers_twice(text, &mut connector, slave, timeout, steps.text())
+            answers_by(text, call, &mut connector, slave, timeout, steps.text())
         }
         None => false,
     }

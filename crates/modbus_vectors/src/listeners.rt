@@ -1,12 +1,14 @@
 //! Listeners over memory, whose connections are served one after another on the caller.
 
 use crate::outside::{read_joined, read_link};
+use crate::program::push_errors;
 use crate::same_words::SameWords;
 use crate::text::Text;
 use crate::word::Word;
+use modbus_app::{StoreServices, open_shared, run_listen};
 use modbus_link::{
-    Acceptor, FlagStop, InlineSpawner, Link, MemoryAcceptor, MemoryLink, MemoryStop, ScopeSpawner,
-    Spawner,
+    Acceptor, Failed, FlagStop, InlineSpawner, Link, MemoryAcceptor, MemoryLink, MemorySink,
+    MemoryStop, ScopeSpawner, Spawner,
 };
 use modbus_rtu::Inbox;
 use modbus_server::tcp::AduBuffer;
@@ -21,6 +23,9 @@ use std::sync::Wait;
 const TAKES: u16 = 0;
 
 const REJECTS: u16 = 1;
+
+/// The room of what the program's listener tells, in bytes.
+const ERRORS: usize = 64;
 
 /// The address of a peer.
 fn address(port: u16) -> SocketAddr {
@@ -149,13 +154,18 @@ fn accepting<'l>(
     Ok(MemoryAcceptor::new(accepted))
 }
 
-/// Appends how a listener ended, and what each of its connections was sent.
-fn push_ended(text: &mut Text, ended: Ended, peers: &Peers) {
-    text.push_shown(ended);
+/// Appends what each peer was sent.
+fn push_sent(text: &mut Text, peers: &Peers) {
     for link in peers.links.as_slice() {
         text.push_str(" ");
         text.push_hex(link.sink().bytes());
     }
+}
+
+/// Appends how a listener ended, and that.
+fn push_ended(text: &mut Text, ended: Ended, peers: &Peers) {
+    text.push_shown(ended);
+    push_sent(text, peers);
 }
 
 /// The answer of a listener of these peers, and what each of them was sent.
@@ -246,6 +256,118 @@ fn answer_of_eight<R: Wait>(rt: &R, text: &mut Text, words: &[Word]) -> bool {
     match eight_peers(text.alloc, words) {
         Some(mut peers) => listened::<Inbox, R>(rt, text, "inline", &mut peers, None),
         None => false,
+    }
+}
+
+/// The status of the program's listener over links that share its device.
+fn listen_shared<R: Wait + Sync>(
+    rt: &R,
+    alloc: Global,
+    framing: modbus_app::Framing,
+    acceptor: &mut MemoryAcceptor<&mut MemoryLink>,
+    services: &mut StoreServices<'_, R>,
+    errors: &mut MemorySink,
+) -> u8 {
+    run_listen(
+        rt,
+        alloc,
+        framing,
+        acceptor,
+        &mut InlineSpawner::new(),
+        services,
+        |_error: ProcessError| {},
+        errors,
+    )
+}
+
+/// The same of a device that is opened for it. None where memory was refused.
+fn status_shared<R: Wait + Sync>(
+    rt: &R,
+    alloc: Global,
+    framing: modbus_app::Framing,
+    peers: &mut Peers,
+    errors: &mut MemorySink,
+) -> Option<u8> {
+    let (table, pass) = open_shared(alloc, framing).ok()?;
+    let services = &mut StoreServices::new(rt, &table, pass);
+    let acceptor = &mut accepting(alloc, peers.ports.as_slice(), peers.links.as_mut_slice()).ok()?;
+    Some(listen_shared(rt, alloc, framing, acceptor, services, errors))
+}
+
+/// That status, its text, and what each peer was sent.
+fn push_shared<R: Wait + Sync>(
+    rt: &R,
+    text: &mut Text,
+    framing: modbus_app::Framing,
+    peers: &mut Peers,
+    errors: &mut MemorySink,
+) -> bool {
+    let Some(status) = status_shared(rt, text.alloc, framing, peers, errors) else {
+        return false;
+    };
+    write!(text, "{status} ");
+    push_errors(text, errors.bytes());
+    push_sent(text, peers);
+    true
+}
+
+/// The framing of the program's listener that a word names.
+fn framing_of(word: &str) -> Option<modbus_app::Framing> {
+    Some(match word {
+        "rtu" => modbus_app::Framing::Rtu,
+        "tcp" => modbus_app::Framing::Tcp,
+        _ => return None,
+    })
+}
+
+/// `run_listen`, a framing and the connections.
+pub fn answer_shared<R: Wait + Sync>(rt: &R, text: &mut Text, words: &[Word]) -> bool {
+    let [framing, words @ ..] = words else {
+        return false;
+    };
+    let (Some(framing), Some(mut peers)) = (framing_of(framing.text()), peers_of(text.alloc, words))
+    else {
+        return false;
+    };
+    match MemorySink::new(text.alloc, ERRORS, ERRORS, &[]) {
+        Ok(mut errors) => push_shared(rt, text, framing, &mut peers, &mut errors),
+        Err(_) => false,
+    }
+}
+
+/// The port of the next peer of an acceptor.
+fn push_next(text: &mut Text, acceptor: &mut MemoryAcceptor<&mut MemoryLink>) {
+    match acceptor.accept() {
+        Ok((_link, address)) => text.push_shown(address.port()),
+        Err(Failed) => text.push_str("none"),
+    }
+}
+
+/// The same of the acceptor that a listener gives back, which accepted nothing.
+fn given_back<I: Framing>(text: &mut Text, peers: &mut Peers) -> bool {
+    match accepting(
+        text.alloc,
+        peers.ports.as_slice(),
+        peers.links.as_mut_slice(),
+    ) {
+        Ok(acceptor) => push_next(text, &mut Server::<I, _>::new(acceptor).into_acceptor()),
+        Err(_) => return false,
+    }
+    true
+}
+
+/// `listen_not`, a framing and the connections.
+pub fn answer_given_back(text: &mut Text, words: &[Word]) -> bool {
+    let [framing, words @ ..] = words else {
+        return false;
+    };
+    let Some(mut peers) = peers_of(text.alloc, words) else {
+        return false;
+    };
+    match framing.text() {
+        "rtu" => given_back::<Inbox>(text, &mut peers),
+        "tcp" => given_back::<AduBuffer>(text, &mut peers),
+        _ => false,
     }
 }
 

@@ -21,6 +21,7 @@ mod values;
 // clients over links in memory, and what stands on them
 mod clients;
 mod connecting;
+mod context;
 mod gateway;
 mod left;
 mod one_call;
@@ -33,6 +34,7 @@ mod servers;
 
 // the program over memory, its device, and polls
 mod asking;
+mod passes;
 mod polls;
 mod program;
 mod store;

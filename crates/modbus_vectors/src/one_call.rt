@@ -4,12 +4,13 @@ use crate::clients::{push_called, push_sent};
 use crate::outside::read_outside;
 use crate::same_words::SameWords;
 use crate::text::Text;
-use crate::word::Word;
+use crate::word::{Word, bytes_of};
 use modbus_client::{PolledCall, Protocol, exchange, rtu, tcp};
 use modbus_frame::{Error, Request, Slave};
 use modbus_link::{Polled, PolledMemoryLink};
 use modbus_pdu::decode_request;
 use std::alloc::Global;
+use std::borrow::CowSlice;
 use std::fmt::{Debug, Display};
 
 /// How many reads a polled call may make.
@@ -147,6 +148,43 @@ fn polled_of(
     }
 }
 
+/// The same of a function by its number with any data.
+fn polled_custom(
+    text: &mut Text,
+    call: &str,
+    slave: u8,
+    pdu: &[u8],
+    link: &mut PolledMemoryLink,
+) -> bool {
+    match pdu.split_first() {
+        Some((code, data)) => {
+            let request = Request::Custom(*code, CowSlice::Borrowed(data));
+            polled(text, call, slave, request, link)
+        }
+        None => false,
+    }
+}
+
+/// The same of a word: the PDU of a request, or any one behind `custom=`.
+fn polled_by(
+    text: &mut Text,
+    call: &str,
+    slave: u8,
+    word: &Word,
+    link: &mut PolledMemoryLink,
+) -> bool {
+    if let Some(pdu) = word.bytes() {
+        return polled_of(text, call, slave, pdu, link);
+    }
+    let Some(custom) = word.text().strip_prefix("custom=") else {
+        return false;
+    };
+    match bytes_of(text.alloc, custom) {
+        Some(pdu) => polled_custom(text, call, slave, pdu.as_slice(), link),
+        None => false,
+    }
+}
+
 /// A link that may not be ready, as these words say.
 fn link_of(alloc: Global, words: &[Word]) -> Option<PolledMemoryLink> {
     read_outside(alloc, words)?.into_polled_link(alloc)
@@ -157,11 +195,11 @@ pub fn answer(text: &mut Text, call: &str, words: &[Word]) -> bool {
     let [slave, pdu, words @ ..] = words else {
         return false;
     };
-    let (Some(slave), Some(pdu)) = (slave.byte(), pdu.bytes()) else {
+    let Some(slave) = slave.byte() else {
         return false;
     };
     match link_of(text.alloc, words) {
-        Some(mut link) => polled_of(text, call, slave, pdu, &mut link),
+        Some(mut link) => polled_by(text, call, slave, pdu, &mut link),
         None => false,
     }
 }

@@ -4,7 +4,8 @@ use crate::text::Text;
 use crate::word::Word;
 use bytes::{Bytes, BytesMut};
 use modbus_frame::{
-    ExceptionResponse, PduError, ReadDeviceIdentificationResponse, Request, Response,
+    DeviceIdObject, ExceptionResponse, OptionalResponsePdu, PduError,
+    ReadDeviceIdentificationResponse, Request, Response, ResponsePdu,
 };
 use modbus_pdu::{
     decode_exception, decode_request, decode_response, decode_response_pdu,
@@ -183,6 +184,27 @@ fn answered(text: &mut Text, pdu: Bytes) -> bool {
     }
 }
 
+/// The PDU of an answer that may be none, and of which an empty one is that.
+fn optional(text: &mut Text, pdu: Bytes) -> bool {
+    if pdu.is_empty() {
+        text.push_shown(OptionalResponsePdu::from(Ok(None)));
+        return true;
+    }
+    let answer = match decode_response_pdu(text.alloc, pdu) {
+        Ok(ResponsePdu(Ok(response))) => Ok(Some(response)),
+        Ok(ResponsePdu(Err(refusal))) => Err(refusal),
+        Err(error) => return refused(text, error),
+    };
+    text.push_shown(OptionalResponsePdu::from(answer));
+    true
+}
+
+/// The text of an object of a device identification.
+fn object_text(text: &mut Text, value: Bytes) {
+    let object = DeviceIdObject { id: 0, value };
+    text.push_shown(object.value_as_str());
+}
+
 /// An exception, its text, and how it is written.
 fn exception_described(text: &mut Text, found: ExceptionResponse) -> bool {
     if found.function.value() >= 0x80 {
@@ -276,6 +298,11 @@ fn of_bytes(text: &mut Text, call: &str, pdu: &[u8]) -> bool {
     match call {
         "response" => response(text, pdu),
         "answer" => answered(text, pdu),
+        "optional" => optional(text, pdu),
+        "object_text" => {
+            object_text(text, pdu);
+            true
+        }
         _ => false,
     }
 }

@@ -56,7 +56,7 @@ fn registers_of(alloc: Global, numbers: &str) -> Option<Vec<u16>> {
 }
 
 /// A store whose holding registers hold these numbers.
-fn store_of(alloc: Global, numbers: &str) -> Option<RegisterStore> {
+pub fn store_of(alloc: Global, numbers: &str) -> Option<RegisterStore> {
     let registers = registers_of(alloc, numbers)?;
     RegisterStore::with_contents(alloc, &[false], &[false], registers.as_slice(), &[0], false).ok()
 }
@@ -74,7 +74,7 @@ fn push_poll(text: &mut Text, store: &mut RegisterStore, items: &[Item]) -> bool
 }
 
 /// The items of the points that these words name.
-fn points_of(alloc: Global, words: &[Word]) -> Option<Vec<Item>> {
+pub fn points_of(alloc: Global, words: &[Word]) -> Option<Vec<Item>> {
     let mut items = Vec::new(alloc);
     for word in words {
         items.push(parse_point(word.text()).ok()?.item).ok()?;

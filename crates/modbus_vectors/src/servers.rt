@@ -2,7 +2,8 @@
 //!
 //! A function that calls much is lent what it works on: the check of one that owns it takes far longer.
 
-use crate::outside::{Outside, read_outside};
+use crate::outside::{Outside, read_link, read_outside};
+use crate::polls::store_of;
 use crate::same_words::SameWords;
 use crate::text::Text;
 use crate::word::Word;
@@ -20,6 +21,7 @@ use modbus_server::{
 };
 use modbus_service::OnlyUnit;
 use modbus_standard::StandardAnswers;
+use modbus_store::RegisterStore;
 use std::alloc::{AllocError, Global};
 use std::fmt::Debug;
 
@@ -65,6 +67,8 @@ fn served(
         "rtu" => rtu_over_tcp::process(text.alloc, source, sink, service, turns),
         "tcp" => tcp::process(text.alloc, source, sink, service, turns),
         "ascii" => modbus_ascii::ascii::process(text.alloc, source, sink, service, turns),
+        "bursts" => modbus_burst::process(text.alloc, source, sink, service, turns),
+        "stream" => modbus_stream::process(text.alloc, source, sink, service, turns),
         _ => return false,
     };
     push_asked(text, ended, source, sink, service.calls);
@@ -82,9 +86,12 @@ fn served_by_lent(
     let source = &mut outside.source;
     let sink = &mut outside.sink;
     let link = &mut Both::new(&mut *source, &mut *sink);
+    let lent = &mut Forward(&mut *service);
     let ended = match framing {
-        "rtu" => rtu_over_tcp::process_link(text.alloc, link, &mut Forward(&mut *service), turns),
-        "tcp" => tcp::process_link(text.alloc, link, &mut Forward(&mut *service), turns),
+        "rtu" => rtu_over_tcp::process_link(text.alloc, link, lent, turns),
+        "tcp" => tcp::process_link(text.alloc, link, lent, turns),
+        "ascii" => modbus_ascii::ascii::process_link(text.alloc, link, lent, turns),
+        "stream" => modbus_stream::process_link(text.alloc, link, lent, turns),
         _ => return false,
     };
     push_asked(text, ended, source, sink, service.calls);
@@ -232,6 +239,28 @@ fn served_until(text: &mut Text, service: &mut SameWords, looks: u64, link: &mut
         &mut MemoryStop::new(looks),
     );
     push_over_link(text, ended, link, service);
+}
+
+/// An RTU server of a device that nothing but the end of its input stops, and what it wrote.
+fn served_forever(text: &mut Text, store: &mut RegisterStore, link: &mut MemoryLink) {
+    let ended = rtu::Server::new(&mut *link).serve_forever(text.alloc, store);
+    write!(text, "{ended:?} ");
+    text.push_hex(link.sink().bytes());
+}
+
+/// `serve_forever`, what the holding registers of the device hold, and the outside.
+pub fn answer_forever(text: &mut Text, words: &[Word]) -> bool {
+    let [numbers, words @ ..] = words else {
+        return false;
+    };
+    match (
+        store_of(text.alloc, numbers.text()),
+        read_link(text.alloc, words),
+    ) {
+        (Some(mut store), Some(mut link)) => served_forever(text, &mut store, &mut link),
+        _ => return false,
+    }
+    true
 }
 
 /// Tells nobody of the error of a connection.

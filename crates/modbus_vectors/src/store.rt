@@ -37,27 +37,77 @@ fn exchange_with(text: &mut Text, slave: Slave, pdu: &[u8], store: &mut Register
     true
 }
 
-/// The same of a seeded store of eight entries a table, which takes part in broadcasts.
-fn exchange_seeded(text: &mut Text, slave: Slave, pdu: &[u8]) -> bool {
+/// The same of a slave and a PDU as words.
+fn exchange_words(text: &mut Text, words: &[Word], store: &mut RegisterStore) -> bool {
+    let [slave, pdu] = words else {
+        return false;
+    };
+    match (slave.byte(), pdu.bytes()) {
+        (Some(slave), Some(pdu)) => exchange_with(text, Slave(slave), pdu, store),
+        _ => false,
+    }
+}
+
+/// The same of each slave and PDU, one after another.
+fn exchange_all(text: &mut Text, words: &[Word], store: &mut RegisterStore) -> bool {
+    for (place, pair) in words.chunks(2).enumerate() {
+        if place > 0 {
+            text.push_str("; ");
+        }
+        if !exchange_words(text, pair, store) {
+            return false;
+        }
+    }
+    true
+}
+
+/// A seeded store of eight entries a table, which takes part in broadcasts.
+fn seeded_store(alloc: Global) -> Result<RegisterStore, StoreError> {
     let form = Form {
         mode: Mode::Rtu,
         size: 8,
         seeded: true,
     };
-    match open(text.alloc, form) {
-        Ok(mut store) => exchange_with(text, slave, pdu, &mut store),
+    open(alloc, form)
+}
+
+fn exchanged(text: &mut Text, words: &[Word]) -> bool {
+    match seeded_store(text.alloc) {
+        Ok(mut store) => exchange_all(text, words, &mut store),
         Err(_) => false,
     }
 }
 
-fn exchanged(text: &mut Text, words: &[Word]) -> bool {
-    let [slave, pdu] = words else {
+/// Turns on the discrete input of an address, and sets its input register to this word; then what each table has there.
+fn push_entries(text: &mut Text, store: &mut RegisterStore, address: u16, word: u16) {
+    write!(text, "{:?} ", store.set_discrete(address, true));
+    write!(text, "{:?}", store.set_input(address, word));
+    write!(
+        text,
+        " {:?} {:?}",
+        store.coil(address),
+        store.discrete_input(address)
+    );
+    write!(
+        text,
+        " {:?} {:?}",
+        store.holding_register(address),
+        store.input_register(address)
+    );
+}
+
+fn entries(text: &mut Text, words: &[Word]) -> bool {
+    let [address, word] = words else {
         return false;
     };
-    match (slave.byte(), pdu.bytes()) {
-        (Some(slave), Some(pdu)) => exchange_seeded(text, Slave(slave), pdu),
-        _ => false,
+    let (Some(address), Some(word)) = (address.number(), word.number()) else {
+        return false;
+    };
+    match seeded_store(text.alloc) {
+        Ok(mut store) => push_entries(text, &mut store, address, word),
+        Err(_) => return false,
     }
+    true
 }
 
 /// The form of a store that words tell.
@@ -89,12 +139,13 @@ fn stored(text: &mut Text, words: &[Word]) -> bool {
     true
 }
 
-/// `store rtu 8 seeded 1 0300010001`: a store of a mode, a size and contents, and the requests to it; `exchange 1 0300010001`: one request
-/// by the call of a client that has no link.
+/// `store rtu 8 seeded 1 0300010001`: a store of a mode, a size and contents, and the requests to it; `exchange 1 0300010001`: requests by
+/// the call of a client that has no link; `entries 6 1`: what a store's own calls set at an address, and read there.
 pub fn answer(text: &mut Text, call: &str, words: &[Word]) -> bool {
     match call {
         "store" => stored(text, words),
         "exchange" => exchanged(text, words),
+        "entries" => entries(text, words),
         _ => false,
     }
 }

@@ -13,11 +13,24 @@ use std::time::Duration;
 
 /// A client that gives the answer of this PDU, whatever it is asked.
 #[derive(Drop)]
-struct Prompted {
+pub struct Prompted {
     alloc: Global,
     pdu: Bytes,
     slave: Slave,
     timeout: Option<Duration>,
+}
+
+impl Prompted {
+    /// Such a client in a box. None where memory was refused.
+    pub fn boxed(alloc: Global, pdu: Bytes) -> Option<Box<Prompted>> {
+        let prompted = Prompted {
+            alloc,
+            pdu,
+            slave: Slave(0),
+            timeout: Some(Duration::from_secs(9)),
+        };
+        Box::new(alloc, prompted).ok()
+    }
 }
 
 impl SlaveContext for Prompted {
@@ -64,7 +77,11 @@ impl Client for Prompted {
         answer_again(self.alloc, &self.pdu)
     }
 
+    /// Fails for slave 9 alone.
     fn disconnect(&mut self) -> std::result::Result<(), ShutdownFault> {
+        if self.slave == Slave(9) {
+            return Err(ShutdownFault);
+        }
         Ok(())
     }
 
@@ -157,13 +174,7 @@ pub fn ask<C: SyncClient>(text: &mut Text, client: &mut C, request: &Request<'_>
 
 /// The answer of the typed call of a request, of a client that gives the answer of this PDU.
 fn ask_prompted(text: &mut Text, request: &Request<'_>, pdu: Bytes) -> bool {
-    let prompted = Prompted {
-        alloc: text.alloc,
-        pdu,
-        slave: Slave(0),
-        timeout: None,
-    };
-    let Ok(prompted) = Box::new(text.alloc, prompted) else {
+    let Some(prompted) = Prompted::boxed(text.alloc, pdu) else {
         return false;
     };
     let client: Box<dyn Client> = prompted;

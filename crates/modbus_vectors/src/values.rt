@@ -3,7 +3,7 @@
 use crate::text::Text;
 use crate::word::Word;
 use bytes::BytesMut;
-use modbus_frame::{ExceptionCode, FunctionCode, Slave};
+use modbus_frame::{ConformityLevel, ExceptionCode, FunctionCode, ReadCode, Slave};
 use modbus_pdu::{coil_to_bool, decode_packed_coils, encode_packed_coils, packed_coils_size};
 use modbus_rtu::{calc_crc, check_crc};
 use std::alloc::{AllocError, Global};
@@ -30,6 +30,39 @@ fn slave(text: &mut Text, word: &str) {
     match word.parse::<Slave>() {
         Ok(slave) => write!(text, "{slave}"),
         Err(error) => text.push_shown(error),
+    }
+}
+
+/// Whether a slave's number is that of all devices, of a single one, or reserved.
+fn slave_kind(text: &mut Text, slave: Slave) {
+    write!(
+        text,
+        "{} {}",
+        slave.is_broadcast(),
+        slave.is_single_device()
+    );
+    write!(text, " {}", slave.is_reserved());
+}
+
+/// The slaves that have names: that for all devices, the first and the last single one, and the one of TCP.
+fn slave_names(text: &mut Text) {
+    write!(text, "{} {}", Slave::broadcast(), Slave::min_device());
+    write!(text, " {} {}", Slave::max_device(), Slave::tcp_device());
+}
+
+/// The read code of a byte, and its number.
+fn read_code(text: &mut Text, byte: u8) {
+    match ReadCode::try_from_value(byte) {
+        Some(code) => write!(text, "{code:?} {}", code.value()),
+        None => text.push_str("None"),
+    }
+}
+
+/// The same of a conformity level.
+fn conformity(text: &mut Text, byte: u8) {
+    match ConformityLevel::try_from_value(byte) {
+        Some(level) => write!(text, "{level:?} {}", level.value()),
+        None => text.push_str("None"),
     }
 }
 
@@ -79,6 +112,9 @@ fn of_bytes(text: &mut Text, call: &str, data: &[u8]) -> bool {
     match (call, data) {
         ("function", &[byte]) => function(text, byte),
         ("exception_code", &[byte]) => exception_code(text, byte),
+        ("slave_kind", &[byte]) => slave_kind(text, Slave(byte)),
+        ("read_code", &[byte]) => read_code(text, byte),
+        ("conformity", &[byte]) => conformity(text, byte),
         ("crc", _) => write!(text, "{:04X}", calc_crc(data)),
         ("coil", &[high, low]) => text.push_shown(coil_to_bool(u16::from_be_bytes([high, low]))),
         _ => return false,
@@ -121,6 +157,10 @@ pub fn answer(text: &mut Text, call: &str, words: &[Word]) -> bool {
     match words {
         [] if call == "slave" => {
             slave(text, "");
+            true
+        }
+        [] if call == "slave_names" => {
+            slave_names(text);
             true
         }
         [word] => of_word(text, call, word),
