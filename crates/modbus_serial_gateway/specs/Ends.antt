@@ -6,11 +6,14 @@ use Rattle.modbus_server.specs.declared.error.ServeError.TheVariants.{AcceptFaul
 use Rattle.modbus_app.specs.Status.{Reports}
 use Rattle.modbus_line.specs.declared.service.ServicesOut.{ServicesOut}
 
+abbrev pub no_memory_line : List ℕ
+no_memory_line = codes "modbus_serial_gateway: no memory\n"
+
 abbrev pub line_of : ServeError ServicesOut → List ℕ
 line_of AcceptFault = codes "modbus_serial_gateway: accept fault\n"
 line_of SpawnFault = codes "modbus_serial_gateway: spawn fault\n"
 line_of (Connect none_left) = codes "modbus_serial_gateway: services out\n"
-line_of NoMemory = codes "modbus_serial_gateway: no memory\n"
+line_of NoMemory = no_memory_line
 
 abbrev pub bind_line : List ℕ
 bind_line = codes "modbus_serial_gateway: bind fault\n"
@@ -19,6 +22,10 @@ bind_line = codes "modbus_serial_gateway: bind fault\n"
 abbrev pub HasEnded : Output → Output → ℕ → Type 0
 HasEnded said told status = (error : ServeError ServicesOut) × (status ≡ 1) × Reports said told (line_of error)
 
+-- the system refused a listener, as it may where it is out of memory
+abbrev pub IsRefused : Output → Output → ℕ → Type 0
+IsRefused said told status = (status ≡ 1) × (Reports said told bind_line ⊎ Reports said told no_memory_line)
+
 -- the system refused the listener, or it ended
 abbrev pub IsRefusedOrEnded : Output → Output → ℕ → Type 0
-IsRefusedOrEnded said told status = (status ≡ 1) × Reports said told bind_line ⊎ HasEnded said told status
+IsRefusedOrEnded said told status = IsRefused said told status ⊎ HasEnded said told status

@@ -3,7 +3,7 @@ ghost use Rattle.std.specs.Prelude.{◌≡◌, ◌≢◌, ◌^◌, ◌-◌, None
 ghost use Rattle.modbus_link.specs.Outside.{Rose};
 ghost use Rattle.modbus_server.specs.declared.error.ServeError.TheVariants.{AcceptFault};
 ghost use Rattle.modbus_server.specs.Listener.{Exact, Balances};
-ghost use Rattle.modbus_serial_gateway.specs.Ends.{HasEnded, IsRefusedOrEnded};
+ghost use Rattle.modbus_serial_gateway.specs.Ends.{HasEnded, IsRefused, IsRefusedOrEnded};
 
 use crate::PROGRAM;
 use crate::ending::{BIND_LINE, NO_MEMORY_LINE, line};
@@ -17,7 +17,7 @@ use modbus_link::{Acceptor, FlagStop, Link, ScopeSpawner, Sink, Spawner, TcpAcce
 use modbus_server::tcp::{AduBuffer, ConnectionWorker};
 use modbus_server::{Answerer, ProcessError, ServeError, serve_acceptor};
 use std::alloc::Global;
-use std::io::ErrorKind;
+use std::io::{Error, ErrorKind};
 use std::marker::Brand;
 use std::net::{Net, SocketAddr, TcpListener, TcpStream};
 use std::sync::Wait;
@@ -37,6 +37,18 @@ fn announce<N: Sink>(notes: &mut N, port: u16) {
     report(notes, ": listens on 127.0.0.1:");
     report(notes, digits.format(port));
     report(notes, "\n");
+}
+
+/// Tells that the system refuses a listener, as it may where it is out of memory, and gives the status.
+fn refused<E: Sink>(error: Error, errors: &mut E) -> u8
+    ensures { IsRefused (E.output errors.old) (E.output errors.new) result }
+{
+    if error.kind() == ErrorKind::OutOfMemory {
+        report(errors, NO_MEMORY_LINE);
+        return FAILED;
+    }
+    report(errors, BIND_LINE);
+    FAILED
 }
 
 /// Starts a worker in a thread of the scope, which ends with it; `false` where the system refuses the thread, and the worker is dropped.
@@ -305,12 +317,8 @@ where
         }
         Err(error) => {
             let mut errors = errors;
-            let is_full = error.kind() == ErrorKind::OutOfMemory;
-            report(
-                &mut errors,
-                if is_full { NO_MEMORY_LINE } else { BIND_LINE },
-            );
-            (errors, FAILED)
+            let status = refused(error, &mut errors);
+            (errors, status)
         }
     }
 }
