@@ -106,7 +106,7 @@ fn serve<R: Wait + Clock + Abort>(
 ) {
     let ended = server.serve_until(rt, service, None, &mut MemoryStop::new(5));
     check(rt, ended, Ok(Terminated::Aborted));
-    check(rt, server.is_empty(), true);
+    check(rt, (server.is_empty(), server.unseated()), (true, 0));
 }
 
 /// Serves both, which begin to be accepted.
@@ -126,13 +126,25 @@ fn has_got(link: &MemoryLink, bytes: &[u8]) -> bool {
     link.sink().bytes() == bytes
 }
 
-/// Serves both, and compares what each has got.
+/// Serves both, and gives back the device.
+fn serve_device<R: Wait + Clock + Abort>(
+    rt: &R,
+    alloc: Global,
+    links: &mut Pair,
+) -> Result<RegisterStore, Fail> {
+    let mut turns = InTurn::new(device(alloc)?);
+    serve_both(rt, alloc, links, &mut turns)?;
+    Ok(turns.into_service())
+}
+
+/// Serves both, and compares what was written to the device and what each has got.
 fn take_turns<R: Wait + Clock + Abort>(
     rt: &R,
     alloc: Global,
     links: &mut Pair,
 ) -> Result<(), Fail> {
-    serve_both(rt, alloc, links, &mut InTurn::new(device(alloc)?))?;
+    let device = serve_device(rt, alloc, links)?;
+    check(rt, device.holding_register(6), Some(7));
     let replied = (
         has_got(&links.near, &FIRST_REPLIES),
         has_got(&links.far, &SECOND_REPLIES),

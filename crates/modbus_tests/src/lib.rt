@@ -5,6 +5,8 @@
 #[cfg(test)]
 mod check;
 #[cfg(test)]
+mod fleet;
+#[cfg(test)]
 mod hub;
 #[cfg(test)]
 mod link;
