@@ -1,3 +1,4 @@
 pub mod Pieces
 pub mod Framing
 pub mod Line
+pub mod DefaultUnit

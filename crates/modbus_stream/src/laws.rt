@@ -1,8 +1,11 @@
-//! Laws on the pieces of a stream, about definitions alone. Each is proved by its contract, and its body is empty.
+//! Laws on the pieces of a stream and on the units that are asked, about definitions alone. Each is proved by its contract.
 ghost use Rattle.std.specs.Prelude.{◌≡◌, ℕ, List, [], ◌++◌};
 ghost use Rattle.modbus_frame.specs.declared.tcp.Header.{Header};
 ghost use Rattle.modbus_pdu.specs.Message.{Message};
+ghost use Rattle.modbus_stream.specs.DefaultUnit.{DefaultUnitRuns, ComesOfBelow};
 ghost use Rattle.modbus_stream.specs.Pieces.{IsPartial, AreMessages};
+
+use modbus_service::Answerer;
 
 /// Bytes are pieces and a rest in one way, however they are cut: the messages of a front of bytes are the first of those of all, and where
 /// all bytes are pieces, a rest that is no whole piece is nothing.
@@ -13,4 +16,11 @@ pub fn one_reading()
     ensures rest { (read left : List ℕ) (messages before : List (Message Header))
         → AreMessages read [] messages → AreMessages read left before → IsPartial left
         → left ≡ [] }
+{}
+
+/// A run of a `DefaultUnit` is a run of what lies below over the same requests, each for the unit that is asked, with the same answers, and
+/// each such run is one of it.
+pub fn default_unit_runs<H, S: Answerer>()
+    ensures below { DefaultUnitRuns H S.answering }
+    ensures back { ComesOfBelow H S.answering }
 {}

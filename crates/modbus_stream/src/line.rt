@@ -49,8 +49,9 @@ pub fn process_link<L: Source + Sink, V: Answerer>(
 ///
 /// Over a source and a sink that tell their bytes, Ok comes only where the input ended with no piece cut short. Then one run of the service
 /// took the pieces of the whole input in order, and stands at its end; its replies, each with its request's transaction and unit
-/// identifier, are all that was appended. A piece that is no ADU of a request is asked for unit 255 with no function code, so that
-/// `StandardAnswers` is silent to it; a PDU that can't be read is asked as a custom request of its function code.
+/// identifier, are all that was appended. A piece that is no ADU of a request is asked for unit 255, which a
+/// `DefaultUnit` asks its own unit, with no function code, so that `StandardAnswers` is silent to it; a PDU that can't be read is asked
+/// as a custom request of its function code.
 ///
 /// # Errors
 /// - `ReadFault`, `WriteFault`: only where the source, the sink counted a fault in this call.
