@@ -7,16 +7,17 @@ use modbus_identity::{Identified, Identity, IdentityError};
 use modbus_service::{OnlyUnit, Units, UnitsError};
 use modbus_standard::StandardAnswers;
 use modbus_store::{RegisterStore, Sizes, StoreError};
+use modbus_stream::{DefaultUnit, NON_SIGNIFICANT};
 use std::alloc::{AllocFailed, Global};
 
 /// A unit: four tables, and what the device says of itself. It answers as the standard wants where a request can't be read.
 type Unit = StandardAnswers<Identified<RegisterStore>>;
 
-/// The units of the device.
-pub type Device = Units<Unit>;
+/// The units behind a port of Modbus TCP, one of which is the device itself.
+pub type Device = DefaultUnit<Units<Unit>>;
 
 /// The units on a serial line, behind a port that counts what it hears and answers for its counters.
-pub type LineDevice = Port<Device>;
+pub type LineDevice = Port<Units<Unit>>;
 
 /// Why there are no such units.
 #[derive(Clone, Copy, Debug, PartialEq, Eq, thiserror::Error)]
@@ -27,6 +28,9 @@ pub enum OpenError {
     /// Two units have this address.
     #[error("two units have the address {0}")]
     Twice(SlaveId),
+    /// The default unit is none of the units.
+    #[error("the default unit {0} is none of the units")]
+    Default(SlaveId),
     /// A table would not have 1 to 65536 entries.
     #[error("a table has 1 to 65536 entries")]
     Entries,
@@ -90,8 +94,17 @@ pub struct Plan<'w> {
     pub entries: u32,
     /// What the device says of itself.
     pub texts: Texts<'w>,
-    /// Whether a request for a unit that is not there is told so, and not left without an answer.
-    pub tells_absent: bool,
+}
+
+/// What a request over Modbus TCP is for, by its unit identifier.
+#[derive(Clone, Copy, Debug, PartialEq, Eq)]
+pub struct Addressing {
+    /// The unit that is the device itself; the first one where there is none.
+    pub default_unit: Option<SlaveId>,
+    /// Whether 0 is a broadcast, as on a serial line, and not the device itself.
+    pub zero_is_broadcast: bool,
+    /// Whether a request for a unit that is not there has no answer.
+    pub is_silent: bool,
 }
 
 /// What a device says of itself (Modbus Application Protocol V1.1b3, sections 6.13 and 6.21).
@@ -163,30 +176,46 @@ fn open_units(alloc: Global, plan: &Plan<'_>) -> Result<Vec<OnlyUnit<Unit>>, Ope
     Ok(units)
 }
 
-impl Plan<'_> {
+impl Addressing {
     /// The answer to a request for a unit that is not there.
-    fn absent(&self) -> Option<ExceptionCode> {
-        if self.tells_absent {
-            Some(ExceptionCode::GatewayTargetDevice)
-        } else {
+    fn absent(self) -> Option<ExceptionCode> {
+        if self.is_silent {
             None
+        } else {
+            Some(ExceptionCode::GatewayTargetDevice)
+        }
+    }
+
+    /// The unit that is the device itself, among these.
+    fn device_among(self, units: &[SlaveId]) -> Result<SlaveId, OpenError> {
+        match (self.default_unit, units) {
+            (None, [first, ..]) => Ok(*first),
+            (None, []) => Ok(NON_SIGNIFICANT),
+            (Some(unit), _) if units.contains(&unit) => Ok(unit),
+            (Some(unit), _) => Err(OpenError::Default(unit)),
         }
     }
 }
 
-/// The units of a device, each with four tables of zeros. They are silent to a request for any other, or tell that it is not there by the
-/// exception 0B.
+/// The units of a device behind a port of Modbus TCP, each with four tables of zeros. They tell that a unit is not there by the exception
+/// 0B, or are silent to a request for it.
 ///
 /// # Errors
-/// The first address that is no unit's or stands twice, a number of entries out of range, a text that is too long, or refused memory.
-pub fn open(alloc: Global, plan: &Plan<'_>) -> Result<Device, OpenError> {
-    Ok(Units::new(open_units(alloc, plan)?, plan.absent())?)
+/// A default unit that is none of them, the first address that is no unit's or stands twice, a number of entries out of range, a text that
+/// is too long, or refused memory.
+pub fn open(alloc: Global, plan: &Plan<'_>, addressing: Addressing) -> Result<Device, OpenError> {
+    let unit = addressing.device_among(plan.units)?;
+    Ok(DefaultUnit {
+        unit,
+        zero_is_broadcast: addressing.zero_is_broadcast,
+        service: Units::new(open_units(alloc, plan)?, addressing.absent())?,
+    })
 }
 
-/// The same units on a serial line, whose port has heard nothing.
+/// The same units on a serial line, whose port has heard nothing; they are silent to a request for any other.
 ///
 /// # Errors
-/// Those of `open`.
+/// Those of `open`, but for the default unit.
 pub fn open_line(alloc: Global, plan: &Plan<'_>) -> Result<LineDevice, OpenError> {
-    Ok(Port::new(alloc, open_units(alloc, plan)?, plan.absent())?)
+    Ok(Port::new(alloc, open_units(alloc, plan)?, None)?)
 }

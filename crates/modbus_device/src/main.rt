@@ -15,6 +15,7 @@ use mio::net::TcpListener;
 use modbus_command::{FAILED, say, words_of};
 use modbus_server::ProcessError;
 use std::alloc::Global;
+use std::io::ErrorKind;
 use std::net::SocketAddr;
 use std::process::ExitCode;
 use words::{Place, Task};
@@ -49,11 +50,31 @@ fn serve_stream(
     }
 }
 
-/// The listener at an address, which is told; none where the system refuses it.
+/// Tells why the system refuses a listener.
+fn refuse(rt: &HostRuntime, address: SocketAddr, why: ErrorKind) {
+    let _ = match why {
+        ErrorKind::AddrInUse => {
+            eprintln!(rt; "modbus_device: no listener at {address}: the port is in use")
+        }
+        ErrorKind::PermissionDenied => {
+            eprintln!(rt; "modbus_device: no listener at {address}: permission is refused")
+        }
+        _ => eprintln!(rt; "modbus_device: no listener at {address}: {why}"),
+    };
+}
+
+/// The listener at an address, which is told; none where the system refuses it, which is told too.
 fn bind(rt: &HostRuntime, address: SocketAddr) -> Option<TcpListener> {
-    let listener = TcpListener::bind(rt, address).ok()?;
-    let _ = eprintln!(rt; "modbus_device: listening on {address}");
-    Some(listener)
+    match TcpListener::bind(rt, address) {
+        Ok(listener) => {
+            let _ = eprintln!(rt; "modbus_device: listening on {address}");
+            Some(listener)
+        }
+        Err(error) => {
+            refuse(rt, address, error.kind());
+            None
+        }
+    }
 }
 
 /// What the words ask for; or the status of words that ask for nothing, which is told.
@@ -78,7 +99,9 @@ enum Opened {
 /// The units that a task asks for, where they are reached.
 fn open_place(alloc: Global, place: Place, plan: &Plan<'_>) -> Result<Opened, OpenError> {
     Ok(match place {
-        Place::Port(address) => Opened::Port(address, open(alloc, plan)?),
+        Place::Port(address, addressing) => {
+            Opened::Port(address, open(alloc, plan, addressing)?)
+        }
         _ => Opened::Line(place, open_line(alloc, plan)?),
     })
 }
@@ -90,7 +113,6 @@ fn open_matched(rt: &HostRuntime, matches: &ArgMatches<'_>) -> Result<Opened, u8
         units: task.units.as_slice(),
         entries: task.entries,
         texts: words::texts_of(matches),
-        tells_absent: matches.get_flag("absent"),
     };
     match open_place(rt.alloc(), task.place, &plan) {
         Ok(opened) => Ok(opened),
@@ -128,7 +150,6 @@ fn main(rt: HostRuntime) -> ExitCode {
         Err(status) => return ExitCode::from(status),
     };
     let Some(listener) = bind(&rt, address) else {
-        let _ = eprintln!(rt; "modbus_device: no listener at {address}");
         return ExitCode::from(FAILED);
     };
     let fault = listen::serve(&rt, listener, device);

@@ -1,6 +1,7 @@
 //! The words of the command line.
 
-use crate::device::Texts;
+use crate::device::{Addressing, Texts};
+use clap::parser::ValueSource;
 use clap::{Arg, ArgMatches, Command, Error, value_parser};
 use modbus_command::{FAILED, USAGE, VERSION, command, flag, option, positional};
 use modbus_frame::SlaveId;
@@ -14,8 +15,8 @@ pub enum Place {
     Terminal,
     /// A serial line behind this address, which carries its bytes, and falls silent for so many milliseconds between two frames.
     Stream(SocketAddr, u64),
-    /// A port of Modbus TCP at this address.
-    Port(SocketAddr),
+    /// A port of Modbus TCP at this address, and what its requests are for.
+    Port(SocketAddr, Addressing),
 }
 
 /// What the program is to do.
@@ -35,6 +36,12 @@ pub enum Wrong {
     /// A word is no unit.
     #[error("a unit is a number from 1 to 247")]
     Unit,
+    /// There is a port and a line.
+    #[error("--line and --listen name two places")]
+    Places,
+    /// This word is of use beside the other alone, which is not there.
+    #[error("--{0} needs --{1}")]
+    Lacks(&'static str, &'static str),
     /// A word is no address.
     #[error("an address is an IP address and a port, as 192.0.2.1:502")]
     Address,
@@ -98,7 +105,7 @@ fn line<'a>(alloc: Global) -> Arg<'a> {
     )
 }
 
-fn silence<'a>(alloc: Global) -> Result<Arg<'a>, AllocError> {
+fn silence<'a>(alloc: Global) -> Arg<'a> {
     option(
         alloc,
         "silence",
@@ -107,23 +114,37 @@ fn silence<'a>(alloc: Global) -> Result<Arg<'a>, AllocError> {
     )
     .value_parser(value_parser!(u64).range(1..=60_000))
     .default_value("5")
-    .requires_arg("line")
+}
+
+fn default_unit<'a>(alloc: Global) -> Arg<'a> {
+    option(
+        alloc,
+        "default-unit",
+        "N",
+        "The unit that requests for 255 and 0 over Modbus TCP are for [default: the first]",
+    )
+}
+
+fn broadcast_zero<'a>(alloc: Global) -> Arg<'a> {
+    flag(
+        alloc,
+        "broadcast-0",
+        "Over Modbus TCP take 0 for a broadcast, which each unit does and none answers",
+    )
+}
+
+fn silent<'a>(alloc: Global) -> Arg<'a> {
+    flag(
+        alloc,
+        "silent",
+        "Over Modbus TCP do not answer for a unit that is not there, in place of the exception 0B",
+    )
 }
 
 fn server_id<'a>(alloc: Global) -> Arg<'a> {
     option(alloc, "server-id", "N", "Its number in Report Server ID")
         .value_parser(value_parser!(u8))
         .default_value("1")
-}
-
-/// The word with which a unit that is not there is told.
-fn absent<'a>(alloc: Global) -> Result<Arg<'a>, AllocError> {
-    flag(
-        alloc,
-        "absent",
-        "Answer a request for a unit that is not there with the exception 0B",
-    )
-    .requires_arg("listen")
 }
 
 /// A word of what the device says of itself, which takes a text.
@@ -149,13 +170,16 @@ fn revision<'a>(alloc: Global) -> Arg<'a> {
 }
 
 // Each word is a function of its own: a function that owns several is proved for minutes.
-fn words<'a>(alloc: Global, silence: Arg<'a>, absent: Arg<'a>) -> Result<Vec<Arg<'a>>, AllocError> {
+fn words<'a>(alloc: Global) -> Result<Vec<Arg<'a>>, AllocError> {
     Ok(vec![in alloc;
         units(alloc),
         entries(alloc),
         listen(alloc),
+        default_unit(alloc),
+        broadcast_zero(alloc),
+        silent(alloc),
         line(alloc),
-        silence,
+        silence(alloc),
         vendor(alloc),
         product(alloc),
         revision(alloc),
@@ -164,18 +188,15 @@ fn words<'a>(alloc: Global, silence: Arg<'a>, absent: Arg<'a>) -> Result<Vec<Arg
         text(alloc, "product-name", "The name of the product, object 4"),
         text(alloc, "model", "Its model, object 5"),
         text(alloc, "application", "What it is used for, object 6"),
-        absent,
     ]?)
 }
 
 fn whole<'a>(alloc: Global) -> Result<Command<'a>, AllocError> {
-    let silence = silence(alloc)?;
-    let words = words(alloc, silence, absent(alloc)?)?;
     let whole = command(
         alloc,
         "modbus_device",
         "A Modbus device: units with four tables each, on a serial line or a port",
-        words,
+        words(alloc)?,
     )?;
     Ok(whole.version(VERSION))
 }
@@ -196,10 +217,57 @@ fn address(word: &str) -> Result<SocketAddr, Wrong> {
     }
 }
 
+/// Words that are of use beside another alone.
+const BESIDE: [(&str, &str); 4] = [
+    ("silence", "line"),
+    ("default-unit", "listen"),
+    ("broadcast-0", "listen"),
+    ("silent", "listen"),
+];
+
+/// Whether a word stands on the command line.
+fn is_given(matches: &ArgMatches<'_>, word: &str) -> bool {
+    matches.value_source(word) == Some(ValueSource::CommandLine)
+}
+
+/// Refuses words that do not go together.
+fn check_together(matches: &ArgMatches<'_>) -> Result<(), Wrong> {
+    if is_given(matches, "listen") && is_given(matches, "line") {
+        return Err(Wrong::Places);
+    }
+    for (word, other) in BESIDE {
+        if is_given(matches, word) && !is_given(matches, other) {
+            return Err(Wrong::Lacks(word, other));
+        }
+    }
+    Ok(())
+}
+
+/// The unit that a word names.
+fn unit(word: &str) -> Result<SlaveId, Wrong> {
+    match word.parse() {
+        Ok(unit) => Ok(unit),
+        Err(_) => Err(Wrong::Unit),
+    }
+}
+
+/// What the words have requests over Modbus TCP be for.
+fn addressing_of(matches: &ArgMatches<'_>) -> Result<Addressing, Wrong> {
+    let default_unit = match matches.get_str("default-unit") {
+        Some(word) => Some(unit(word)?),
+        None => None,
+    };
+    Ok(Addressing {
+        default_unit,
+        zero_is_broadcast: matches.get_flag("broadcast-0"),
+        is_silent: matches.get_flag("silent"),
+    })
+}
+
 /// Where the words want the units.
 fn place_of(matches: &ArgMatches<'_>) -> Result<Place, Wrong> {
     if let Some(word) = matches.get_str("listen") {
-        return Ok(Place::Port(address(word)?));
+        return Ok(Place::Port(address(word)?, addressing_of(matches)?));
     }
     match matches.get_str("line") {
         Some(word) => {
@@ -214,10 +282,7 @@ fn place_of(matches: &ArgMatches<'_>) -> Result<Place, Wrong> {
 fn units_of(alloc: Global, words: &[&str]) -> Result<Vec<SlaveId>, Wrong> {
     let mut units = Vec::new(alloc);
     for word in words {
-        match word.parse() {
-            Ok(unit) => units.push(unit)?,
-            Err(_) => return Err(Wrong::Unit),
-        }
+        units.push(unit(word)?)?;
     }
     Ok(units)
 }
@@ -225,8 +290,9 @@ fn units_of(alloc: Global, words: &[&str]) -> Result<Vec<SlaveId>, Wrong> {
 /// What the words ask for.
 ///
 /// # Errors
-/// `Unit`, `Address`: a word is none; `NoMemory`: memory was refused.
+/// `Places`, `Lacks`: words do not go together; `Unit`, `Address`: a word is none; `NoMemory`: memory was refused.
 pub fn task_of(alloc: Global, matches: &ArgMatches<'_>) -> Result<Task, Wrong> {
+    check_together(matches)?;
     Ok(Task {
         place: place_of(matches)?,
         units: units_of(alloc, matches.get_strs("units").unwrap_or(&[]))?,
