@@ -1,7 +1,7 @@
 """The programs of this checkout: which there are, and the file of each, proved or as written.
 
 A proved program is what `rt ci` or ./prove left in its crate's out/. One as written is built of the sources alone, unproved, and kept in
-the folder .programs of this checkout beside the checksum of its sources.
+the folder .programs of this checkout, or that of PROGRAMS_KEPT, beside the checksum of its sources.
 """
 
 import contextlib
@@ -18,7 +18,7 @@ import tempfile
 import time
 
 TOP = os.path.dirname(os.path.dirname(os.path.abspath(__file__)))
-KEPT = os.path.join(TOP, ".programs")
+KEPT = os.environ.get("PROGRAMS_KEPT") or os.path.join(TOP, ".programs")
 # What a build takes at most while it runs, in bytes.
 ROOM = 300 * 1024 * 1024
 # How often a program may end before its file is seen.
