@@ -6,9 +6,8 @@ ghost use Rattle.modbus_link.specs.Polled.{at_once, Waited};
 ghost use Rattle.modbus_burst.specs.Link.{CountsSilence};
 
 use modbus_link::{
-    Failed, Polled, PolledLink, TerminalLink, TimedLink, TimedMemoryLink, TimedTcpLink,
+    Failed, Polled, PolledLink, TerminalLine, TerminalLink, TimedLink, TimedMemoryLink, TimedTcpLink,
 };
-use modbus_terminal::TerminalLine;
 use std::io::{Read, Write};
 use std::time::Clock;
 

@@ -5,6 +5,7 @@ ghost use Rattle.modbus_pdu.specs.Message.{Message};
 ghost use Rattle.modbus_client.specs.Tcp.{header_seen, DropsAdus, EndsOfAnother, FindsOwnAdu};
 ghost use Rattle.modbus_c.specs.Calls.{FindsMessageBy, FindsNextMessage, found_in, used_by};
 
+use modbus_client::tcp::end_of_another;
 use modbus_frame::tcp::Header;
 use modbus_frame::{Front, HeaderSeen};
 use modbus_rtu::{MAX_RETRIES, Next, ResponseRule, next_frame_by};
@@ -45,32 +46,6 @@ fn seen_of(header: Header) -> HeaderSeen
     HeaderSeen {
         transaction_id: Some(header.transaction_id),
         slave_id: header.unit_id,
-    }
-}
-
-/// Whether an ADU under this header is of the transaction and the unit that were asked.
-fn is_own(asked: HeaderSeen, header: Header) -> bool
-    ensures { IsTrue result ↔ (header_seen header ≡ asked) }
-{
-    seen_of(header) == asked
-}
-
-/// Where the ADU at the front of the bytes ends, if it is whole and of another transaction or unit than was asked.
-fn end_of_another(asked: HeaderSeen, bytes: &[u8]) -> Option<usize>
-    ensures { EndsOfAnother asked bytes.now result }
-{
-    modbus_tcp::laws::one_front();
-    match front(bytes) {
-        Ok(Front::Message { header, end, .. }) => {
-            if is_own(asked, header) {
-                None
-            } else {
-                Some(end)
-            }
-        }
-        Ok(Front::Waiting { .. }) => None,
-        Err(HeaderFault::InvalidLength) => None,
-        Err(HeaderFault::InvalidProtocol(_)) => None,
     }
 }
 

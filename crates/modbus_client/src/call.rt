@@ -13,13 +13,12 @@ use bytes::BytesMut;
 use modbus_frame::{
     EncodeError, Error, FunctionCode, HeaderSeen, Request, Response, Result, TransportError,
 };
-use modbus_link::{Failed, Polled, PolledLink, flush};
+use modbus_link::{Failed, Polled, PolledLink, READ_ROOM, flush};
 use std::alloc::{AllocError, Global};
 use std::marker::Model;
 
-/// The length in bytes of the room of each read. The standard has no such number: reads of a client always had this room, which is more
-/// than the longest frame and the longest ADU have.
-pub const ROOM: usize = 268;
+/// The length in bytes of the room of each read.
+pub const ROOM: usize = READ_ROOM;
 
 /// A request that was asked, and the bytes of it that were not written yet.
 ///

@@ -12,7 +12,7 @@ ghost use Rattle.modbus_client.specs.Connects.{Connects, connector_of};
 use crate::link_client::LinkClient;
 use crate::protocol::{LookError, Protocol, Reply};
 pub use crate::transactions::{
-    MatchingCall, MatchingClient, OwnAdus, attach_matching, connect_matching,
+    MatchingCall, MatchingClient, OwnAdus, attach_matching, connect_matching, end_of_another,
 };
 use bytes::BytesMut;
 use modbus_frame::tcp::Header;

@@ -29,8 +29,9 @@ fn is_own(asked: HeaderSeen, header: Header) -> bool
     Adus::seen(header) == asked
 }
 
-/// Where the ADU at the front of the bytes ends, if it is whole and of another transaction or unit than was asked.
-fn end_of_another(asked: HeaderSeen, bytes: &[u8]) -> Option<usize>
+/// Where the ADU at the front of the bytes ends, if it is whole and of another transaction or unit than was asked (section 4.4.1.3). `None` where
+/// it is the reply, where it is not whole, and where no ADU stands there.
+pub fn end_of_another(asked: HeaderSeen, bytes: &[u8]) -> Option<usize>
     ensures { EndsOfAnother asked bytes.now result }
 {
     modbus_tcp::laws::one_front();

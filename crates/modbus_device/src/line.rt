@@ -5,10 +5,9 @@ ghost use Rattle.modbus_burst.specs.Line.{IsOfNoBurst};
 use crate::device::LineDevice;
 use modbus_burst::{BurstLink, CountedLink, process_link};
 use modbus_link::{
-    Connector, Link, ReadSource, TcpConnector, TerminalLink, TimedTcpLink, WriteSink,
+    Connector, Link, ReadSource, TcpConnector, TerminalLine, TerminalLink, TimedTcpLink, WriteSink,
 };
 use modbus_server::ProcessError;
-use modbus_terminal::TerminalLine;
 use std::alloc::Global;
 use std::io::{Stdin, Stdout};
 use std::net::SocketAddr;

@@ -1,6 +1,6 @@
 -- What a request means: its kind with its numbers and lists, wherever these lie in memory. The kinds are functions of
 -- the Modbus Application Protocol V1.1b3, section 6.
-use Rattle.std.specs.Prelude.{ℕ, Bool, List}
+use Rattle.std.specs.Prelude.{ℕ, Bool, true, false, List}
 use Rattle.std.specs.Cow.{cow_slice_items}
 use Rattle.modbus_frame.specs.declared.code.ReadCode.{ReadCode}
 use Rattle.modbus_frame.specs.declared.code.FunctionCode.{FunctionCode}
@@ -58,3 +58,14 @@ function_asked (ReadWriteMultipleRegisters read_address quantity write_address w
 function_asked (ReadFifoQueue address) = function.ReadFifoQueue
 function_asked (ReadDeviceIdentification code id) = function.EncapsulatedInterfaceTransport
 function_asked (Custom code bytes) = function.Custom code
+
+-- a request that only reads: a device that does it twice is as if it had done it once (6.1 to 6.4, 6.13, 6.18, 6.21)
+abbrev pub only_reads : Asked → Bool
+only_reads (ReadCoils address quantity) = true
+only_reads (ReadDiscreteInputs address quantity) = true
+only_reads (ReadInputRegisters address quantity) = true
+only_reads (ReadHoldingRegisters address quantity) = true
+only_reads ReportServerId = true
+only_reads (ReadFifoQueue address) = true
+only_reads (ReadDeviceIdentification code id) = true
+only_reads _ = false

@@ -4,7 +4,7 @@
 //! the items of its lists, wherever these lie in memory.
 ghost use Rattle.std.specs.Prelude.{◌≡◌, IfOk};
 ghost use Rattle.std.specs.Cow.{cow_slice_items};
-ghost use Rattle.modbus_frame.specs.Meaning.{meaning, function_asked};
+ghost use Rattle.modbus_frame.specs.Meaning.{meaning, function_asked, only_reads};
 
 use crate::code::{FunctionCode, ReadCode};
 use crate::identification::ObjectId;
@@ -133,6 +133,75 @@ impl<'a> Request<'a> {
                 CowSlice::Owned(data.into_owned(alloc)?),
             ),
         })
+    }
+
+    /// The same request, which borrows its lists from this one.
+    pub fn lend(&self) -> Request<'_>
+        ensures { meaning result ≡ meaning self.now }
+    {
+        match self {
+            Request::ReadCoils(address, quantity) => Request::ReadCoils(*address, *quantity),
+            Request::ReadDiscreteInputs(address, quantity) => {
+                Request::ReadDiscreteInputs(*address, *quantity)
+            }
+            Request::WriteSingleCoil(address, coil) => Request::WriteSingleCoil(*address, *coil),
+            Request::WriteMultipleCoils(address, coils) => {
+                Request::WriteMultipleCoils(*address, CowSlice::Borrowed(coils.as_slice()))
+            }
+            Request::ReadInputRegisters(address, quantity) => {
+                Request::ReadInputRegisters(*address, *quantity)
+            }
+            Request::ReadHoldingRegisters(address, quantity) => {
+                Request::ReadHoldingRegisters(*address, *quantity)
+            }
+            Request::WriteSingleRegister(address, word) => {
+                Request::WriteSingleRegister(*address, *word)
+            }
+            Request::WriteMultipleRegisters(address, words) => {
+                Request::WriteMultipleRegisters(*address, CowSlice::Borrowed(words.as_slice()))
+            }
+            Request::ReportServerId => Request::ReportServerId,
+            Request::MaskWriteRegister(address, and_mask, or_mask) => {
+                Request::MaskWriteRegister(*address, *and_mask, *or_mask)
+            }
+            Request::ReadWriteMultipleRegisters(read_address, quantity, write_address, words) => {
+                Request::ReadWriteMultipleRegisters(
+                    *read_address,
+                    *quantity,
+                    *write_address,
+                    CowSlice::Borrowed(words.as_slice()),
+                )
+            }
+            Request::ReadFifoQueue(address) => Request::ReadFifoQueue(*address),
+            Request::ReadDeviceIdentification(code, id) => {
+                Request::ReadDeviceIdentification(*code, *id)
+            }
+            Request::Custom(code, data) => {
+                Request::Custom(*code, CowSlice::Borrowed(data.as_slice()))
+            }
+        }
+    }
+
+    /// Whether it only reads: a device that does it twice is as if it had done it once (sections 6.1 to 6.4, 6.13, 6.18, 6.21).
+    pub fn only_reads(&self) -> bool
+        ensures { result ≡ only_reads (meaning self.now) }
+    {
+        match self {
+            Request::ReadCoils(_, _)
+            | Request::ReadDiscreteInputs(_, _)
+            | Request::ReadInputRegisters(_, _)
+            | Request::ReadHoldingRegisters(_, _)
+            | Request::ReportServerId
+            | Request::ReadFifoQueue(_)
+            | Request::ReadDeviceIdentification(_, _) => true,
+            Request::WriteSingleCoil(_, _)
+            | Request::WriteMultipleCoils(_, _)
+            | Request::WriteSingleRegister(_, _)
+            | Request::WriteMultipleRegisters(_, _)
+            | Request::MaskWriteRegister(_, _, _)
+            | Request::ReadWriteMultipleRegisters(_, _, _, _)
+            | Request::Custom(_, _) => false,
+        }
     }
 
     /// A request of the same meaning, which borrows what this one borrows. Refused memory is the one error.

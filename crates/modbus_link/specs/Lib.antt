@@ -12,3 +12,6 @@ pub mod Connects
 pub mod Listens
 pub mod Tcp
 pub mod Silence
+pub mod Terminal
+pub mod Timed
+pub mod Room

@@ -1,6 +1,6 @@
 -- Which requests may be sent again (Modbus Application Protocol V1.1b3, section 6).
 use Rattle.std.specs.Prelude.{Bool, true, false, ◌&&◌, ◌||◌, not, Ok, Err}
-use Rattle.modbus_frame.specs.Meaning.{Asked, ReadCoils, ReadDiscreteInputs, ReadInputRegisters, ReadHoldingRegisters, ReportServerId, ReadFifoQueue, ReadDeviceIdentification}
+use Rattle.modbus_frame.specs.Meaning.{Asked, only_reads}
 use Rattle.modbus_frame.specs.Stage.{error_stage}
 use Rattle.modbus_frame.specs.declared.fault.Error.TheVariants.{Transport}
 use Rattle.modbus_frame.specs.declared.fault.TransportError.TheVariants.{NotConnected}
@@ -8,17 +8,6 @@ use Rattle.modbus_client.specs.Matches.{Answer}
 use Rattle.modbus_reconnect.specs.declared.resend.Resend.{Resend}
 use Rattle.modbus_reconnect.specs.declared.resend.Resend.TheVariants.{Never, Reads, Always}
 use Rattle.modbus_reconnect.specs.Owes.{settles}
-
--- a request that only reads: a device that does it twice is as if it had done it once (6.1 to 6.4, 6.13, 6.18, 6.21)
-abbrev pub only_reads : Asked → Bool
-only_reads (ReadCoils address quantity) = true
-only_reads (ReadDiscreteInputs address quantity) = true
-only_reads (ReadInputRegisters address quantity) = true
-only_reads (ReadHoldingRegisters address quantity) = true
-only_reads ReportServerId = true
-only_reads (ReadFifoQueue address) = true
-only_reads (ReadDeviceIdentification code id) = true
-only_reads _ = false
 
 -- the caller lets this request be sent again
 abbrev pub may_resend : Resend → Asked → Bool

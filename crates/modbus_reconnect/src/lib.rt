@@ -10,7 +10,6 @@ mod once;
 mod opening;
 mod owing;
 mod reply;
-mod request;
 mod resend;
 mod settling;
 mod settling_client;

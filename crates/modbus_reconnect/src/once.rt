@@ -8,7 +8,6 @@ ghost use Rattle.modbus_client.specs.Matches.{Answer};
 ghost use Rattle.modbus_reconnect.specs.Tries.{CallsOn};
 
 use crate::owing::is_settled;
-use crate::request::lend;
 use modbus_client::{Client, LinkClient, Protocol};
 use modbus_frame::{Request, Response, Result};
 use modbus_link::Link;
@@ -30,7 +29,7 @@ where
     ghost calls_on = { CallsOn P.protocol P.heading (meaning_of L.input L.output L.line) };
 
     fn call_once(mut self, request: &Request<'_>) -> (Result<Response>, Option<Self>) {
-        let answer = self.call(lend(request));
+        let answer = self.call(request.lend());
         if is_settled(request, &answer) && self.held() == 0 {
             return (answer, Some(self));
         }

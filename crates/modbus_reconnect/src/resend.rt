@@ -1,7 +1,7 @@
 //! Which requests may be sent again.
 ghost use Rattle.std.specs.Prelude.{◌≡◌};
 ghost use Rattle.modbus_frame.specs.Meaning.{meaning};
-ghost use Rattle.modbus_reconnect.specs.Resends.{only_reads, may_resend, is_unconnected, may_follow};
+ghost use Rattle.modbus_reconnect.specs.Resends.{may_resend, is_unconnected, may_follow};
 
 use crate::owing::is_in_doubt;
 use modbus_frame::{Error, Request, Response, Result, TransportError};
@@ -15,28 +15,6 @@ pub enum Resend {
     Reads,
     /// All. A device that does a write twice must be as if it had done it once.
     Always,
-}
-
-/// Whether a request only reads.
-fn only_reads(request: &Request<'_>) -> bool
-    ensures { result ≡ only_reads (meaning request.now) }
-{
-    match request {
-        Request::ReadCoils(_, _)
-        | Request::ReadDiscreteInputs(_, _)
-        | Request::ReadInputRegisters(_, _)
-        | Request::ReadHoldingRegisters(_, _)
-        | Request::ReportServerId
-        | Request::ReadFifoQueue(_)
-        | Request::ReadDeviceIdentification(_, _) => true,
-        Request::WriteSingleCoil(_, _)
-        | Request::WriteMultipleCoils(_, _)
-        | Request::WriteSingleRegister(_, _)
-        | Request::WriteMultipleRegisters(_, _)
-        | Request::MaskWriteRegister(_, _, _)
-        | Request::ReadWriteMultipleRegisters(_, _, _, _)
-        | Request::Custom(_, _) => false,
-    }
 }
 
 /// Whether no link was made.
@@ -53,7 +31,7 @@ impl Resend {
     {
         match self {
             Resend::Never => false,
-            Resend::Reads => only_reads(request),
+            Resend::Reads => request.only_reads(),
             Resend::Always => true,
         }
     }

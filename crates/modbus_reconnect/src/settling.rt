@@ -2,10 +2,7 @@
 ghost use Rattle.std.specs.Prelude.{◌≡◌, ◌<◌};
 ghost use Rattle.modbus_reconnect.specs.Settles.{DropsNoise, Settles};
 
-use modbus_link::{Failed, Polled, TimedLink};
-
-/// The length in bytes of the room of each read that is dropped.
-const ROOM: usize = 268;
+use modbus_link::{Failed, Polled, READ_ROOM, TimedLink};
 
 /// Why a line was not settled.
 #[derive(Clone, Copy, Debug, PartialEq, Eq, thiserror::Error)]
@@ -32,8 +29,8 @@ fn drop_next<L: TimedLink>(link: &mut L, silences: u64, most: usize) -> Result<u
     ensures sink { L.output link.new ≡ L.output link.old }
     ensures line { L.line link.new ≡ L.line link.old }
 {
-    let mut room = [0; ROOM];
-    let len = most.min(ROOM);
+    let mut room = [0; READ_ROOM];
+    let len = most.min(READ_ROOM);
     'silences: for _told in 0..silences {
         match link.poll_read(&mut room[..len]) {
             Ok(Polled::Pending) => {}

@@ -12,7 +12,7 @@ use crate::serving::{serve, serve_link};
 use bytes::BytesMut;
 use modbus_frame::tcp::Header;
 use modbus_frame::{EncodeError, ExceptionResponse, Front, PduError, Request, Response, SlaveId};
-use modbus_link::{Sink, Source};
+use modbus_link::{READ_ROOM, Sink, Source};
 use modbus_pdu::decode_request;
 use modbus_service::Answerer;
 use modbus_tcp::{HeaderFault, LONGEST_RESPONSE, encode_response_adu};
@@ -29,10 +29,6 @@ pub type ConnectionWorker<L, V, H, X> = crate::worker::ConnectionWorker<AduBuffe
 
 /// A listener of Modbus TCP.
 pub type Server<A> = crate::listener::Server<AduBuffer, A>;
-
-/// How many bytes a read has room for. The standard has no such number: reads of a stream always had this room, which is more than
-/// the longest ADU of a request that is answered.
-const ROOM: usize = 268;
 
 /// The bytes that were fed and not used yet: less than an ADU, once all whole ones are taken off.
 #[derive(Drop)]
@@ -71,7 +67,7 @@ impl Framing for AduBuffer {
     }
 
     fn longest_read() -> usize {
-        ROOM
+        READ_ROOM
     }
 
     fn seam() -> usize {
@@ -113,11 +109,11 @@ impl Framing for AduBuffer {
     }
 
     fn room(&self) -> usize {
-        ROOM
+        READ_ROOM
     }
 
     fn make_room(&mut self, _alloc: Global) -> Result<(), AllocError> {
-        self.bytes.reserve(ROOM)
+        self.bytes.reserve(READ_ROOM)
     }
 
     fn append(&mut self, piece: &[u8]) {

@@ -9,7 +9,6 @@ use crate::only_unit::{OnlyUnit, unsent};
 use crate::service::{Answerer, ServiceError};
 use modbus_frame::{ExceptionCode, Request, Response, Slave, SlaveId, SlaveRequest};
 use std::alloc::{AllocError, Global};
-use std::borrow::CowSlice;
 use std::marker::Model;
 
 /// The addresses of units are not those of single devices, or not distinct.
@@ -86,51 +85,6 @@ fn check_units<S>(units: &[OnlyUnit<S>]) -> Result<(), UnitsError>
     Ok(())
 }
 
-// The same request over borrowed lists.
-fn lent<'b>(request: &'b Request<'_>) -> Request<'b>
-    ensures { meaning result ≡ meaning request.now }
-{
-    match request {
-        Request::ReadCoils(address, quantity) => Request::ReadCoils(*address, *quantity),
-        Request::ReadDiscreteInputs(address, quantity) => Request::ReadDiscreteInputs(
-            *address, *quantity,
-        ),
-        Request::WriteSingleCoil(address, coil) => Request::WriteSingleCoil(*address, *coil),
-        Request::WriteMultipleCoils(address, coils) => {
-            Request::WriteMultipleCoils(*address, CowSlice::Borrowed(coils.as_slice()))
-        }
-        Request::ReadInputRegisters(address, quantity) => Request::ReadInputRegisters(
-            *address, *quantity,
-        ),
-        Request::ReadHoldingRegisters(address, quantity) => Request::ReadHoldingRegisters(
-            *address, *quantity,
-        ),
-        Request::WriteSingleRegister(address, word) => Request::WriteSingleRegister(
-            *address, *word,
-        ),
-        Request::WriteMultipleRegisters(address, words) => {
-            Request::WriteMultipleRegisters(*address, CowSlice::Borrowed(words.as_slice()))
-        }
-        Request::ReportServerId => Request::ReportServerId,
-        Request::MaskWriteRegister(address, and_mask, or_mask) => {
-            Request::MaskWriteRegister(*address, *and_mask, *or_mask)
-        }
-        Request::ReadWriteMultipleRegisters(read_address, quantity, write_address, words) => {
-            Request::ReadWriteMultipleRegisters(
-                *read_address,
-                *quantity,
-                *write_address,
-                CowSlice::Borrowed(words.as_slice()),
-            )
-        }
-        Request::ReadFifoQueue(address) => Request::ReadFifoQueue(*address),
-        Request::ReadDeviceIdentification(code, id) => Request::ReadDeviceIdentification(
-            *code, *id,
-        ),
-        Request::Custom(code, data) => Request::Custom(*code, CowSlice::Borrowed(data.as_slice())),
-    }
-}
-
 // Has a service do a broadcast.
 fn tell<S: Answerer>(
     service: &mut S,
@@ -143,7 +97,7 @@ fn tell<S: Answerer>(
 {
     let broadcast = SlaveRequest {
         slave: Slave::broadcast().0,
-        request: lent(request),
+        request: request.lend(),
     };
     unsent(service.ask(alloc, broadcast))
 }

@@ -41,6 +41,16 @@ TakesAdu old (Err (errors.InvalidProtocol protocol)) new = IsRest old (foreign p
 TakesAdu old (Err (errors.Invalid reason)) new = ⊥
 TakesAdu old (Err errors.NoMemory) new = (message : Message Header) × (others : List ℕ) × BeginsWith old message others × (new ≡ old)
 
+-- as what the decoder and the codecs tell a header that is no header of Modbus
+abbrev pub header_error : HeaderFault → TcpError
+header_error faults.InvalidLength = errors.InvalidLength
+header_error (faults.InvalidProtocol protocol) = errors.InvalidProtocol protocol
+
+-- what such a header leaves in the buffer: one of another protocol is gone
+abbrev pub left_by : HeaderFault → List ℕ → List ℕ
+left_by faults.InvalidLength bytes = bytes
+left_by (faults.InvalidProtocol _) bytes = drop mbap_header bytes
+
 -- why a codec gives no message, of an ADU whose PDU is not read
 abbrev pub error_of : PduError → TcpError
 error_of (pdu_errors.Refused reason) = errors.Invalid reason

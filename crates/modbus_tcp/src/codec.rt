@@ -14,10 +14,9 @@ ghost use Rattle.modbus_tcp.specs.Decoder.{ReadsAdu};
 ghost use Rattle.modbus_tcp.specs.Adu.{adu_of};
 ghost use Rattle.modbus_tcp.specs.Limits.{longest_adu};
 
-use crate::decoder::TcpError;
+use crate::decoder::{TcpError, refuse_header};
 use crate::encoder::{encode_request_adu, encode_response_adu};
-use crate::mbap::{HEADER, front};
-use crate::stream::HeaderFault;
+use crate::mbap::front;
 use bytes::BytesMut;
 use modbus_frame::{EncodeError, Front, PduError, RequestPdu, tcp};
 use modbus_pdu::{decode_request, read_response_pdu};
@@ -67,11 +66,7 @@ impl ClientCodec {
                 Err(PduError::NoMemory) => Err(TcpError::NoMemory),
             },
             Ok(Front::Waiting { .. }) => Ok(None),
-            Err(HeaderFault::InvalidLength) => Err(TcpError::InvalidLength),
-            Err(HeaderFault::InvalidProtocol(protocol)) => {
-                buf.advance(HEADER);
-                Err(TcpError::InvalidProtocol(protocol))
-            }
+            Err(fault) => Err(refuse_header(fault, buf)),
         }
     }
 
@@ -133,11 +128,7 @@ impl ServerCodec {
                 Err(PduError::NoMemory) => Err(TcpError::NoMemory),
             },
             Ok(Front::Waiting { .. }) => Ok(None),
-            Err(HeaderFault::InvalidLength) => Err(TcpError::InvalidLength),
-            Err(HeaderFault::InvalidProtocol(protocol)) => {
-                buf.advance(HEADER);
-                Err(TcpError::InvalidProtocol(protocol))
-            }
+            Err(fault) => Err(refuse_header(fault, buf)),
         }
     }
 

@@ -1,7 +1,7 @@
 //! The decoder that takes ADUs off the front of a buffer (MODBUS Messaging on TCP/IP V1.0b, section 3.1.3).
-ghost use Rattle.std.specs.Prelude.{◌≡◌, ◌<◌, Ok, None, length};
+ghost use Rattle.std.specs.Prelude.{◌≡◌, ◌<◌, Ok, Err, None, length};
 ghost use Rattle.modbus_tcp.specs.declared.decoder.TcpError.TheVariants as errors;
-ghost use Rattle.modbus_tcp.specs.Decoder.{TakesAdu, error_of};
+ghost use Rattle.modbus_tcp.specs.Decoder.{FindsAdu, TakesAdu, error_of, header_error, left_by};
 ghost use Rattle.modbus_tcp.specs.Limits.{longest_adu};
 
 use crate::mbap::{HEADER, front};
@@ -46,6 +46,30 @@ impl From<PduError> for TcpError {
     }
 }
 
+impl From<HeaderFault> for TcpError {
+    ghost from_gives = { λ fault error. error ≡ header_error fault };
+
+    fn from(fault: HeaderFault) -> TcpError {
+        match fault {
+            HeaderFault::InvalidLength => TcpError::InvalidLength,
+            HeaderFault::InvalidProtocol(protocol) => TcpError::InvalidProtocol(protocol),
+        }
+    }
+}
+
+/// Tells a fault of the header at the front of a buffer. The header of another protocol is taken off.
+pub(crate) fn refuse_header(fault: HeaderFault, buf: &mut BytesMut) -> TcpError
+    requires { FindsAdu buf.old.items (Err fault) }
+    ensures told { result ≡ header_error fault }
+    ensures left { buf.new.items ≡ left_by fault buf.old.items }
+{
+    match fault {
+        HeaderFault::InvalidLength => {}
+        HeaderFault::InvalidProtocol(_) => buf.advance(HEADER),
+    }
+    TcpError::from(fault)
+}
+
 /// Takes ADUs off the front of a buffer.
 #[derive(Debug, Default, Drop)]
 pub struct AduDecoder;
@@ -78,11 +102,7 @@ impl AduDecoder {
                 Ok(Some((header, pdu)))
             }
             Ok(Front::Waiting { .. }) => Ok(None),
-            Err(HeaderFault::InvalidLength) => Err(TcpError::InvalidLength),
-            Err(HeaderFault::InvalidProtocol(protocol)) => {
-                buf.advance(HEADER);
-                Err(TcpError::InvalidProtocol(protocol))
-            }
+            Err(fault) => Err(refuse_header(fault, buf)),
         }
     }
 }

@@ -2,21 +2,18 @@
 //!
 //! A serial port that was set by `stty raw min 0 time 1` gives nothing where a tenth of a second passed without a byte, and gives nothing at
 //! once where it was hung up. `TerminalLink` tells both as a silence; with a clock they are told apart.
-#![tactic(auto)]
-
-mod reading;
-mod timed;
-
 ghost use Rattle.std.specs.Prelude.{◌≡◌, ◌<◌, ◌≤◌, length, IsTrue, IfOk, OnErr};
 ghost use Rattle.std.specs.Io.{ReadsAtMost, WritesAtMost};
 ghost use Rattle.modbus_link.specs.Outside.{Rose, Advances, Extends, ReadIsTold, bytes_appended, front_of, untold_input, untold_output};
 ghost use Rattle.modbus_link.specs.Polled.{at_once, Waited};
 ghost use Rattle.modbus_link.specs.Silence.{IsAtOnce};
-ghost use Rattle.modbus_terminal.specs.Terminal.{line_at_start, LineReads, LineWrites};
+ghost use Rattle.modbus_link.specs.Terminal.{line_at_start, LineReads, LineWrites};
 
+use crate::outside::{Ends, Failed};
+use crate::polled::{Polled, PolledLink};
 use crate::reading::Reading;
+use crate::silence::{TerminalLink, TimedLink};
 use crate::timed::{Readings, read_from};
-use modbus_link::{Ends, Failed, Polled, PolledLink, TerminalLink, TimedLink};
 use std::io::{Read, Write};
 use std::marker::Model;
 use std::time::Clock;
@@ -37,8 +34,8 @@ pub struct TerminalLine<'r, R, I, O> {
 /// A contract sees the terminal, what was counted, and what the clock told at the last read.
 impl<'r, R, I, O> Model for TerminalLine<'r, R, I, O> {
     ghost use Rattle.std.specs.Option.{option_map};
-    ghost use Rattle.modbus_terminal.specs.Terminal.{LineState};
-    ghost use Rattle.modbus_terminal.specs.Timed.{readings_of};
+    ghost use Rattle.modbus_link.specs.Terminal.{LineState};
+    ghost use Rattle.modbus_link.specs.Timed.{readings_of};
 
     ghost Value = { LineState };
 

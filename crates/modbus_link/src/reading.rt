@@ -2,8 +2,8 @@
 ghost use Rattle.std.specs.Prelude.{◌≡◌, ◌-◌};
 ghost use Rattle.std.specs.Option.{option_map};
 ghost use Rattle.std.specs.Duration.{as_nanos};
-ghost use Rattle.modbus_terminal.specs.Terminal.{nanos_between};
-ghost use Rattle.modbus_terminal.specs.Timed.{reading_of};
+ghost use Rattle.modbus_link.specs.Terminal.{nanos_between};
+ghost use Rattle.modbus_link.specs.Timed.{reading_of};
 
 use std::time::{Clock, Duration, Instant};
 

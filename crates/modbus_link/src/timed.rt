@@ -6,11 +6,13 @@ ghost use Rattle.std.specs.Prelude.{◌≡◌, ◌<◌, ◌≤◌, length, IfOk}
 ghost use Rattle.std.specs.Io.{ReadsAtMost};
 ghost use Rattle.modbus_link.specs.Polled.{at_once};
 ghost use Rattle.modbus_link.specs.Silence.{TerminalReads};
-ghost use Rattle.modbus_terminal.specs.Terminal.{is_soon};
-ghost use Rattle.modbus_terminal.specs.Timed.{readings_of};
+ghost use Rattle.modbus_link.specs.Terminal.{is_soon};
+ghost use Rattle.modbus_link.specs.Timed.{readings_of};
 
+use crate::outside::Failed;
+use crate::polled::{Polled, PolledLink};
 use crate::reading::Reading;
-use modbus_link::{Failed, Polled, PolledLink, TerminalLink};
+use crate::silence::TerminalLink;
 use std::io::{Read, Write};
 use std::time::{Clock, Duration};
 

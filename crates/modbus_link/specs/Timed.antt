@@ -2,9 +2,9 @@
 use Rattle.std.specs.Prelude.{ℕ, Option}
 use Rattle.std.specs.Option.{option_map}
 use Rattle.std.specs.Time.{instant_nanos}
-use Rattle.modbus_terminal.specs.declared.reading.Reading.{Reading}
-use Rattle.modbus_terminal.specs.declared.timed.Readings as clock
-use Rattle.modbus_terminal.specs.Terminal.{Readings}
+use Rattle.modbus_link.specs.declared.reading.Reading.{Reading}
+use Rattle.modbus_link.specs.declared.timed.Readings as clock
+use Rattle.modbus_link.specs.Terminal.{Readings}
 
 abbrev pub reading_of : Reading → Option ℕ
 reading_of it = option_map instant_nanos it.at
