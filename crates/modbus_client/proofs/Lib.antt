@@ -11,12 +11,5 @@ pub mod OneAdu
 pub mod OwnAdu
 pub mod Completing
 pub mod Exactly
-pub mod Exchanging
-pub mod Exchanged
 pub mod Boxing
 pub mod Connecting
-pub mod IdentifiedHeads
-pub mod ResponseHeads
-pub mod AskedOnce
-pub mod ReadBack
-pub mod Back

@@ -9,8 +9,6 @@ pub mod Polled
 pub mod Ends
 pub mod Search
 pub mod Rtu
-pub mod Exchange
-pub mod Back
 pub mod Tcp
 pub mod Exactly
 pub mod Typed

@@ -1,8 +1,9 @@
 //! Laws on the calls of clients, about definitions alone. Each is proved by its contract.
-ghost use Rattle.std.specs.Prelude.{◌≡◌, ◌≢◌, ℕ, ◌+◌, ◌≤◌, List, [], ◌++◌, length, take, drop, Result, Err};
+ghost use Rattle.std.specs.Prelude.{◌≡◌, ◌≢◌, ℕ, ◌+◌, ◌≤◌, List, [], ◌++◌, length, take, drop, Result, Err, Some};
 ghost use Rattle.modbus_link.specs.Outside.{outside, Input, Output, Rose};
 ghost use Rattle.modbus_link.specs.Reads.{totals};
 ghost use Rattle.modbus_frame.specs.Meaning.{Asked, function_asked};
+ghost use Rattle.modbus_frame.specs.declared.code.FunctionCode.{FunctionCode};
 ghost use Rattle.modbus_frame.specs.declared.tcp.Header.{Header};
 ghost use Rattle.modbus_frame.specs.declared.response.Response.{Response};
 ghost use Rattle.modbus_frame.specs.declared.response.ExceptionResponse.{ExceptionResponse};
@@ -11,21 +12,17 @@ ghost use Rattle.modbus_frame.specs.declared.fault.Error.{Error};
 ghost use Rattle.modbus_frame.specs.declared.fault.Error.TheVariants as error;
 ghost use Rattle.modbus_frame.specs.declared.fault.ProtocolError.TheVariants.{HeaderMismatch};
 ghost use Rattle.modbus_pdu.specs.Encodes.{Fits};
-ghost use Rattle.modbus_pdu.specs.Laws.{ReadsBack};
 ghost use Rattle.modbus_pdu.specs.RequestPdu.{request_pdu};
 ghost use Rattle.modbus_client.specs.Protocol.{Found, waiting};
-ghost use Rattle.modbus_client.specs.Matches.{Answer};
+ghost use Rattle.modbus_client.specs.Matches.{Answer, IsOf, Judges, answer_of};
 ghost use Rattle.modbus_client.specs.Search as search;
-ghost use Rattle.modbus_client.specs.Call.{CallState, CallStands};
-ghost use Rattle.modbus_client.specs.Calls.{Exchanged};
+ghost use Rattle.modbus_client.specs.Call.{CallState, CallStands, IsAnswered, IsOfBytesIfSome};
+ghost use Rattle.modbus_client.specs.Calls.{Exchanged, CallEndsAs, CallEndsRead};
 ghost use Rattle.modbus_client.specs.Polled.{AnswersAlone, IsRefusedCall};
 ghost use Rattle.modbus_client.specs.Exactly.{IsToldOf, TellsWaiting};
 ghost use Rattle.modbus_client.specs.Tcp.{matching_protocol};
-ghost use Rattle.modbus_client.specs.Exchange.{ExchangesLocally};
-ghost use Rattle.modbus_client.specs.Back.{ComesBack};
 
 use crate::protocol::Protocol;
-use modbus_server::Answerer;
 
 /// In given bytes with given cuts the search of a client of a serial line stands in one way.
 pub fn one_search()
@@ -97,18 +94,19 @@ pub fn calls_go_on<P: Protocol>()
         → CallStands P.protocol written bytes cuts (record call { free = n }) }
 {}
 
-/// What an exchange over memory promises of a request that reads back from its PDU says what comes back: the outcome that the service
-/// gave when it was asked once.
-pub fn outcomes_come_back<V: Answerer>()
-    ensures { (before after : V) (slave : ℕ) (asked : Asked) (answer : Answer) → ReadsBack asked
-        → ExchangesLocally V.answering before after slave asked answer
-        → ComesBack V.answering before after slave asked answer }
-{
-    modbus_pdu::responses_have_sizes();
-    modbus_pdu::responses_read_back();
-    modbus_rtu::laws::request_frames();
-    modbus_rtu::laws::one_reading();
-    modbus_rtu::laws::quiet_lines();
-    modbus_rtu::laws::responses_by_front();
-    modbus_rtu::laws::responses_in_pieces();
-}
+/// An answer of the bytes that a call was fed ends the call as that, whatever is left to read.
+pub fn bytes_end_calls<P: Protocol>()
+    ensures ends { (asked : HeaderSeen) (function : FunctionCode) (bytes cuts held : List ℕ)
+        (answer : Answer) → IsAnswered P.protocol asked function bytes cuts held answer
+        → CallEndsAs P.protocol asked function bytes cuts held answer }
+    ensures anywhere { (answer : Answer) (left : List ℕ) → IsOfBytesIfSome (Some answer)
+        → CallEndsRead answer left }
+{}
+
+/// A message under the header of a request, with a result of its function, is answered with that result.
+pub fn own_results_are_told()
+    ensures { (asked : HeaderSeen) (function : FunctionCode) (seen : HeaderSeen)
+        (result : Result Response ExceptionResponse) (answer : Answer) → seen ≡ asked
+        → IsOf function result → Judges asked function seen result answer
+        → answer ≡ answer_of result }
+{}

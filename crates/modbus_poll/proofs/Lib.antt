@@ -5,8 +5,6 @@ pub mod Ends
 pub mod Planning
 pub mod Ordered
 pub mod WordsAt
-pub mod Making
-pub mod Served
 pub mod Digits
 pub mod Prefixes
 pub mod Trimmed

@@ -6,5 +6,6 @@ pub mod Plans
 pub mod InOrder
 pub mod Words
 pub mod Polls
+pub mod Making
 pub mod Inputs
 pub mod Notation

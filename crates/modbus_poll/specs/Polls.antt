@@ -1,20 +1,9 @@
 -- Polls: reads that are made in order, and what each was answered (Modbus Application Protocol V1.1b3, section 6.3).
-use Rattle.std.specs.Prelude.{◌≡◌, ◌≢◌, ◌⊎◌, ℕ, List, [], ◌∷◌, length, take, slice_get, Some, Result, Ok, Err, ⊤}
-use Rattle.modbus_frame.specs.Answered.{function_answered}
-use Rattle.modbus_frame.specs.Codes.{function_number}
+use Rattle.std.specs.Prelude.{◌≡◌, ◌≢◌, ◌⊎◌, ℕ, List, [], ◌∷◌, length, take, slice_get, Some, Result, Ok, Err}
 use Rattle.modbus_frame.specs.Meaning.{Asked, ReadHoldingRegisters}
-use Rattle.modbus_frame.specs.declared.code.FunctionCode.TheVariants as function
 use Rattle.modbus_frame.specs.declared.fault.Error.TheVariants as error
-use Rattle.modbus_frame.specs.declared.response.Response.TheVariants as response
-use Rattle.modbus_pdu.specs.RequestOf.{IsModelled}
-use Rattle.modbus_pdu.specs.ResponseLaws.{IsResponse}
-use Rattle.modbus_service.specs.Answering.{Answering}
-use Rattle.modbus_service.specs.Exchange.{Exchange, Run}
-use Rattle.modbus_service.specs.Outcome.{Outcome, reply}
 use Rattle.modbus_client.specs.Matches.{Answer}
-use Rattle.modbus_client.specs.Typed.{AnswerOf, answer_map, Asks, holding_registers_read}
-use Rattle.modbus_client.specs.Exchange.{ExchangesLocally}
-use Rattle.modbus_client.specs.Back.{ComesBack}
+use Rattle.modbus_client.specs.Typed.{AnswerOf, Asks, holding_registers_read}
 use Rattle.modbus_poll.specs.declared.item.Item.{Item}
 use Rattle.modbus_poll.specs.declared.read.Read.{Read}
 use Rattle.modbus_poll.specs.declared.value.Value.{Value}
@@ -34,25 +23,10 @@ PollMeaning S = S → Read → WordsAnswer → S → Type 0
 abbrev pub request_for : Read → Asked
 request_for read = ReadHoldingRegisters read.address read.count
 
--- an answer with a response has one of holding registers
-abbrev pub IsOfRegisters : Answer → Type 0
-IsOfRegisters (Ok (Ok given)) = function_answered given ≡ function.ReadHoldingRegisters
-IsOfRegisters _ = ⊤
-
 -- a client was asked a read once, by its typed call
 abbrev pub AsksClient : {S : Type 0} → (S → Asked → Answer → S → Type 0) → PollMeaning S
 AsksClient answers old read answer new =
     Asks answers old (request_for read) (holding_registers_read read.count) answer new
-
--- the same answer, with the response that has these words
-abbrev pub as_response : WordsAnswer → Answer
-as_response answer = answer_map response.ReadHoldingRegisters answer
-
--- A service was asked a read once, in an exchange without a transport, and this came back of its response.
-pub record AsksService {S : Type 0} (A : Answering S) (slave : ℕ) (old : S) (read : Read)
-    (answer : WordsAnswer) (new : S) : Type 0 where
-  pub exchanges : ExchangesLocally A old new slave (request_for read) (as_response answer)
-  pub comes_back : ComesBack A old new slave (request_for read) (as_response answer)
 
 -- The reads were made in order, each once, and each was answered with as many words as it asks for.
 abbrev pub ReadsEach : {S : Type 0} → PollMeaning S → S → List Read → List (List ℕ) → S → Type 0
@@ -113,28 +87,3 @@ TakesAnswer place read answer (Err (Words at count)) =
     (at ≡ place) × (words : List ℕ) × (answer ≡ Ok (Ok words)) × (count ≡ length words)
     × (count ≢ read.count)
 TakesAnswer place read answer (Err NoMemory) = answer ≡ Err error.NoMemory
-
--- A service gave these registers. It is known of a response of a kind that the protocol defines, whose numbers are in the range of their
--- types, as those of every `Response` of the code are.
-abbrev pub GivesRegisters : Outcome → List ℕ → Type 0
-GivesRegisters (reply given) words =
-    IsResponse given → IsModelled (function_number (function_answered given))
-    → given ≡ response.ReadHoldingRegisters words
-GivesRegisters _ words = ⊥
-
--- These are requests of the reads to this slave, in order, each with an outcome that gave its words.
-abbrev pub AskReads : ℕ → List Read → List (List ℕ) → List (Exchange ℕ) → Type 0
-AskReads slave [] [] [] = ⊤
-AskReads slave (read ∷ reads) (words ∷ found) (x ∷ xs) =
-    (x.header ≡ slave) × (x.request ≡ request_for read) × GivesRegisters x.outcome words
-    × AskReads slave reads found xs
-AskReads slave _ _ _ = ⊥
-
--- One run of the service over the requests of the reads ends there, and each value is that of its item among the registers that it gave.
-pub record ServesPoll {S : Type 0} (A : Answering S) (slave : ℕ) (old : S) (reads : List Read)
-    (items : List Item) (values : List Value) (new : S) : Type 0 where
-  pub exchanges : List (Exchange ℕ)
-  pub run : Run (λ to. to) A old exchanges new
-  pub found : List (List ℕ)
-  pub asked : AskReads slave reads found exchanges
-  pub given : values ≡ values_among reads found items

@@ -1,9 +1,9 @@
 //! A register map and a read planner: numbers and texts that lie in the holding registers of a device, few reads that give them, and
 //! polls that make these reads.
 //!
-//! `plan_reads` makes a `Plan` for items in any order, which may overlap and repeat. `poll` makes its reads by any client, `poll_service`
-//! by a service without a transport, each read once, and gives the value of each item; `value_of` gives one from the words of its
-//! registers. The standard is the Modbus Application Protocol V1.1b3, which is meant by every section that is named here.
+//! `plan_reads` makes a `Plan` for items in any order, which may overlap and repeat. `poll` makes its reads by any client, each
+//! once, and gives the value of each item; `value_of` gives one from the words of its registers. `take_answer` and `values_among` are the
+//! steps of a poll, for one that asks another way. The standard is the Modbus Application Protocol V1.1b3, which is meant by every section that is named here.
 #![tactic(auto)]
 
 mod inputs;
@@ -24,7 +24,8 @@ pub use crate::notation::{Point, PointError, Table, parse_point};
 pub use crate::number::number_within;
 pub use crate::plan::{Plan, PlanError};
 pub use crate::planner::plan_reads;
-pub use crate::polling::{PollError, poll, poll_service};
+pub use crate::polling::{PollError, poll, take_answer};
 pub use crate::read::Read;
 pub use crate::text::shown;
 pub use crate::value::{Value, value_of};
+pub use crate::words::values_among;

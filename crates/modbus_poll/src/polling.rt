@@ -1,18 +1,16 @@
 //! Polls: the reads of a plan, each of which is made once, and the value of each item.
 ghost use Rattle.std.specs.Prelude.{◌≡◌, ◌≢◌, ℕ, true, IfOk, IfErr};
-ghost use Rattle.modbus_client.specs.Typed.{answer_map};
 ghost use Rattle.modbus_poll.specs.Items.{covers};
-ghost use Rattle.modbus_poll.specs.Polls.{IsOfRegisters, AsksClient, AsksService, TakesAnswer};
-ghost use Rattle.modbus_poll.specs.Polls.{ReadsEach, Stops, GivesValues, ServesPoll};
+ghost use Rattle.modbus_poll.specs.Polls.{AsksClient, TakesAnswer};
+ghost use Rattle.modbus_poll.specs.Polls.{ReadsEach, Stops, GivesValues};
 
 use crate::item::Item;
 use crate::plan::Plan;
 use crate::read::Read;
 use crate::value::Value;
 use crate::words::values_among;
-use modbus_client::{Reader, exchange};
-use modbus_frame::{Error, ExceptionCode, Request, Response, Slave, Words};
-use modbus_service::Answerer;
+use modbus_client::Reader;
+use modbus_frame::{Error, ExceptionCode, Words};
 use std::alloc::{AllocError, Global};
 
 /// Why a poll gives no values. A read is told by its place in the plan.
@@ -42,8 +40,11 @@ impl From<AllocError> for PollError {
     }
 }
 
-/// What a poll makes of the answer to the read at this place.
-pub(crate) fn take_answer(
+/// What a poll makes of the answer to the read at this place: the words that the read asks for.
+///
+/// # Errors
+/// `Exception` where it is one. `Words` where it has another number of words. `NoMemory` where it is that, and `Call` for any other error.
+pub fn take_answer(
     place: usize,
     read: &Read,
     answer: modbus_frame::Result<Words>,
@@ -65,19 +66,6 @@ pub(crate) fn take_answer(
     }
 }
 
-/// The answer of an exchange, whose response is one of holding registers, as the words of that.
-fn as_words(answer: modbus_frame::Result<Response>) -> modbus_frame::Result<Words>
-    requires { IsOfRegisters answer }
-    ensures { answer ≡ answer_map Response.ReadHoldingRegisters result }
-{
-    match answer {
-        Ok(Ok(Response::ReadHoldingRegisters(words))) => Ok(Ok(words)),
-        Ok(Ok(_)) => unreachable!(),
-        Ok(Err(code)) => Ok(Err(code)),
-        Err(error) => Err(error),
-    }
-}
-
 /// Asks a client one read.
 fn ask_client<R: Reader>(reader: &mut R, read: &Read) -> modbus_frame::Result<Words>
     ensures { AsksClient R.Client.answers reader.old read.now result reader.new }
@@ -87,20 +75,6 @@ fn ask_client<R: Reader>(reader: &mut R, read: &Read) -> modbus_frame::Result<Wo
         Ok(Err(code)) => Ok(Err(code)),
         Err(error) => Err(error),
     }
-}
-
-/// Asks a service, or another answerer, one read.
-fn ask_service<V: Answerer>(
-    alloc: Global,
-    slave: Slave,
-    service: &mut V,
-    read: &Read,
-) -> modbus_frame::Result<Words>
-    ensures { AsksService V.answering slave.0 service.old read.now result service.new }
-{
-    modbus_pdu::requests_have_sizes();
-    let request = Request::ReadHoldingRegisters(read.address, read.count);
-    as_words(exchange(alloc, slave, request, service))
 }
 
 /// Makes reads by a client, in order.
@@ -117,27 +91,6 @@ fn read_by_client<R: Reader>(
     let mut found = Vec::with_capacity(alloc, reads.len())?;
     for (place, read) in reads.iter().enumerate() {
         let answer = ask_client(reader, read);
-        let words = take_answer(place, read, answer)?;
-        found.push_reserved(words);
-    }
-    Ok(found)
-}
-
-/// Makes reads by a service, or another answerer, in order.
-fn read_by_service<V: Answerer>(
-    alloc: Global,
-    slave: Slave,
-    service: &mut V,
-    reads: &[Read],
-) -> Result<Vec<Words>, PollError>
-    ensures made { IfOk result (λ found.
-        ReadsEach (AsksService V.answering slave.0) service.old reads.now found.items service.new) }
-    ensures stops { IfErr result (λ error.
-        Stops (AsksService V.answering slave.0) service.old reads.now error service.new) }
-{
-    let mut found = Vec::with_capacity(alloc, reads.len())?;
-    for (place, read) in reads.iter().enumerate() {
-        let answer = ask_service(alloc, slave, service, read);
         let words = take_answer(place, read, answer)?;
         found.push_reserved(words);
     }
@@ -166,50 +119,4 @@ pub fn poll<R: Reader>(
 {
     let found = read_by_client(alloc, reader, plan.reads())?;
     Ok(values_among(alloc, plan, found.as_slice(), items)?)
-}
-
-/// Polls items by a service, or another answerer.
-fn poll_answerer<V: Answerer>(
-    alloc: Global,
-    slave: Slave,
-    items: &[Item],
-    plan: &Plan,
-    service: &mut V,
-) -> Result<Vec<Value>, PollError>
-    requires { covers plan.now items.now ≡ true }
-    ensures values { IfOk result (λ values. GivesValues (AsksService V.answering slave.0)
-        service.old plan.now items.now values.items service.new) }
-    ensures stops { IfErr result (λ error.
-        Stops (AsksService V.answering slave.0) service.old plan.now error service.new) }
-{
-    let found = read_by_service(alloc, slave, service, plan.reads())?;
-    Ok(values_among(alloc, plan, found.as_slice(), items)?)
-}
-
-/// Polls items by a service, or another answerer, that answers a slave: makes each read of the plan once, in order, as an exchange
-/// without a transport, and gives the values of the items in their order.
-///
-/// The value of an item is that of its words in the first read in which it lies. The service then stands where one run over the requests
-/// of the reads, in order, ends.
-///
-/// # Errors
-/// `Call` and `Exception` where a read was answered so, after all earlier ones gave their words; no later one was made. `Words` exactly
-/// where a response has another number of words than its read asks for. `NoMemory` where memory was refused.
-pub fn poll_service<V: Answerer>(
-    alloc: Global,
-    slave: Slave,
-    items: &[Item],
-    plan: &Plan,
-    service: &mut V,
-) -> Result<Vec<Value>, PollError>
-    requires { covers plan.now items.now ≡ true }
-    ensures values { IfOk result (λ values. GivesValues (AsksService V.answering slave.0)
-        service.old plan.now items.now values.items service.new) }
-    ensures run { IfOk result (λ values. ServesPoll V.answering slave.0
-        service.old plan.now items.now values.items service.new) }
-    ensures stops { IfErr result (λ error.
-        Stops (AsksService V.answering slave.0) service.old plan.now error service.new) }
-{
-    modbus_pdu::requests_have_sizes();
-    poll_answerer(alloc, slave, items, plan, service)
 }

@@ -54,8 +54,12 @@ fn value_among(
     }
 }
 
-/// The values of items, in their order, from the words that each read of the plan gave.
-pub(crate) fn values_among(
+/// The values of items, in their order, from the words that each read of the plan gave. The value of an item is that of its words in the
+/// first read in which it lies.
+///
+/// # Errors
+/// `AllocError` where memory is refused.
+pub fn values_among(
     alloc: Global,
     plan: &Plan,
     found: &[Words],

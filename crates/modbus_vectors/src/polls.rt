@@ -3,7 +3,8 @@
 use crate::text::Text;
 use crate::word::Word;
 use modbus_frame::Slave;
-use modbus_poll::{Item, Kind, parse_point, plan_reads, poll_service};
+use modbus_local::poll_service;
+use modbus_poll::{Item, Kind, parse_point, plan_reads};
 use modbus_store::RegisterStore;
 use std::alloc::Global;
 

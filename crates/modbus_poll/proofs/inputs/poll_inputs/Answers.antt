@@ -4,7 +4,7 @@ use Rattle.modbus_poll.specs.declared.read.Read.{Read}
 use Rattle.modbus_poll.specs.Words.{AreWordsOf}
 use Rattle.modbus_poll.specs.Polls.{ReadsEach}
 use Rattle.modbus_poll.specs.Inputs.{AsksInputs}
-use Rattle.modbus_poll.proofs.Making.{words_made, lacks_last, stops_with}
+use Rattle.modbus_poll.specs.Making.{words_made, lacks_last, stops_with}
 use Rattle.modbus_poll.proofs.inputs.poll_inputs.Goals as goal
 
 pub values_among-requires-clause-words : goal.values_among-requires-clause-words

@@ -4,7 +4,7 @@ use Rattle.std.proofs.lemmas.Option.{slice_get-get_or}
 use Rattle.modbus_poll.specs.declared.polling.PollError.TheVariants.{NoMemory}
 use Rattle.modbus_poll.specs.Polls.{WordsAnswer}
 use Rattle.modbus_poll.specs.Inputs.{AsksInputs}
-use Rattle.modbus_poll.proofs.Making.{reads_more, lacks_first, stops_at, stops_with, length_made}
+use Rattle.modbus_poll.specs.Making.{reads_more, lacks_first, stops_at, stops_with, length_made}
 use Rattle.modbus_poll.proofs.inputs.read_inputs.Goals as goal
 
 pub returns-in_err-found-clause-stops : goal.returns-in_err-found-clause-stops

@@ -3,7 +3,7 @@ use Rattle.modbus_poll.specs.declared.polling.PollError.TheVariants.{NoMemory}
 use Rattle.modbus_poll.specs.declared.read.Read.{Read}
 use Rattle.modbus_poll.specs.Words.{AreWordsOf}
 use Rattle.modbus_poll.specs.Polls.{AsksClient, ReadsEach}
-use Rattle.modbus_poll.proofs.Making.{words_made, lacks_last, stops_with}
+use Rattle.modbus_poll.specs.Making.{words_made, lacks_last, stops_with}
 use Rattle.modbus_poll.proofs.polling.poll.Goals as goal
 
 pub values_among-requires-clause-words : goal.values_among-requires-clause-words

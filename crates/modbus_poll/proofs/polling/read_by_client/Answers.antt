@@ -3,7 +3,7 @@ use Rattle.std.proofs.lemmas.List.{length-take-le}
 use Rattle.std.proofs.lemmas.Option.{slice_get-get_or}
 use Rattle.modbus_poll.specs.declared.polling.PollError.TheVariants.{NoMemory}
 use Rattle.modbus_poll.specs.Polls.{AsksClient, WordsAnswer}
-use Rattle.modbus_poll.proofs.Making.{reads_more, lacks_first, stops_at, stops_with, length_made}
+use Rattle.modbus_poll.specs.Making.{reads_more, lacks_first, stops_at, stops_with, length_made}
 use Rattle.modbus_poll.proofs.polling.read_by_client.Goals as goal
 
 pub returns-in_err-found-clause-stops : goal.returns-in_err-found-clause-stops
