@@ -4,7 +4,7 @@ use Rattle.std.specs.Prelude.{IfErr}
 use Rattle.modbus_frame.specs.declared.fault.Reason.{Reason}
 use Rattle.modbus_service.specs.Answering.{Answering}
 use Rattle.modbus_server.specs.declared.error.ProcessError.{ProcessError}
-use Rattle.modbus_server.specs.declared.error.ProcessError.TheVariants.{TooManyRetries, InvalidLength, InvalidProtocol, InvalidRequest}
+use Rattle.modbus_server.specs.declared.error.ProcessError.TheVariants.{TooManyRetries, InvalidRequest}
 use Rattle.modbus_server.specs.Served.{Served, Halts, refused, EndsAs}
 use Rattle.modbus_stream.specs.Framing.{stream}
 use Rattle.modbus_stream.specs.Line.{IsOfNoStream}
@@ -19,7 +19,5 @@ module _ {S : Type 0} (A : Answering S) (bytes cuts : List ℕ) (opening now : S
   pub no_fault : (result : Result (Unit {0}) ProcessError) → EndsAs stream A bytes cuts opening now written result → IfErr result (λ error. IsOfNoStream error → ⊥)
   no_fault (Ok done) ends = tt
   no_fault (Err TooManyRetries) ends = λ f. ends.halts.0
-  no_fault (Err InvalidLength) ends = λ f. ends.halts.0
-  no_fault (Err (InvalidProtocol protocol)) ends = λ f. ends.halts.0
   no_fault (Err (InvalidRequest reason)) ends = λ f. none_refused reason ends
   no_fault (Err _) ends = λ f. f

@@ -1,15 +1,16 @@
 -- The pieces of a stream: they are taken off one after another, and bytes are pieces and a rest in one way.
 use Rattle.std.proofs.Common.{◌≡◌, inl, inr, ℕ, ◌≤◌, List, [], ◌∷◌, ◌++◌, length, ◌+◌, ◌-◌, map, take, drop, refl, sym, ap, ◌∙◌, subst, arith, length-append, append-nil, append_assoc}
-use Rattle.std.specs.Prelude.{All}
+use Rattle.std.specs.Prelude.{◌⊎◌, ◌<◌, All}
 use lib.Seq.{paste}
 use Rattle.std.proofs.lemmas.List.{get_or_append_left, length-drop, take_all, map-append, take-append-drop, take_at, drop_at}
 use Rattle.std.proofs.lemmas.List.Elements.{All-append, All-cons, All-nil, All-head, All-tail}
 use Rattle.std.proofs.lemmas.Grind.{flat_map-append}
 use Rattle.modbus_frame.specs.declared.tcp.Header.{Header}
 use Rattle.modbus_pdu.specs.Message.{Message}
+use Rattle.modbus_pdu.specs.Fields.{word_at}
 use Rattle.modbus_tcp.specs.Limits.{uncounted}
 use Rattle.modbus_tcp.specs.Stream.{told_length}
-use Rattle.modbus_stream.specs.Pieces.{IsPiece, IsPartial, stream_of, message_in_piece, AreMessages}
+use Rattle.modbus_stream.specs.Pieces.{IsPiece, IsPartial, IsForeign, HasNoLength, protocol_end, most_told, stream_of, message_in_piece, AreMessages}
 
 abbrev Messages : Type 0
 Messages = List (Message Header)
@@ -42,21 +43,28 @@ grown bytes held more messages are = record {
 pub nothing_read : AreMessages [] [] []
 nothing_read = record { pieces = []; joined = refl; whole = All-nil IsPiece; are = refl }
 
--- what a piece tells is told by all bytes that begin with it
+-- what the first bytes tell is told by all bytes that begin with them
 told_in_front : (piece rest : List ℕ) → uncounted ≤ length piece → told_length (piece ++ rest) ≡ told_length piece
 told_in_front piece rest long =
     let high = get_or_append_left piece rest 0 4 (omega arith) in
     let low = get_or_append_left piece rest 0 5 (omega arith) in
     omega (arith, high, low)
 
+protocol_in_front : (piece rest : List ℕ) → protocol_end ≤ length piece → word_at (piece ++ rest) 2 ≡ word_at piece 2
+protocol_in_front piece rest long =
+    let high = get_or_append_left piece rest 0 2 (omega arith) in
+    let low = get_or_append_left piece rest 0 3 (omega arith) in
+    omega (arith, high, low)
+
 -- bytes that begin with a piece are not partial
 not_partial : (piece rest : List ℕ) → IsPiece piece → IsPartial (piece ++ rest) → ⊥
-not_partial piece rest (long, size) (inl short) = omega (arith, length-append piece rest)
-not_partial piece rest (long, size) (inr short) = omega (arith, length-append piece rest, told_in_front piece rest long)
+not_partial piece rest (long, told, size) (inl short) = omega (arith, length-append piece rest)
+not_partial piece rest (long, told, size) (inr (inl (modbus, short))) = omega (arith, length-append piece rest)
+not_partial piece rest (long, told, size) (inr (inr (tells, short))) = omega (arith, length-append piece rest, told_in_front piece rest long)
 
 -- two pieces that the same bytes begin with are the same
 same_front : (p q r s : List ℕ) → IsPiece p → IsPiece q → p ++ r ≡ q ++ s → (p ≡ q) × (r ≡ s)
-same_front p q r s (p_long, p_size) (q_long, q_size) e =
+same_front p q r s (p_long, p_told, p_size) (q_long, q_told, q_size) e =
     let told : told_length p ≡ told_length q = sym (told_in_front p r p_long) ∙ ap told_length e ∙ told_in_front q s q_long in
     let size : length p ≡ length q = omega (arith, told) in
     (sym (take_at p r (length q) size) ∙ ap (take (length q)) e ∙ take_at q s (length q) refl, sym (drop_at p r (length q) size) ∙ ap (drop (length q)) e ∙ drop_at q s (length q) refl)
@@ -102,6 +110,43 @@ nothing_left read left messages before clean are partial =
     let all : stream_of are.pieces ++ left ≡ stream_of clean.pieces ++ [] = sym are.joined ∙ clean.joined in
     let first = first_pieces are.pieces clean.pieces left [] are.whole clean.whole all nothing_is_partial in
     none_partial left first.0 (whole_later are.pieces first.0 (subst (All IsPiece) first.1 clean.whole)) (first.2 ∙ append-nil (stream_of first.0)) partial
+
+-- a header that ends the stream is in front of no piece
+not_foreign : (left rest piece others : List ℕ) (protocol : ℕ) → IsForeign left protocol → IsPiece piece → left ++ rest ≡ piece ++ others → ⊥
+not_foreign left rest piece others protocol (long, tells, other) (whole, told, size) e =
+    other (sym tells ∙ sym (protocol_in_front left rest long) ∙ ap (λ bytes. word_at bytes 2) e ∙ protocol_in_front piece others (omega (arith, whole)) ∙ told.0)
+
+not_unlengthed : (left rest piece others : List ℕ) → HasNoLength left → IsPiece piece → left ++ rest ≡ piece ++ others → ⊥
+not_unlengthed left rest piece others (long, modbus, wrong) (whole, told, size) e =
+    let same : told_length left ≡ told_length piece = sym (told_in_front left rest long) ∙ ap told_length e ∙ told_in_front piece others whole in
+    by_length wrong same
+  where
+    by_length : (told_length left ≡ 0) ⊎ (most_told < told_length left) → told_length left ≡ told_length piece → ⊥
+    by_length (inl none) same = omega (arith, none, same, told.1)
+    by_length (inr much) same = omega (arith, much, same, told.2)
+
+-- behind pieces of a stream that is pieces alone no such header stands
+module _ (read rest left : List ℕ) (messages before : Messages) (clean : AreMessages (read ++ rest) [] messages) (are : AreMessages read left before) where
+  behind : (some : 0 < length left) → (piece : List ℕ) × (others : List ℕ) × IsPiece piece × (left ++ rest ≡ piece ++ others)
+  behind some =
+      let all : stream_of are.pieces ++ (left ++ rest) ≡ stream_of clean.pieces ++ [] =
+      sym (append_assoc (stream_of are.pieces) left rest) ∙ ap (λ bytes. bytes ++ rest) (sym are.joined) ∙ clean.joined in
+      let first = first_pieces are.pieces clean.pieces (left ++ rest) [] are.whole clean.whole all nothing_is_partial in
+      by_later first.0 (whole_later are.pieces first.0 (subst (All IsPiece) first.1 clean.whole)) (first.2 ∙ append-nil (stream_of first.0))
+    where
+      by_later : (later : List (List ℕ)) → All IsPiece later → left ++ rest ≡ stream_of later → (piece : List ℕ) × (others : List ℕ) × IsPiece piece × (left ++ rest ≡ piece ++ others)
+      by_later [] whole e = absurd (omega (arith, some, length-append left rest, ap length e))
+      by_later (p ∷ later) whole e = (p, stream_of later, All-head IsPiece p later whole, e)
+
+  pub no_foreign : (protocol : ℕ) → IsForeign left protocol → ⊥
+  no_foreign protocol foreign =
+      let it = behind (omega (arith, foreign.0)) in
+      not_foreign left rest it.0 it.1 protocol foreign it.2 it.3
+
+  pub no_unlengthed : HasNoLength left → ⊥
+  no_unlengthed none =
+      let it = behind (omega (arith, none.0)) in
+      not_unlengthed left rest it.0 it.1 none it.2 it.3
 
 -- what is left of bytes whose rest was moved to the front
 pub moved : (bytes : List ℕ) (count left : ℕ) → left ≡ length bytes - count → take left (paste bytes 0 (drop count bytes) (length bytes - count)) ≡ drop count bytes

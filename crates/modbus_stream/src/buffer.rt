@@ -1,15 +1,16 @@
 //! The bytes that a server read and did not use yet, as a framing: pieces of a stream.
 ghost use Rattle.std.specs.Prelude.{◌≡◌, ◌-◌, ◌≤◌, length, drop, vec_capacity};
-ghost use Rattle.modbus_server.specs.declared.error.ProcessError.TheVariants.{TooManyRetries};
+ghost use Rattle.modbus_server.specs.Tcp.{told_fault};
 ghost use Rattle.modbus_stream.specs.Framing.{stream, most_held};
 
 use crate::piece::{first_end, message_in};
 use bytes::BytesMut;
 use modbus_frame::tcp::Header;
 use modbus_frame::{EncodeError, ExceptionResponse, Front, PduError, Request, Response, SlaveId};
-use modbus_server::{Framing, NoFault, ProcessError};
+use modbus_server::tcp::AduBuffer;
+use modbus_server::{Framing, ProcessError};
 use modbus_standard::decode_any;
-use modbus_tcp::{LONGEST_ADU, LONGEST_RESPONSE, encode_response_adu};
+use modbus_tcp::{HeaderFault, LONGEST_RESPONSE, encode_response_adu};
 use std::alloc::{AllocError, Global};
 use std::marker::Model;
 
@@ -17,11 +18,11 @@ use std::marker::Model;
 const ROOM: usize = LONGEST_RESPONSE;
 
 /// How many bytes are ever held: less than the longest piece has, and a read.
-const MOST: usize = LONGEST_ADU - 1 + ROOM;
+const MOST: usize = LONGEST_RESPONSE - 1 + ROOM;
 
 /// The bytes that were fed and not used yet: less than a piece, once all whole ones are taken off.
 ///
-/// Its room is taken as it is opened, for the longest piece that a header can tell, so a read takes no memory.
+/// Its room is taken as it is opened, for the longest piece and a read, 519 bytes, so a read takes no memory.
 #[derive(Drop)]
 pub struct StreamBuffer {
     bytes: Vec<u8>,
@@ -68,20 +69,20 @@ fn drop_front(bytes: &mut Vec<u8>, count: usize)
 impl Framing for StreamBuffer {
     type Header = Header;
 
-    type Fault = NoFault;
+    type Fault = HeaderFault;
 
     ghost framing = { stream };
 
     ghost header_of = { λ header. header };
 
-    ghost told = { λ fault. TooManyRetries };
+    ghost told = { told_fault };
 
     ghost held = { λ buffer. buffer };
 
     ghost free = { λ buffer. most_held - length buffer };
 
-    fn tell(_fault: NoFault) -> ProcessError {
-        ProcessError::TooManyRetries
+    fn tell(fault: HeaderFault) -> ProcessError {
+        AduBuffer::tell(fault)
     }
 
     fn slave(header: Header) -> SlaveId {
@@ -127,14 +128,15 @@ impl Framing for StreamBuffer {
     }
 
     #[inline(always)]
-    fn front<'a>(&'a self, _seam: &'a mut [u8]) -> Result<Front<'a, Header>, NoFault> {
+    fn front<'a>(&'a self, _seam: &'a mut [u8]) -> Result<Front<'a, Header>, HeaderFault> {
         let held = self.bytes_held();
         match first_end(held) {
-            None => Ok(Front::Waiting { dropped: 0 }),
-            Some(end) => {
+            Ok(None) => Ok(Front::Waiting { dropped: 0 }),
+            Ok(Some(end)) => {
                 let (header, pdu) = message_in(&held[..end]);
                 Ok(Front::Message { header, pdu, end })
             }
+            Err(fault) => Err(fault),
         }
     }
 

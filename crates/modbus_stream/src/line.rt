@@ -49,20 +49,21 @@ pub fn process_link<L: Source + Sink, V: Answerer>(
 ///
 /// Over a source and a sink that tell their bytes, Ok comes only where the input ended with no piece cut short. Then one run of the service
 /// took the pieces of the whole input in order, and stands at its end; its replies, each with its request's transaction and unit
-/// identifier, are all that was appended. A piece that is no ADU of a request is asked for unit 255, which a
-/// `DefaultUnit` asks its own unit, with no function code, so that `StandardAnswers` is silent to it; a PDU that can't be read is asked
-/// as a custom request of its function code.
+/// identifier, are all that was appended. A PDU that can't be read is asked as a custom request of its function code; one of no byte as one
+/// of no function, so that `StandardAnswers` is silent to it.
 ///
 /// # Errors
 /// - `ReadFault`, `WriteFault`: only where the source, the sink counted a fault in this call.
+/// - `InvalidProtocol`, `InvalidLength`: behind these pieces stands a header of this protocol, which isn't Modbus, or one that tells no
+///   byte or more than 254, those of a unit identifier and the longest PDU. It is told by the header's fourth byte, its sixth.
 /// - `BytesRemaining`: the input ended within a piece.
 /// - `ResponseTooLong`: the service answered a response whose PDU has this many bytes, more than 253.
 /// - `TurnLimit`: `turns` reads gave bytes, and all that they allow was answered.
 /// - `NoMemory`: memory was refused: as the connection was opened, for a request that carries a list or that has no layout of its own,
 ///   or in the service. A read and a reply take none.
 ///
-/// `TooManyRetries`, `InvalidRequest`, `InvalidLength` and `InvalidProtocol` never come, whatever a client sends. After any error but
-/// `WriteFault`, each reply to a request before the failing place was written whole.
+/// `TooManyRetries` and `InvalidRequest` never come, whatever a client sends. After any error but `WriteFault`, each reply to a request
+/// before the failing place was written whole.
 pub fn process<S: Source, K: Sink, V: Answerer>(
     alloc: Global,
     source: &mut S,

@@ -1,41 +1,42 @@
 //! One piece of a stream: a header and the bytes that it tells.
-ghost use Rattle.std.specs.Prelude.{◌≡◌, ◌<◌, ◌≤◌, length, take, MatchOption};
+ghost use Rattle.std.specs.Prelude.{◌≡◌};
 ghost use Rattle.modbus_pdu.specs.Message.{message};
-ghost use Rattle.modbus_tcp.specs.Limits.{longest_adu};
-ghost use Rattle.modbus_stream.specs.Pieces.{IsPiece, IsPartial, may_ask, message_in_piece};
+ghost use Rattle.modbus_stream.specs.Pieces.{IsPiece, FindsPiece, message_in_piece};
 
-use modbus_frame::SlaveId;
 use modbus_frame::tcp::Header;
-use modbus_tcp::{HEADER, LONGEST_RESPONSE, MODBUS, UNCOUNTED};
+use modbus_tcp::{HEADER, HeaderFault, LONGEST_RESPONSE, MODBUS, UNCOUNTED};
 
-/// The bytes of the shortest ADU that can ask for something: a header and a function code.
-pub const SHORTEST_REQUEST: usize = HEADER + 1;
+/// How many bytes tell the transaction and the protocol.
+const PROTOCOL_END: usize = 4;
 
-/// The unit identifier of a piece that is no ADU of a request.
-pub const NO_UNIT: SlaveId = 255;
+/// The greatest length that the header of a request tells: a unit identifier and the longest PDU.
+const MOST_TOLD: usize = LONGEST_RESPONSE - UNCOUNTED;
 
-/// Where the first piece ends; `None` where there is no whole one.
+/// Where the first piece ends; `None` where there is no whole one yet.
+///
+/// # Errors
+/// `InvalidProtocol` as soon as four bytes tell a protocol that isn't Modbus, `InvalidLength` as soon as six tell no byte or more than 254:
+/// where the next header would stand is then not known.
 #[inline(always)]
-pub(crate) fn first_end(held: &[u8]) -> Option<usize>
-    ensures { MatchOption result (IsPartial held.now × (length held.now < longest_adu))
-        (λ end. (0 < end) × (end ≤ length held.now) × IsPiece (take end held.now)) }
+pub(crate) fn first_end(held: &[u8]) -> Result<Option<usize>, HeaderFault>
+    ensures { FindsPiece held.now result }
 {
-    if held.len() < UNCOUNTED {
-        return None;
+    if held.len() < PROTOCOL_END {
+        return Ok(None);
     }
-    let end = UNCOUNTED + usize::from(u16::from_be_bytes([held[4], held[5]]));
-    if held.len() < end { None } else { Some(end) }
-}
-
-/// Whether a piece is an ADU of Modbus with a PDU of 1 to 253 bytes.
-#[inline(always)]
-fn may_ask(piece: &[u8]) -> bool
-    requires { IsPiece piece.now }
-    ensures { result ≡ may_ask piece.now }
-{
-    u16::from_be_bytes([piece[2], piece[3]]) == MODBUS
-        && piece.len() >= SHORTEST_REQUEST
-        && piece.len() <= LONGEST_RESPONSE
+    let protocol = u16::from_be_bytes([held[2], held[3]]);
+    if protocol != MODBUS {
+        return Err(HeaderFault::InvalidProtocol(protocol));
+    }
+    if held.len() < UNCOUNTED {
+        return Ok(None);
+    }
+    let told = usize::from(u16::from_be_bytes([held[4], held[5]]));
+    if told == 0 || told > MOST_TOLD {
+        return Err(HeaderFault::InvalidLength);
+    }
+    let end = UNCOUNTED + told;
+    Ok(if held.len() < end { None } else { Some(end) })
 }
 
 /// The message of a piece.
@@ -45,18 +46,9 @@ pub(crate) fn message_in(piece: &[u8]) -> (Header, &[u8])
     requires { IsPiece piece.now }
     ensures { message result.0 result.1.now ≡ message_in_piece piece.now }
 {
-    let transaction_id = u16::from_be_bytes([piece[0], piece[1]]);
-    if may_ask(piece) {
-        let header = Header {
-            transaction_id,
-            unit_id: piece[UNCOUNTED],
-        };
-        (header, &piece[HEADER..])
-    } else {
-        let header = Header {
-            transaction_id,
-            unit_id: NO_UNIT,
-        };
-        (header, &[])
-    }
+    let header = Header {
+        transaction_id: u16::from_be_bytes([piece[0], piece[1]]),
+        unit_id: piece[UNCOUNTED],
+    };
+    (header, &piece[HEADER..])
 }

@@ -1,6 +1,10 @@
 use Rattle.std.proofs.Common.{◌++◌, ◌∷◌, []}
 use Rattle.modbus_stream.proofs.Pieces.{goes_on, nothing_left}
+use Rattle.modbus_stream.proofs.Faults.{unbroken}
 use Rattle.modbus_stream.proofs.buffer.StreamBufferFraming.laws.Goals as goal
+
+pub returns-clause-calm : goal.returns-clause-calm
+returns-clause-calm c = unbroken
 
 pub returns-clause-next : goal.returns-clause-next
 returns-clause-next c = λ read rest cuts messages before message clean next.
