@@ -1,13 +1,13 @@
 //! The units of the device.
 
 use modbus_command::{FAILED, USAGE};
+use modbus_diagnostics::identity::{Identified, Identity, IdentityError};
 use modbus_diagnostics::{Port, PortError};
+use modbus_field::standard::StandardAnswers;
+use modbus_field::stream::{DefaultUnit, NON_SIGNIFICANT};
 use modbus_frame::{ExceptionCode, SlaveId};
-use modbus_identity::{Identified, Identity, IdentityError};
 use modbus_service::{OnlyUnit, Units, UnitsError};
-use modbus_standard::StandardAnswers;
 use modbus_store::{RegisterStore, Sizes, StoreError};
-use modbus_stream::{DefaultUnit, NON_SIGNIFICANT};
 use std::alloc::{AllocFailed, Global};
 
 /// A unit: four tables, and what the device says of itself. It answers as the standard wants where a request can't be read.

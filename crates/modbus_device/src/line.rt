@@ -1,9 +1,9 @@
 //! Serving a serial line.
 ghost use Rattle.std.specs.Prelude.{IfErr};
-ghost use Rattle.modbus_burst.specs.Line.{IsOfNoBurst};
+ghost use Rattle.modbus_field.specs.BurstLine.{IsOfNoBurst};
 
 use crate::device::LineDevice;
-use modbus_burst::{BurstLink, CountedLink, process_link};
+use modbus_field::burst::{BurstLink, CountedLink, process_link};
 use modbus_link::{
     Connector, Link, ReadSource, TcpConnector, TerminalLine, TerminalLink, TimedTcpLink, WriteSink,
 };
@@ -33,7 +33,7 @@ pub fn connect(rt: &HostRuntime, address: SocketAddr, silence: u64) -> Option<Ti
 /// Serves a line until it ends.
 ///
 /// # Errors
-/// Those of `modbus_burst::process_link`: a fault of the line, refused memory.
+/// Those of `modbus_field::burst::process_link`: a fault of the line, refused memory.
 pub fn serve<L: CountedLink + Drop>(
     alloc: Global,
     line: L,

@@ -2,10 +2,10 @@
 
 use crate::device::Device;
 use mio::net::TcpListener;
+use modbus_field::stream::StreamBuffer;
 use modbus_hub::{EventServer, Limits};
 use modbus_link::FlagStop;
 use modbus_ready::{MioReadiness, PolledTcpAcceptor};
-use modbus_stream::StreamBuffer;
 use modbus_turn::InTurn;
 use std::alloc::AllocGlobal;
 use std::net::Net;

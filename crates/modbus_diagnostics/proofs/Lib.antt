@@ -1,4 +1,6 @@
 pub mod Addresses
-pub mod Tally
-pub mod Runs
+pub mod Fitting
 pub mod Noise
+pub mod Parts
+pub mod Runs
+pub mod Tally

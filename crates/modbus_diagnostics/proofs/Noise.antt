@@ -6,7 +6,7 @@ use Rattle.modbus_frame.specs.FunctionCodes.{exception_bit}
 use Rattle.modbus_frame.specs.Meaning.{Asked, Custom}
 use Rattle.modbus_frame.specs.declared.fault.Reason.{Reason}
 use Rattle.modbus_pdu.specs.RequestOf.{request_of}
-use Rattle.modbus_standard.specs.Unread.{no_function, any_request_of, begins_request, read_or, unread_of}
+use Rattle.modbus_field.specs.Unread.{no_function, any_request_of, begins_request, read_or, unread_of}
 use Rattle.modbus_diagnostics.specs.Heard.{is_noise}
 
 -- requests that could be read stand for nothing else

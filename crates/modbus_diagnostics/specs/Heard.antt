@@ -3,7 +3,7 @@ use Rattle.std.specs.Prelude.{ℕ, ◌==◌, Bool, true, false, if◌then◌else
 use Rattle.std.specs.List.{list_any}
 use Rattle.modbus_frame.specs.Meaning.{Asked, Custom}
 use Rattle.modbus_service.specs.Exchange.{Exchange}
-use Rattle.modbus_standard.specs.Unread.{no_function}
+use Rattle.modbus_field.specs.Unread.{no_function}
 use Rattle.modbus_diagnostics.specs.declared.query.Query.{Query}
 use Rattle.modbus_diagnostics.specs.declared.query.Query.TheVariants.{Events, Clear}
 use Rattle.modbus_diagnostics.specs.declared.heard.Heard.{Heard}

@@ -4,8 +4,8 @@ ghost use Rattle.modbus_frame.specs.Meaning.{meaning};
 ghost use Rattle.modbus_diagnostics.specs.Heard.{is_noise, is_unit, own, heard_as};
 
 use crate::query::{Query, query_of};
+use modbus_field::standard::NO_FUNCTION;
 use modbus_frame::{Request, Slave, SlaveId, SlaveRequest};
-use modbus_standard::NO_FUNCTION;
 
 /// What a port heard.
 #[derive(Clone, Copy, Debug, PartialEq, Eq)]

@@ -1,6 +1,6 @@
 //! Laws on what a port counts, tells and leaves to its service, about definitions alone. Each is proved by its contract.
 ghost use Rattle.std.specs.Prelude.{◌≡◌, ℕ, List, [], ◌∷◌, true, false};
-ghost use Rattle.modbus_standard.specs.Unread.{any_request_of};
+ghost use Rattle.modbus_field.specs.Unread.{any_request_of};
 ghost use Rattle.modbus_diagnostics.specs.Heard.{is_noise};
 ghost use Rattle.modbus_diagnostics.specs.Port.{AddressesStay, CountsAll, TellsCounts, PortRuns};
 
@@ -28,5 +28,5 @@ pub fn noise_has_no_byte()
     ensures noise { is_noise (any_request_of []) ≡ true }
     ensures message { (code : ℕ) (rest : List ℕ) → is_noise (any_request_of (code ∷ rest)) ≡ false }
 {
-    modbus_standard::laws::requests_are_read();
+    modbus_field::standard::laws::requests_are_read();
 }

@@ -7,8 +7,9 @@ use crate::polls::store_of;
 use crate::same_words::SameWords;
 use crate::text::Text;
 use crate::word::Word;
-use modbus_burst::BurstLink;
 use modbus_example::{Counter, serve_singles};
+use modbus_field::burst::BurstLink;
+use modbus_field::standard::StandardAnswers;
 use modbus_link::{
     Both, MemoryLink, MemorySink, MemorySource, MemoryStop, Polled, PolledMemoryLink,
     TimedMemoryLink,
@@ -20,7 +21,6 @@ use modbus_server::{
     tcp,
 };
 use modbus_service::OnlyUnit;
-use modbus_standard::StandardAnswers;
 use modbus_store::RegisterStore;
 use std::alloc::{AllocError, Global};
 use std::fmt::Debug;
@@ -67,8 +67,8 @@ fn served(
         "rtu" => rtu_over_tcp::process(text.alloc, source, sink, service, turns),
         "tcp" => tcp::process(text.alloc, source, sink, service, turns),
         "ascii" => modbus_ascii::ascii::process(text.alloc, source, sink, service, turns),
-        "bursts" => modbus_burst::process(text.alloc, source, sink, service, turns),
-        "stream" => modbus_stream::process(text.alloc, source, sink, service, turns),
+        "bursts" => modbus_field::burst::process(text.alloc, source, sink, service, turns),
+        "stream" => modbus_field::stream::process(text.alloc, source, sink, service, turns),
         _ => return false,
     };
     push_asked(text, ended, source, sink, service.calls);
@@ -91,7 +91,7 @@ fn served_by_lent(
         "rtu" => rtu_over_tcp::process_link(text.alloc, link, lent, turns),
         "tcp" => tcp::process_link(text.alloc, link, lent, turns),
         "ascii" => modbus_ascii::ascii::process_link(text.alloc, link, lent, turns),
-        "stream" => modbus_stream::process_link(text.alloc, link, lent, turns),
+        "stream" => modbus_field::stream::process_link(text.alloc, link, lent, turns),
         _ => return false,
     };
     push_asked(text, ended, source, sink, service.calls);
@@ -286,7 +286,7 @@ fn served_among_others(
     turns: u64,
     link: &mut BurstLink<TimedMemoryLink>,
 ) {
-    let ended = modbus_burst::process_link(
+    let ended = modbus_field::burst::process_link(
         text.alloc,
         link,
         &mut OnlyUnit {

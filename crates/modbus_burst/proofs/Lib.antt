@@ -1,4 +1,0 @@
-pub mod Framed
-pub mod Pieces
-pub mod Reading
-pub mod Serving

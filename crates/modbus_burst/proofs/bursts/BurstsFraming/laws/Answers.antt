@@ -1,5 +1,0 @@
-use Rattle.modbus_burst.proofs.Reading.{goes_on}
-use Rattle.modbus_burst.proofs.bursts.BurstsFraming.laws.Goals as goal
-
-pub returns-clause-next : goal.returns-clause-next
-returns-clause-next c = goes_on

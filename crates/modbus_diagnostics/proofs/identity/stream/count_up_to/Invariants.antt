@@ -1,0 +1,6 @@
+use Rattle.std.proofs.Common.{◌≤◌, take}
+use Rattle.std.specs.List.{All}
+use Rattle.modbus_diagnostics.proofs.identity.stream.count_up_to.Given as goal
+
+abbrev pub invariant-loop-place : goal.invariant-loop-place
+invariant-loop-place l = All (λ o. o.id ≤ l.last) (take l.place l.objects)

@@ -1,0 +1,10 @@
+pub mod Any
+pub mod Below
+pub mod BurstPieces
+pub mod Framed
+pub mod Never
+pub mod Read
+pub mod Reading
+pub mod Serving
+pub mod StreamFaults
+pub mod StreamPieces

@@ -1,0 +1,11 @@
+pub mod BurstFraming
+pub mod BurstLimits
+pub mod BurstLine
+pub mod BurstLink
+pub mod Bursts
+pub mod DefaultUnit
+pub mod Pieces
+pub mod StandardAnswers
+pub mod StreamFraming
+pub mod StreamLine
+pub mod Unread

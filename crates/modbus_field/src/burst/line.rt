@@ -1,0 +1,96 @@
+//! Serving a line of bursts, until its input ends (MODBUS over Serial Line V1.02, section 2.5.1.1).
+ghost use Rattle.std.specs.Prelude.{◌≡◌, IsTrue, Ok, IfErr};
+ghost use Rattle.modbus_server.specs.Complete.{Completes};
+ghost use Rattle.modbus_server.specs.Step.{Ran};
+ghost use Rattle.modbus_field.specs.BurstFraming.{bursts};
+ghost use Rattle.modbus_field.specs.BurstLine.{AnswersBursts, ServesBursts, IsOfNoBurst};
+ghost use Rattle.modbus_server.specs.Moment.{moment};
+
+use crate::burst::bursts::Bursts;
+use modbus_link::{Sink, Source};
+use modbus_server::{ProcessError, serve, serve_link};
+use modbus_service::Answerer;
+use std::alloc::Global;
+
+/// A connection of bursts: the burst that was fed and not used yet.
+pub type Connection = modbus_server::Connection<Bursts>;
+
+/// A server of bursts over a link that may not be ready.
+pub type PolledProcess = modbus_server::PolledProcess<Bursts>;
+
+/// One connection of bursts as work that can be handed over.
+pub type ConnectionWorker<L, V, H, X> = modbus_server::ConnectionWorker<Bursts, L, V, H, X>;
+
+/// Serves one object as source and sink until its input ends; its contract is that of `process`. A `BurstLink` over a serial line is one.
+///
+/// # Errors
+/// Those of `process`.
+pub fn process_link<L: Source + Sink, V: Answerer>(
+    alloc: Global,
+    link: &mut L,
+    service: &mut V,
+    turns: u64,
+) -> Result<(), ProcessError>
+    ensures ran { Ran bursts V.answering turns
+        (moment service.old (L.input link.old) (L.output link.old))
+        (moment service.new (L.input link.new) (L.output link.new)) result }
+    ensures complete { Completes bursts V.answering turns
+        (moment service.old (L.input link.old) (L.output link.old))
+        (moment service.new (L.input link.new) (L.output link.new)) result }
+    ensures answers { result ≡ Ok tt → IsTrue (L.input link.old).told → IsTrue
+        (L.output link.old).told
+        → AnswersBursts V.answering service.old service.new (L.input link.old) (L.input link.new)
+        (L.output link.old) (L.output link.new) }
+    ensures serves { ServesBursts V.answering service.old (L.input link.old) (L.input link.new)
+        (L.output link.old) (L.output link.new) turns result }
+    ensures causes { IfErr result (λ error. IsOfNoBurst error → ⊥) }
+{
+    serve_link::<Bursts, L, V>(alloc, link, service, turns)
+}
+
+/// Serves a source and a sink, of which each read is a burst, until the input ends, with at most `turns` reads that give bytes, each with a
+/// room of 257 bytes.
+///
+/// Over a source and a sink that tell their bytes, Ok comes only where the input ended. Then one run of the service was asked each burst, in
+/// order, and stands at its end; its replies, each framed for its message's slave, are all that was appended. A burst that is a frame asks what
+/// its PDU does, for whatever slave. Noise, a frame that is cut or has a wrong checksum, and two frames with no silence between them, ask a
+/// custom request of function code 0 with no byte, for the address 255. No bytes of two bursts are ever read as one frame.
+///
+/// So the service hears the whole line, and has to be silent to what is not for it: `OnlyUnit` and `Units` of modbus_service are, to the
+/// messages for other slaves. Below them `StandardAnswers` answers a PDU that can't be read with the exception that the
+/// standard wants, and is silent to noise.
+///
+/// # Errors
+/// - `ReadFault`, `WriteFault`: only where the source, the sink counted a fault in this call.
+/// - `ResponseTooLong`: the service answered a response whose PDU has this many bytes, more than 253.
+/// - `TurnLimit`: `turns` reads gave bytes, and all that they allow was answered.
+/// - `NoMemory`: memory was refused: as the connection was opened, for a request that carries a list, which each custom request does, or in
+///   the service. A read and a reply take none.
+///
+/// `TooManyRetries`, `BytesRemaining`, `InvalidRequest`, `InvalidLength` and `InvalidProtocol` never come: whatever is on the line, bursts
+/// have no fault, none is left over, and each asks something. After any error but `WriteFault`, each reply to a message before the failing
+/// place was written whole.
+pub fn process<S: Source, K: Sink, V: Answerer>(
+    alloc: Global,
+    source: &mut S,
+    sink: &mut K,
+    service: &mut V,
+    turns: u64,
+) -> Result<(), ProcessError>
+    ensures ran { Ran bursts V.answering turns
+        (moment service.old (S.input source.old) (K.output sink.old))
+        (moment service.new (S.input source.new) (K.output sink.new)) result }
+    ensures complete { Completes bursts V.answering turns
+        (moment service.old (S.input source.old) (K.output sink.old))
+        (moment service.new (S.input source.new) (K.output sink.new)) result }
+    ensures answers { result ≡ Ok tt → IsTrue (S.input source.old).told → IsTrue
+        (K.output sink.old).told
+        → AnswersBursts V.answering service.old service.new (S.input source.old) (S.input
+        source.new)
+        (K.output sink.old) (K.output sink.new) }
+    ensures serves { ServesBursts V.answering service.old (S.input source.old) (S.input source.new)
+        (K.output sink.old) (K.output sink.new) turns result }
+    ensures causes { IfErr result (λ error. IsOfNoBurst error → ⊥) }
+{
+    serve::<Bursts, S, K, V>(alloc, source, sink, service, turns)
+}

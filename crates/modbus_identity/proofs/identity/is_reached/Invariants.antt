@@ -1,6 +1,0 @@
-use Rattle.std.proofs.Common.{◌<◌, take}
-use Rattle.std.specs.List.{All}
-use Rattle.modbus_identity.proofs.identity.is_reached.Given as goal
-
-abbrev pub invariant-loop-it : goal.invariant-loop-it
-invariant-loop-it l = All (λ o. o.id < l.id) (take l.it-index l.objects)

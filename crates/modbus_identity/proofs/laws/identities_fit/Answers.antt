@@ -1,5 +1,0 @@
-use Rattle.modbus_identity.proofs.Fitting.{objects_fit}
-use Rattle.modbus_identity.proofs.laws.identities_fit.Goals as goal
-
-pub returns-clause-objects : goal.returns-clause-objects
-returns-clause-objects c = objects_fit

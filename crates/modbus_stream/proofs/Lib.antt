@@ -1,4 +1,0 @@
-pub mod Pieces
-pub mod Faults
-pub mod Never
-pub mod Below

@@ -1,4 +1,0 @@
-use Rattle.modbus_stream.proofs.buffer.StreamBufferFraming.encode_answer.Goals as goal
-
-pub returns-clause-memory : goal.returns-clause-memory
-returns-clause-memory c = c.encode_response_adu.ensures.longest

@@ -1,8 +1,0 @@
-use Rattle.modbus_stream.proofs.Pieces.{goes_on, nothing_left}
-use Rattle.modbus_stream.proofs.laws.one_reading.Goals as goal
-
-pub returns-clause-front : goal.returns-clause-front
-returns-clause-front c = goes_on
-
-pub returns-clause-rest : goal.returns-clause-rest
-returns-clause-rest c = nothing_left

@@ -1,4 +1,0 @@
-pub mod Pieces
-pub mod Framing
-pub mod Line
-pub mod DefaultUnit
