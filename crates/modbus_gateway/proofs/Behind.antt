@@ -11,7 +11,7 @@ use Rattle.modbus_service.specs.Answering.{Answering}
 use Rattle.modbus_server.specs.Framing.{Framing}
 use Rattle.modbus_server.specs.Exchanges.{Exchange, Run}
 use Rattle.modbus_server.specs.Answer.{WantsFor}
-use Rattle.modbus_server.specs.Served.{past, Stands, Halt, remaining, broken, refused, too_long, Halts, Served, Unwritten, Wanting, WantsMemory, EndsAs}
+use Rattle.modbus_server.specs.Served.{Halt, remaining, broken, refused, too_long, Halts, Served, Unwritten, Wanting, WantsMemory, EndsAs}
 use Rattle.modbus_server.specs.Step.{Ran}
 use Rattle.modbus_server.specs.Complete.{Completes}
 use Rattle.modbus_gateway.specs.Forwards.{behind}
@@ -64,28 +64,11 @@ module _ (F : Framing) {S T : Type 0} (view : S → T) (name : S → ℕ) (B : A
         last.1 ∙ run.1,
       )
 
-  abbrev stands_behind : (bytes cuts held : List ℕ) (opening now : S) (written waiting : List ℕ) (exchanges : List (Exchange F))
-      → Stands F B (past bytes cuts opening written exchanges) held now waiting
-      → Stands F A (past bytes cuts (view opening) written exchanges) held (view now) waiting × (name now ≡ name opening)
-  stands_behind bytes cuts held opening now written waiting exchanges s =
-      let run = run_behind exchanges opening now s.run in (
-        record {
-          taken = s.taken;
-          stands = s.stands;
-          asked = s.asked;
-          run = run.0;
-          fit = s.fit;
-          wrote = s.wrote;
-          late = s.late;
-        },
-        run.1,
-      )
-
   unwritten_behind : (bytes cuts : List ℕ) (opening now : S) (written : List ℕ) → Unwritten F B bytes cuts opening now written
       → Unwritten F A bytes cuts (view opening) (view now) written × (name now ≡ name opening)
   unwritten_behind bytes cuts opening now written u =
-      let stood = stands_behind bytes cuts u.held opening now written u.waiting u.exchanges u.stood in
-      (record { held = u.held; waiting = u.waiting; exchanges = u.exchanges; stood = stood.0 }, stood.1)
+      let run = run_behind u.exchanges opening now u.run in
+      (record { held = u.held; waiting = u.waiting; exchanges = u.exchanges; run = run.0; stood = u.stood }, run.1)
 
   wants_behind : (message : Message F.Header) (old new : S) → WantsFor F B message old new
       → WantsFor F A message (view old) (view new) × (name new ≡ name old)
@@ -105,10 +88,10 @@ module _ (F : Framing) {S T : Type 0} (view : S → T) (name : S → ℕ) (B : A
   wanting_behind : (bytes cuts : List ℕ) (opening now : S) (written : List ℕ) → Wanting F B bytes cuts opening now written
       → Wanting F A bytes cuts (view opening) (view now) written × (name now ≡ name opening)
   wanting_behind bytes cuts opening now written w =
-      let stood = stands_behind bytes cuts w.held opening w.ends written [] w.exchanges w.stood in
+      let run = run_behind w.exchanges opening w.ends w.run in
       let cause = cause_behind bytes cuts w.held w.stood.taken w.ends now w.cause in (
-        record { held = w.held; exchanges = w.exchanges; ends = view w.ends; stood = stood.0; cause = cause.0 },
-        cause.1 ∙ stood.1,
+        record { held = w.held; exchanges = w.exchanges; ends = view w.ends; run = run.0; stood = w.stood; cause = cause.0 },
+        cause.1 ∙ run.1,
       )
 
   ends_behind : (bytes cuts : List ℕ) (opening now : S) (written : List ℕ) (result : Result (Unit {0}) ProcessError) → EndsAs F B bytes cuts opening now written result

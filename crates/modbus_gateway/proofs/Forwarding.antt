@@ -107,7 +107,7 @@ module _ {L : Type 0} (M : LinkMeaning L) (fed cuts : List ℕ) (old new : LineS
   -- a rest of the last reply waits
   by_unwritten : Unwritten tcp (forwards M) fed cuts old new sent → InRecords M old new fed cuts sent (Err WriteFault)
   by_unwritten u =
-      by_run (Err WriteFault) u.stood.taken u.exchanges u.stood.asked u.stood.run (u.held, u.stood.stands.0, u.stood.stands.1)
+      by_run (Err WriteFault) u.stood.taken u.exchanges u.stood.asked u.run (u.held, u.stood.stands.0, u.stood.stands.1)
       (λ rs told out. (
         all_told u.exchanges rs told,
         u.waiting,
@@ -122,14 +122,14 @@ module _ {L : Type 0} (M : LinkMeaning L) (fed cuts : List ℕ) (old new : LineS
     -- the gateway stands where the run left it
     by_run_alone : new ≡ w.ends → InRecords M old new fed cuts sent (Err NoMemory)
     by_run_alone same =
-        by_run (Err NoMemory) w.stood.taken w.exchanges w.stood.asked (subst (Run tcp (forwards M) old w.exchanges) (sym same) w.stood.run) (w.held, w.stood.stands.0, w.stood.stands.1)
+        by_run (Err NoMemory) w.stood.taken w.exchanges w.stood.asked (subst (Run tcp (forwards M) old w.exchanges) (sym same) w.run) (w.held, w.stood.stands.0, w.stood.stands.1)
         (λ rs told out. (inl (all_told w.exchanges rs told), sent_all ∙ out))
 
     -- memory was wanting in the exchange for the next ADU
     by_want : (next : Message tcp.Header) (request : Asked) → tcp.IsNext fed cuts w.stood.taken next → request_of next.pdu ≡ Ok request
         → (forwards M).wants w.ends (tcp.slave next.header) request new → InRecords M old new fed cuts sent (Err NoMemory)
     by_want next request (rest, joined, whole) is wants =
-        let r = run_in_records M old w.ends w.exchanges w.stood.run in
+        let r = run_in_records M old w.ends w.exchanges w.run in
         let last = want_in_record M w.ends new next.header request wants in
         let view : AreJoined old.turns (view_of M w.ends) (last.row ∷ []) (view_of M new) =
         subst (λ n. AreJoined n (view_of M w.ends) (last.row ∷ []) (view_of M new)) r.turns last.recorded.joined in

@@ -40,6 +40,6 @@ module _ {S : Type 0} (A : Answering S) where
         | inr (inr nothing) ↦ (let empty : wanting.exchanges ≡ [] = none_asked wanting.exchanges (ap (map (asked_of rtu)) (sym nothing.1) ∙ wanting.stood.asked) in (
           nothing.0,
           sym (append-nil ran.sent) ∙ wanting.stood.wrote ∙ ap (output rtu) empty,
-          nothing.2 ∙ subst (λ xs. Run rtu A before.service xs wanting.ends) empty wanting.stood.run,
+          nothing.2 ∙ subst (λ xs. Run rtu A before.service xs wanting.ends) empty wanting.run,
         ))
       ]

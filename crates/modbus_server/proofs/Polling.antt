@@ -1,9 +1,9 @@
 -- One poll of a server: what waits is written, and then one step comes after another, as far as the link is ready.
-use Rattle.std.proofs.Common.{◌≡◌, ◌≢◌, inl, inr, ℕ, ◌+◌, ◌<◌, ◌≤◌, List, [], ◌∷◌, ◌++◌, length, refl, sym, ap, ◌∙◌, subst, arith, Result, Ok, Err, Bool, true, false, IsTrue, append-nil, append_assoc, length-append}
+use Rattle.std.proofs.Common.{◌≡◌, ◌≢◌, inl, inr, ℕ, ◌+◌, ◌<◌, ◌≤◌, List, [], ◌++◌, length, refl, sym, ap, ◌∙◌, subst, arith, Result, Ok, Err, Bool, true, false, IsTrue, append-nil, append_assoc, length-append}
 use Rattle.modbus_link.specs.declared.polled.Polled.{Polled}
 use Rattle.modbus_link.specs.declared.polled.Polled.TheVariants.{Ready, Pending}
 use Rattle.modbus_link.specs.declared.outside.Cut.{Cut}
-use Rattle.modbus_link.specs.Outside.{Outside, outside, Input, Output, Rose, IsFront, cuts_from}
+use Rattle.modbus_link.specs.Outside.{outside, Input, Output, Rose, IsFront, cuts_from}
 use Rattle.modbus_link.specs.Passes.{Passes, Sends, passes_out, passes_in, passes_both}
 use Rattle.modbus_link.specs.Reads.{HaveRooms, totals, Spends}
 use Rattle.modbus_link.specs.Runs.{RisesTo-both}
@@ -15,72 +15,65 @@ use Rattle.modbus_server.specs.declared.error.Step.{Step}
 use Rattle.modbus_server.specs.declared.error.Step.TheVariants.{Answered, Silent, MoreRead, Hungry, Ended}
 use Rattle.modbus_server.specs.Framing.{Framing}
 use Rattle.modbus_service.specs.Answering.{Answering}
-use Rattle.modbus_server.specs.Exchanges.{Exchange}
-use Rattle.modbus_server.specs.Served.{past, Stands, remaining}
+use Rattle.modbus_server.specs.Exchanges.{Exchange, Run}
+use Rattle.modbus_server.specs.Served.{past, Stands, HasTakenAll, remaining}
 use Rattle.modbus_server.specs.State.{State}
 use Rattle.modbus_server.specs.Next.{Took}
 use Rattle.modbus_server.specs.Transfer.{WritesOnce, EndsInput}
 use Rattle.modbus_server.specs.Step.{StepsAs, EndsIfMay, Stepped, EndsRead, spending_of, Ran}
 use Rattle.modbus_server.specs.Complete.{Completes}
-use Rattle.modbus_server.specs.Polled.{polled, PolledPast, polled_past, polled_on, PolledProcessState, PollWaits, ReadsNothing, PollWrites, PollReads, Paused, PollSteps, PollStands, PollEnds, PolledTo, RunsWhole}
-use Rattle.modbus_server.proofs.Standing.{opened, sent_on, halted}
-use Rattle.modbus_server.proofs.Stepping.{fails_end, stepped_sent, stepped_read}
+use Rattle.modbus_server.specs.Polled.{polled, PolledPast, polled_past, polled_on, past_of, PolledProcessState, PollWaits, ReadsNothing, PollWrites, PollReads, Paused, PollSteps, PollStands, PollEnds, PolledTo, RunsWhole}
+use Rattle.modbus_server.proofs.Standing.{opened, sent_on, halted, runs_both, ends_whole}
+use Rattle.modbus_server.proofs.Stepping.{stepped_sent, stepped_read}
 use Rattle.modbus_server.specs.Moment.{Moment, moment}
 
--- two runs after what came before are one, with what was written in them
-regrouped : (P : List ℕ → List Cut → List ℕ → Type 0) (bytes fed fed' : List ℕ) (earlier made made' : List Cut) (written sent sent' : List ℕ)
-    → P ((bytes ++ fed) ++ fed') ((earlier ++ cuts_from (length bytes) made) ++ cuts_from (length (bytes ++ fed)) made') ((written ++ sent) ++ sent')
-    → P (bytes ++ (fed ++ fed')) (earlier ++ cuts_from (length bytes) (made ++ cuts_from (length fed) made')) (written ++ (sent ++ sent'))
-regrouped P bytes fed fed' earlier made made' written sent sent' p =
-    regroup (λ b e. P b e (written ++ (sent ++ sent'))) bytes fed fed' earlier made made'
-    (subst (P ((bytes ++ fed) ++ fed') ((earlier ++ cuts_from (length bytes) made) ++ cuts_from (length (bytes ++ fed)) made')) (append_assoc written sent sent') p)
+-- two runs after what came before are one, with what was written and asked in them
+regrouped : {X : Type 0} (P : List ℕ → List Cut → List ℕ → List X → Type 0) (bytes fed fed' : List ℕ) (earlier made made' : List Cut) (written sent sent' : List ℕ) (xs fresh fresh' : List X)
+    → P ((bytes ++ fed) ++ fed') ((earlier ++ cuts_from (length bytes) made) ++ cuts_from (length (bytes ++ fed)) made') ((written ++ sent) ++ sent') ((xs ++ fresh) ++ fresh')
+    → P (bytes ++ (fed ++ fed')) (earlier ++ cuts_from (length bytes) (made ++ cuts_from (length fed) made')) (written ++ (sent ++ sent')) (xs ++ (fresh ++ fresh'))
+regrouped P bytes fed fed' earlier made made' written sent sent' xs fresh fresh' p =
+    regroup (λ b e. P b e (written ++ (sent ++ sent')) (xs ++ (fresh ++ fresh'))) bytes fed fed' earlier made made'
+    (subst (λ w. P ((bytes ++ fed) ++ fed') ((earlier ++ cuts_from (length bytes) made) ++ cuts_from (length (bytes ++ fed)) made') w (xs ++ (fresh ++ fresh'))) (append_assoc written sent sent')
+    (subst (P ((bytes ++ fed) ++ fed') ((earlier ++ cuts_from (length bytes) made) ++ cuts_from (length (bytes ++ fed)) made') ((written ++ sent) ++ sent')) (append_assoc xs fresh fresh') p))
 
 module _ (F : Framing) {S : Type 0} (A : Answering S) where
   -- a step found the link not ready for the whole reply
   pub paused_sent : {E : Type 0} (told : E → ProcessError) (old mid new : State) (before after : S) (a b : Input) (k m : Output) → Took F A told old mid before after (Ok Reply) → b ≡ a
       → Sends k m mid.waiting new.waiting → new ≡ record mid { waiting = new.waiting } → new.waiting ≢ [] → Paused F A old new (moment before a k) (moment after b m)
-  paused_sent told old mid new before after a b k m took unread sends same some = record {
-    sent = sends.sent;
-    passes = passes_out (outside a k) (outside b m) sends.sent unread sends.sink sends.wrote;
-    stands = λ behind s.
-        let h = took.stands behind s in
-        let all : List (Exchange F) = behind.exchanges ++ h.0 ∷ [] in (
-          all,
-          subst (λ held. Stands F A (past behind.bytes behind.cuts behind.opening (behind.written ++ sends.sent) all) held after new.waiting) (sym (ap (λ (s : State). s.held) same))
-              (sent_on F A (past behind.bytes behind.cuts behind.opening behind.written all) mid.held after mid.waiting sends.sent new.waiting sends.splits h.1),
-        );
-    is_open = ap (λ (s : State). s.is_open) same ∙ took.goes_on;
-    rests = inl some;
-  }
+  paused_sent told old mid new before after a b k m took unread sends same some =
+      let t = took.takes in record {
+        sent = sends.sent;
+        passes = passes_out (outside a k) (outside b m) sends.sent unread sends.sink sends.wrote;
+        fresh = t.fresh;
+        run = subst (λ s. Run F A before t.fresh s) (sym t.asked.3) t.run;
+        stands = λ behind s.
+            let all : List (Exchange F) = behind.exchanges ++ t.fresh in
+            subst (λ held. Stands F (past behind.bytes behind.cuts (behind.written ++ sends.sent) all) held new.waiting) (sym (ap (λ (s : State). s.held) same))
+            (sent_on F (past behind.bytes behind.cuts behind.written all) mid.held mid.waiting sends.sent new.waiting sends.splits (t.stands behind s));
+        is_open = ap (λ (s : State). s.is_open) same ∙ took.goes_on;
+        rests = inl some;
+      }
 
   -- or to be read
   pub paused_read : {E : Type 0} (told : E → ProcessError) (old mid new : State) (before after : S) (a b : Input) (k m : Output) → Took F A told old mid before after (Ok Waiting) → m ≡ k
       → ReadsNothing a b mid new → Paused F A old new (moment before a k) (moment after b m)
   paused_read told old mid new before after a b k m took unsent reads =
+      let t = took.takes in
       let held : new.held ≡ mid.held = ap (λ (s : State). s.held) reads.keeps in
       let none : new.waiting ≡ [] = ap (λ (s : State). s.waiting) reads.keeps ∙ took.keeps.1 in record {
         sent = [];
         passes = passes_in (outside a k) (outside b m) [] [] unsent reads.source reads.read reads.cuts refl;
+        fresh = t.fresh;
+        run = subst (λ s. Run F A before t.fresh s) (sym t.asked.1) t.run;
         stands = λ behind s.
-            let h = took.stands behind s in (
-              behind.exchanges,
-              subst (λ w. Stands F A (past behind.bytes behind.cuts behind.opening w behind.exchanges) new.held after new.waiting) (sym (append-nil behind.written))
-                  (subst (λ w. Stands F A behind new.held after w) (sym none)
-                  (subst (λ x. Stands F A behind x after []) (sym held) h.0)),
-            );
+            let h = t.stands behind s in
+            let all : List (Exchange F) = behind.exchanges ++ t.fresh in
+            subst (λ w. Stands F (past behind.bytes behind.cuts w all) new.held new.waiting) (sym (append-nil behind.written))
+            (subst (λ w. Stands F (past behind.bytes behind.cuts behind.written all) new.held w) (sym none)
+            (subst (λ x. Stands F (past behind.bytes behind.cuts behind.written all) x []) (sym held) h.0));
         is_open = ap (λ (s : State). s.is_open) reads.keeps ∙ took.goes_on;
         rests = inr (subst F.Waits (sym held) took.keeps.0);
       }
-
-  -- a server that was just opened
-  pub begins : (turns : ℕ) (start : S) (state : State) → state.held ≡ [] → state.waiting ≡ [] → F.StandsFor [] [] [] [] → PollStands F A (polled_past turns [] [] start []) start (polled state turns)
-  begins turns start state empty written stands = record {
-    exchanges = [];
-    stands = subst (λ held. Stands F A (past [] [] start [] []) held start state.waiting) (sym empty) (subst (λ w. Stands F A (past [] [] start [] []) [] start w) (sym written) (opened F A start stands));
-    rises = refl;
-    rooms = tt;
-    spends = omega arith;
-  }
 
   -- one step, by what is written or read in it
   module _ {E : Type 0} (told : E → ProcessError) (old mid new : State) (before after : S) (a b : Input) (k m : Output) (may_read : Bool) where
@@ -107,9 +100,10 @@ module _ (F : Framing) {S : Type 0} (A : Answering S) where
     pub fed : List ℕ
     pub made : List Cut
     pub sent : List ℕ
+    pub fresh : List (Exchange F)
     pub passes : Passes (outside a k) (outside b m) fed made sent
-    pub goes_on : (behind : PolledPast S) → PollStands F A behind before (polled old left)
-        → PollStands F A (polled_past behind.turns (behind.bytes ++ fed) (behind.made ++ cuts_from (length behind.bytes) made) behind.opening (behind.written ++ sent)) after (polled state left')
+    pub run : Run F A before fresh after
+    pub goes_on : (behind : PolledPast F) → PollStands F behind (polled old left) → PollStands F (polled_on behind fed made sent fresh) (polled state left')
     pub waiting : state.waiting ≡ []
     pub ready : IsTrue state.is_open
     pub later : idle ≤ idle'
@@ -117,17 +111,16 @@ module _ (F : Framing) {S : Type 0} (A : Answering S) where
 
   -- what waited is written first, all of it or some
   module _ (old new : State) (left : ℕ) (now : S) (a b : Input) (k m : Output) (idle idle' : ℕ) (unread : b ≡ a) (sends : Sends k m old.waiting new.waiting) (held : new.held ≡ old.held) (later : idle ≤ idle') where
-    flushed : (behind : PolledPast S) → PollStands F A behind now (polled old left)
-        → PollStands F A (polled_past behind.turns (behind.bytes ++ []) (behind.made ++ []) behind.opening (behind.written ++ sends.sent)) now (polled new left)
+    flushed : (behind : PolledPast F) → PollStands F behind (polled old left) → PollStands F (polled_on behind [] [] sends.sent []) (polled new left)
     flushed behind s =
-        unread_on (λ x y. PollStands F A (polled_past behind.turns x y behind.opening (behind.written ++ sends.sent)) now (polled new left)) behind.bytes behind.made record {
-          exchanges = s.exchanges;
-          stands = subst (λ h. Stands F A (past behind.bytes (totals behind.made) behind.opening (behind.written ++ sends.sent) s.exchanges) h now new.waiting) (sym held)
-              (sent_on F A (past behind.bytes (totals behind.made) behind.opening behind.written s.exchanges) old.held now old.waiting sends.sent new.waiting sends.splits s.stands);
+        unread_on (λ x y. PollStands F (polled_past behind.turns x y (behind.written ++ sends.sent) (behind.exchanges ++ [])) (polled new left)) behind.bytes behind.made
+        (subst (λ xs. PollStands F (polled_past behind.turns behind.bytes behind.made (behind.written ++ sends.sent) xs) (polled new left)) (sym (append-nil behind.exchanges)) record {
+          stands = subst (λ h. Stands F (past behind.bytes (totals behind.made) (behind.written ++ sends.sent) behind.exchanges) h new.waiting) (sym held)
+              (sent_on F (past_of behind) old.held old.waiting sends.sent new.waiting sends.splits s.stands);
           rises = s.rises;
           rooms = s.rooms;
           spends = s.spends;
-        }
+        })
 
     wrote : Passes (outside a k) (outside b m) [] [] sends.sent
     wrote = passes_out (outside a k) (outside b m) sends.sent unread sends.sink sends.wrote
@@ -137,7 +130,9 @@ module _ (F : Framing) {S : Type 0} (A : Answering S) where
       fed = [];
       made = [];
       sent = sends.sent;
+      fresh = [];
       passes = wrote;
+      run = refl;
       goes_on = flushed;
       waiting = none;
       ready = ready;
@@ -152,7 +147,10 @@ module _ (F : Framing) {S : Type 0} (A : Answering S) where
         made = [];
         sent = sends.sent;
         passes = wrote;
-        goes_on = flushed;
+        fresh = [];
+        ends = now;
+        run = refl;
+        goes_on = λ behind s. (flushed behind s, refl);
         is_open = ready;
         rests = λ e. inl some;
         writes_first = λ read. absurd (read refl);
@@ -170,9 +168,12 @@ module _ (F : Framing) {S : Type 0} (A : Answering S) where
         made = [];
         sent = sends.sent;
         passes = wrote;
+        fresh = [];
+        ends = now;
+        run = refl;
         goes_on = λ behind s.
             let after = flushed behind s in record {
-              served = record { held = new.held; waiting = new.waiting; exchanges = after.exchanges; stood = after.stands };
+              served = (new.held, new.waiting, after.stands, refl);
               rooms = after.rooms;
               spends = omega (arith, after.spends);
             };
@@ -208,9 +209,8 @@ module _ (F : Framing) {S : Type 0} (A : Answering S) where
     all_first : (sent : List ℕ) → IsFront old.waiting (g.sent ++ sent)
     all_first sent = (g.first.0 ++ sent, ap (λ w. w ++ sent) g.first.1 ∙ append_assoc old.waiting g.first.0 sent)
 
-    unwaiting : {bytes cuts written : List ℕ} {opening : S} {exchanges : List (Exchange F)} → Stands F A (past bytes cuts opening written exchanges) mid.held now mid.waiting
-        → Stands F A (past bytes cuts opening written exchanges) mid.held now []
-    unwaiting {bytes} {cuts} {written} {opening} {exchanges} s = subst (λ w. Stands F A (past bytes cuts opening written exchanges) mid.held now w) g.waiting s
+    unwaiting : (behind : PolledPast F) → PollStands F behind (polled mid left') → Stands F (past_of behind) mid.held []
+    unwaiting behind s = subst (λ w. Stands F (past_of behind) mid.held w) g.waiting s.stands
 
     -- the link was not ready for the next step
     pub polled_paused : left'' ≡ left' → Paused F A mid new (moment now b l) (moment next c m) → Rose idle' idle'' → Polls (polled old left) (polled new left'') (moment before a k) (moment next c m) idle idle'' Pending
@@ -220,17 +220,21 @@ module _ (F : Framing) {S : Type 0} (A : Answering S) where
         made = g.made ++ [];
         sent = g.sent ++ p.sent;
         passes = passes_both (outside a k) (outside b l) (outside c m) g.fed [] g.made [] g.sent p.sent g.passes p.passes;
-        goes_on = λ behind start.
-            let s = g.goes_on behind start in
-            let all = p.stands (past (behind.bytes ++ g.fed) (totals (behind.made ++ cuts_from (length behind.bytes) g.made)) behind.opening (behind.written ++ g.sent) s.exchanges) (unwaiting s.stands) in
-            regrouped (λ x y z. PollStands F A (polled_past behind.turns x y behind.opening z) next (polled new left'')) behind.bytes g.fed [] behind.made g.made [] behind.written g.sent p.sent
-            (unread_on (λ x y. PollStands F A (polled_past behind.turns x y behind.opening ((behind.written ++ g.sent) ++ p.sent)) next (polled new left'')) (behind.bytes ++ g.fed) (behind.made ++ cuts_from (length behind.bytes) g.made) record {
-              exchanges = all.0;
-              stands = all.1;
-              rises = s.rises;
-              rooms = s.rooms;
-              spends = ap (λ n. length (behind.made ++ cuts_from (length behind.bytes) g.made) + n) same ∙ s.spends;
-            });
+        fresh = g.fresh ++ p.fresh;
+        ends = next;
+        run = runs_both F A before g.fresh now p.fresh next g.run p.run;
+        goes_on = λ behind start. (
+          let s = g.goes_on behind start in
+              let mids = polled_on behind g.fed g.made g.sent g.fresh in
+              regrouped (λ x y z xs. PollStands F (polled_past behind.turns x y z xs) (polled new left'')) behind.bytes g.fed [] behind.made g.made [] behind.written g.sent p.sent behind.exchanges g.fresh p.fresh
+              (unread_on (λ x y. PollStands F (polled_past behind.turns x y (mids.written ++ p.sent) (mids.exchanges ++ p.fresh)) (polled new left'')) mids.bytes mids.made record {
+                stands = p.stands (past_of mids) (unwaiting mids s);
+                rises = s.rises;
+                rooms = s.rooms;
+                spends = ap (λ n. length mids.made + n) same ∙ s.spends;
+              }),
+          refl,
+        );
         is_open = p.is_open;
         rests = λ e. p.rests;
         writes_first = λ read. all_first p.sent;
@@ -245,24 +249,28 @@ module _ (F : Framing) {S : Type 0} (A : Answering S) where
       all_passes : Passes (outside a k) (outside c m) (g.fed ++ step.fed) (g.made ++ cuts_from (length g.fed) step.made) (g.sent ++ step.sent)
       all_passes = passes_both (outside a k) (outside b l) (outside c m) g.fed step.fed g.made step.made g.sent step.sent g.passes step.passes
 
+      all_run : Run F A before (g.fresh ++ step.fresh) step.ends
+      all_run = runs_both F A before g.fresh now step.fresh step.ends g.run step.run
+
+      abbrev onward : PolledPast F → PolledPast F
+      onward behind = polled_on behind step.fed step.made step.sent step.fresh
+
       -- of all that the server stood for before the step
-      module _ (behind : PolledPast S) (s : PollStands F A behind now (polled mid left')) where
-        stepped : StepsAs F A (past (behind.bytes ++ step.fed) (totals (behind.made ++ cuts_from (length behind.bytes) step.made)) behind.opening (behind.written ++ step.sent) s.exchanges) new.held next new.waiting result
-        stepped = subst (λ t. StepsAs F A (past (behind.bytes ++ step.fed) t behind.opening (behind.written ++ step.sent) s.exchanges) new.held next new.waiting result) (sym (totals_both (length behind.bytes) behind.made step.made))
-            (step.stands (past behind.bytes (totals behind.made) behind.opening behind.written s.exchanges) (unwaiting s.stands))
+      module _ (behind : PolledPast F) (s : PollStands F behind (polled mid left')) where
+        stepped : StepsAs F A (past_of (onward behind)) new step.ends next result
+        stepped = subst (λ t. StepsAs F A (past (behind.bytes ++ step.fed) t (behind.written ++ step.sent) (behind.exchanges ++ step.fresh)) new step.ends next result) (sym (totals_both (length behind.bytes) behind.made step.made))
+            (step.stands (past_of behind) (unwaiting behind s))
 
         have_rooms : HaveRooms F.HasRoom (behind.bytes ++ step.fed) 0 (behind.made ++ cuts_from (length behind.bytes) step.made)
         have_rooms = rooms_then F.HasRoom (behind.bytes ++ step.fed) 0 (length behind.bytes) behind.made (cuts_from (length behind.bytes) step.made) s.rises
             (rooms_more F.HasRoom behind.bytes step.fed 0 (length behind.bytes) behind.made s.rises (omega arith) s.rooms)
-            (step.rooms (past behind.bytes (totals behind.made) behind.opening behind.written s.exchanges) (unwaiting s.stands))
+            (step.rooms (past_of behind) (unwaiting behind s))
 
         count : length (behind.made ++ cuts_from (length behind.bytes) step.made) ≡ length behind.made + length step.made
         count = count_both (length behind.bytes) behind.made step.made
 
-        stands_on : (all : List (Exchange F)) → Stands F A (past (behind.bytes ++ step.fed) (totals (behind.made ++ cuts_from (length behind.bytes) step.made)) behind.opening (behind.written ++ step.sent) all) new.held next new.waiting
-            → length step.made + left'' ≡ left' → PollStands F A (polled_past behind.turns (behind.bytes ++ step.fed) (behind.made ++ cuts_from (length behind.bytes) step.made) behind.opening (behind.written ++ step.sent)) next (polled new left'')
-        stands_on all stands spends = record {
-          exchanges = all;
+        stands_on : Stands F (past_of (onward behind)) new.held new.waiting → length step.made + left'' ≡ left' → PollStands F (onward behind) (polled new left'')
+        stands_on stands spends = record {
           stands = stands;
           rises = RisesTo-both (behind.made ++ cuts_from (length behind.bytes) step.made) behind.made step.made (length behind.bytes) (length step.fed) (length (behind.bytes ++ step.fed)) refl (length-append behind.bytes step.fed) s.rises step.passes.rises;
           rooms = have_rooms;
@@ -270,17 +278,18 @@ module _ (F : Framing) {S : Type 0} (A : Answering S) where
         }
 
       -- it goes on
-      going_on : ((behind : PolledPast S) → PollStands F A behind now (polled mid left')
-          → PollStands F A (polled_past behind.turns (behind.bytes ++ step.fed) (behind.made ++ cuts_from (length behind.bytes) step.made) behind.opening (behind.written ++ step.sent)) next (polled new left''))
+      going_on : next ≡ step.ends → ((behind : PolledPast F) → PollStands F behind (polled mid left') → PollStands F (onward behind) (polled new left''))
           → new.waiting ≡ [] → IsTrue new.is_open → PollGoing old new left left'' before next a c k m idle idle''
-      going_on on none ready = record {
+      going_on same on none ready = record {
         fed = g.fed ++ step.fed;
         made = g.made ++ cuts_from (length g.fed) step.made;
         sent = g.sent ++ step.sent;
+        fresh = g.fresh ++ step.fresh;
         passes = all_passes;
+        run = subst (λ s. Run F A before (g.fresh ++ step.fresh) s) (sym same) all_run;
         goes_on = λ behind start.
-            regrouped (λ x y z. PollStands F A (polled_past behind.turns x y behind.opening z) next (polled new left'')) behind.bytes g.fed step.fed behind.made g.made step.made behind.written g.sent step.sent
-            (on (polled_on behind g.fed g.made g.sent) (g.goes_on behind start));
+            regrouped (λ x y z xs. PollStands F (polled_past behind.turns x y z xs) (polled new left'')) behind.bytes g.fed step.fed behind.made g.made step.made behind.written g.sent step.sent behind.exchanges g.fresh step.fresh
+            (on (polled_on behind g.fed g.made g.sent g.fresh) (g.goes_on behind start));
         waiting = none;
         ready = ready;
         later = all_later;
@@ -289,8 +298,7 @@ module _ (F : Framing) {S : Type 0} (A : Answering S) where
 
       -- or it is over
       over : (final : State) (answer : Result (Unit {0}) ProcessError)
-          → ((behind : PolledPast S) → PollStands F A behind now (polled mid left')
-          → PollEnds F A (polled_past behind.turns (behind.bytes ++ step.fed) (behind.made ++ cuts_from (length behind.bytes) step.made) behind.opening (behind.written ++ step.sent)) next answer)
+          → ((behind : PolledPast F) → PollStands F behind (polled mid left') → PollEnds F A (onward behind) step.ends next answer)
           → final.is_open ≡ false → (IsTrue b.told → EndsRead answer c.left) → (answer ≡ Err ReadFault → Rose b.faults c.faults) → (answer ≡ Err WriteFault → Rose l.faults m.faults)
           → Polls (polled old left) (polled final left'') (moment before a k) (moment next c m) idle idle'' (Ready answer)
       over final answer ends closed ended read_fault write_fault = (
@@ -299,9 +307,12 @@ module _ (F : Framing) {S : Type 0} (A : Answering S) where
           made = g.made ++ cuts_from (length g.fed) step.made;
           sent = g.sent ++ step.sent;
           passes = all_passes;
+          fresh = g.fresh ++ step.fresh;
+          ends = step.ends;
+          run = all_run;
           goes_on = λ behind start.
-              regrouped (λ x y z. PollEnds F A (polled_past behind.turns x y behind.opening z) next answer) behind.bytes g.fed step.fed behind.made g.made step.made behind.written g.sent step.sent
-              (ends (polled_on behind g.fed g.made g.sent) (g.goes_on behind start));
+              regrouped (λ x y z xs. PollEnds F A (polled_past behind.turns x y z xs) step.ends next answer) behind.bytes g.fed step.fed behind.made g.made step.made behind.written g.sent step.sent behind.exchanges g.fresh step.fresh
+              (ends (polled_on behind g.fed g.made g.sent g.fresh) (g.goes_on behind start));
           is_open = closed;
           rests = λ e. absurd cc;
           writes_first = λ read. all_first step.sent;
@@ -321,26 +332,22 @@ module _ (F : Framing) {S : Type 0} (A : Answering S) where
     pub read_on : (may_read : Bool) → left' ≡ left'' + 1 → Stepped F A mid new (moment now b l) (moment next c m) may_read (Ok MoreRead) → PollGoing old new left left'' before next a c k m idle idle''
     read_on may_read e step =
         let one = step.leaves.0 in
-        going_on may_read (Ok MoreRead) step
-        (λ behind s. stands_on may_read (Ok MoreRead) step behind s s.exchanges (stepped may_read (Ok MoreRead) step behind s) (omega (arith, one, e)))
+        going_on may_read (Ok MoreRead) step step.asked.1
+        (λ behind s. stands_on may_read (Ok MoreRead) step behind s (stepped may_read (Ok MoreRead) step behind s) (omega (arith, one, e)))
         step.leaves.2 step.leaves.3
 
     pub answered_on : (may_read : Bool) → left'' ≡ left' → Stepped F A mid new (moment now b l) (moment next c m) may_read (Ok Answered) → PollGoing old new left left'' before next a c k m idle idle''
     answered_on may_read e step =
         let none = ap length step.leaves.0 in
-        going_on may_read (Ok Answered) step
-        (λ behind s.
-        let h = stepped may_read (Ok Answered) step behind s in
-        stands_on may_read (Ok Answered) step behind s (s.exchanges ++ h.0 ∷ []) h.1 (omega (arith, none, e)))
+        going_on may_read (Ok Answered) step step.asked.3
+        (λ behind s. stands_on may_read (Ok Answered) step behind s (stepped may_read (Ok Answered) step behind s) (omega (arith, none, e)))
         step.leaves.2 step.leaves.3
 
     pub silent_on : (may_read : Bool) → left'' ≡ left' → Stepped F A mid new (moment now b l) (moment next c m) may_read (Ok Silent) → PollGoing old new left left'' before next a c k m idle idle''
     silent_on may_read e step =
         let none = ap length step.leaves.0 in
-        going_on may_read (Ok Silent) step
-        (λ behind s.
-        let h = stepped may_read (Ok Silent) step behind s in
-        stands_on may_read (Ok Silent) step behind s (s.exchanges ++ h.0 ∷ []) h.1 (omega (arith, none, e)))
+        going_on may_read (Ok Silent) step step.asked.3
+        (λ behind s. stands_on may_read (Ok Silent) step behind s (stepped may_read (Ok Silent) step behind s) (omega (arith, none, e)))
         step.leaves.2 step.leaves.3
 
     module _ (may_read : Bool) (may : may_read ≡ true → 0 < left') (must : may_read ≡ false → left' ≡ 0) where
@@ -367,7 +374,7 @@ module _ (F : Framing) {S : Type 0} (A : Answering S) where
           (λ behind s.
           let all = count may_read (Err error) step behind s in
           let before = s.spends in record {
-            served = fails_end F A (past (behind.bytes ++ step.fed) (totals (behind.made ++ cuts_from (length behind.bytes) step.made)) behind.opening (behind.written ++ step.sent) s.exchanges) next error (stepped may_read (Err error) step behind s);
+            served = stepped may_read (Err error) step behind s;
             rooms = have_rooms may_read (Err error) step behind s;
             spends = spent error (length (behind.made ++ cuts_from (length behind.bytes) step.made)) behind.turns step.leaves.2 (omega (arith, none, all, before));
           })
@@ -381,13 +388,11 @@ module _ (F : Framing) {S : Type 0} (A : Answering S) where
           let spent_all = must step.leaves.4 in
           over may_read (Ok Hungry) step final (Err TurnLimit)
           (λ behind s.
-          let h = stepped may_read (Ok Hungry) step behind s in
           let all = count may_read (Ok Hungry) step behind s in
           let before = s.spends in
-          let cuts : List ℕ = totals (behind.made ++ cuts_from (length behind.bytes) step.made) in
-          let both : (s' : Stands F A (past (behind.bytes ++ step.fed) cuts behind.opening (behind.written ++ step.sent) s.exchanges) new.held next []) × F.IsAll (behind.bytes ++ step.fed) cuts new.held s'.taken =
-          subst (λ w. (s' : Stands F A (past (behind.bytes ++ step.fed) cuts behind.opening (behind.written ++ step.sent) s.exchanges) new.held next w) × F.IsAll (behind.bytes ++ step.fed) cuts new.held s'.taken) step.leaves.2 (h.0, h.1) in record {
-            served = (new.held, halted F A (past (behind.bytes ++ step.fed) cuts behind.opening (behind.written ++ step.sent) s.exchanges) new.held next both.0 (remaining new.held) next (both.1, refl));
+          let mids = past_of (polled_on behind step.fed step.made step.sent step.fresh) in
+          let h = subst (λ w. HasTakenAll F mids new.held w) step.leaves.2 (stepped may_read (Ok Hungry) step behind s) in record {
+            served = (new.held, halted F A mids new.held h.0 (remaining new.held) step.ends next (h.1, step.asked.1));
             rooms = have_rooms may_read (Ok Hungry) step behind s;
             spends = omega (arith, none, all, before, spent_all);
           })
@@ -399,14 +404,13 @@ module _ (F : Framing) {S : Type 0} (A : Answering S) where
           let some = may step.leaves.4 in
           over may_read (Ok Ended) step new (Ok tt)
           (λ behind s.
-          let h = stepped may_read (Ok Ended) step behind s in
           let all = count may_read (Ok Ended) step behind s in
           let before = s.spends in
-          let cuts : List ℕ = totals (behind.made ++ cuts_from (length behind.bytes) step.made) in
-          let both : (s' : Stands F A (past (behind.bytes ++ step.fed) cuts behind.opening (behind.written ++ step.sent) s.exchanges) new.held next []) × F.IsAll (behind.bytes ++ step.fed) cuts new.held s'.taken =
-          subst (λ w. (s' : Stands F A (past (behind.bytes ++ step.fed) cuts behind.opening (behind.written ++ step.sent) s.exchanges) new.held next w) × F.IsAll (behind.bytes ++ step.fed) cuts new.held s'.taken) step.leaves.2 (h.0, h.1) in
-          let all_used : F.IsAll (behind.bytes ++ step.fed) cuts [] both.0.taken = subst (λ rest. F.IsAll (behind.bytes ++ step.fed) cuts rest both.0.taken) h.2 both.1 in record {
-            served = halted F A (past (behind.bytes ++ step.fed) cuts behind.opening (behind.written ++ step.sent) s.exchanges) new.held next both.0 (remaining []) next (all_used, refl);
+          let mids = past_of (polled_on behind step.fed step.made step.sent step.fresh) in
+          let left_over = stepped may_read (Ok Ended) step behind s in
+          let h = subst (λ w. HasTakenAll F mids new.held w) step.leaves.2 left_over.0 in
+          let all_used : F.IsAll mids.bytes mids.cuts [] h.0.taken = subst (λ rest. F.IsAll mids.bytes mids.cuts rest h.0.taken) left_over.1 h.1 in record {
+            served = halted F A mids new.held h.0 (remaining []) step.ends next (all_used, step.asked.1);
             rooms = have_rooms may_read (Ok Ended) step behind s;
             spends = omega (arith, none, all, before, some);
           })
@@ -414,16 +418,17 @@ module _ (F : Framing) {S : Type 0} (A : Answering S) where
 
   -- the polls so far and a last one are one run
   module _ (old new : PolledProcessState) (before after : Moment S) where
-    ran_whole : (result : Result (Unit {0}) ProcessError) → PolledTo F A old new before after (Ready result) → (behind : PolledPast S) (first : Outside)
-        → PollStands F A behind before.service old → Passes first before.outside behind.bytes behind.made behind.written
-        → Ran F A behind.turns (record { service = behind.opening; outside = first }) after result
-    ran_whole result p behind first s passed =
-        let ends = p.goes_on behind s in record {
-          fed = behind.bytes ++ p.fed;
-          made = behind.made ++ cuts_from (length behind.bytes) p.made;
-          sent = behind.written ++ p.sent;
-          passes = passes_both first before.outside after.outside behind.bytes p.fed behind.made p.made behind.written p.sent passed p.passes;
-          served = ends.served;
+    ran_whole : (result : Result (Unit {0}) ProcessError) → PolledTo F A old new before after (Ready result) → (behind : PolledPast F) (first : Moment S)
+        → PollStands F behind old → Run F A first.service behind.exchanges before.service → Passes first.outside before.outside behind.bytes behind.made behind.written
+        → Ran F A behind.turns first after result
+    ran_whole result p behind first s run passed =
+        let ends = p.goes_on behind s in
+        let all = polled_on behind p.fed p.made p.sent p.fresh in record {
+          fed = all.bytes;
+          made = all.made;
+          sent = all.written;
+          passes = passes_both first.outside before.outside after.outside behind.bytes p.fed behind.made p.made behind.written p.sent passed p.passes;
+          served = ends_whole F A (past_of all) first.service p.ends after.service (runs_both F A first.service behind.exchanges before.service p.fresh p.ends run p.run) result ends.served;
           rooms = ends.rooms;
           spends = ends.spends;
           ended = λ told. p.ended (passed.source.told ∙ told);
@@ -437,7 +442,16 @@ module _ (F : Framing) {S : Type 0} (A : Answering S) where
 
     pub runs_whole : ((turns : ℕ) (before after : Moment S) (result : Result (Unit {0}) ProcessError) → Ran F A turns before after result → Completes F A turns before after result)
         → (result : Polled (Result (Unit {0}) ProcessError)) → PolledTo F A old new before after result → RunsWhole F A old before after result
-    runs_whole served Pending p = λ behind first s passed. tt
-    runs_whole served (Ready result) p = λ behind first s passed.
-        let ran = ran_whole result p behind first s passed in
+    runs_whole served Pending p = λ behind first s run passed. tt
+    runs_whole served (Ready result) p = λ behind first s run passed.
+        let ran = ran_whole result p behind first s run passed in
         (ran, served _ _ _ _ ran)
+
+-- a server that was just opened
+pub begins : (F : Framing) (turns : ℕ) (state : State) → state.held ≡ [] → state.waiting ≡ [] → F.StandsFor [] [] [] [] → PollStands F (polled_past turns [] [] [] []) (polled state turns)
+begins F turns state empty written stands = record {
+  stands = subst (λ held. Stands F (past [] [] [] []) held state.waiting) (sym empty) (subst (λ w. Stands F (past [] [] [] []) [] w) (sym written) (opened F stands));
+  rises = refl;
+  rooms = tt;
+  spends = omega arith;
+}

@@ -12,8 +12,8 @@ use Rattle.modbus_server.specs.declared.error.Next.TheVariants.{Reply, Silent, W
 use Rattle.modbus_service.specs.Outcome.{silence}
 use Rattle.modbus_server.specs.Framing.{Framing, IsOfFraming}
 use Rattle.modbus_service.specs.Answering.{Answering}
-use Rattle.modbus_server.specs.Exchanges.{Exchange}
-use Rattle.modbus_server.specs.Served.{Past, with_exchange, Stands, NextIsRequest, ServedAfter, broken, refused, too_long, NextTakesMemory, WantingAfter}
+use Rattle.modbus_server.specs.Exchanges.{Exchange, Run}
+use Rattle.modbus_server.specs.Served.{Past, with_exchanges, Stands, HasTakenAll, NextIsRequest, StopsAfter, broken, refused, too_long, NextTakesMemory, WantsAfter}
 use Rattle.modbus_server.specs.State.{State}
 
 -- what stands at the front of the held bytes: the next message, which is taken off with all bytes before it; or these are all, and the
@@ -31,15 +31,32 @@ IsFrontWithin Waits held (Ok (front.Message header pdu end)) = (0 < end) × (end
 IsFrontWithin Waits held (Ok (front.Waiting dropped)) = (dropped ≤ length held) × Waits (drop dropped held)
 IsFrontWithin Waits held (Err fault) = Unit {0}
 
--- What it stands for then, after these exchanges. An error comes right after them.
-abbrev pub TakesAs : (F : Framing) → {S E : Type 0} → Answering S → (E → ProcessError) → Past F S → List ℕ → S → List ℕ → Result Next (NextError E) → Type 0
-TakesAs F A told behind held now waiting (Ok Reply) = (x : Exchange F) × Stands F A (with_exchange behind x) held now waiting × (x.outcome ≢ silence)
-TakesAs F A told behind held now waiting (Ok Silent) = (x : Exchange F) × Stands F A (with_exchange behind x) held now [] × (x.outcome ≡ silence)
-TakesAs F A told behind held now waiting (Ok Waiting) = (s : Stands F A behind held now []) × F.IsAll behind.bytes behind.cuts held s.taken
-TakesAs F A told behind held now waiting (Err (Broken fault)) = ServedAfter F A behind now (broken (told fault))
-TakesAs F A told behind held now waiting (Err (Refused reason)) = ServedAfter F A behind now (refused reason)
-TakesAs F A told behind held now waiting (Err (TooLong size)) = ServedAfter F A behind now (too_long size)
-TakesAs F A told behind held now waiting (Err NoMemory) = WantingAfter F A behind now × NextIsRequest F behind.bytes behind.cuts behind.exchanges
+-- the service was asked once for a reply or a silence, which left it there, and in no other exchange
+abbrev pub AsksAs : (F : Framing) → {S E : Type 0} → List (Exchange F) → S → S → Result Next (NextError E) → Type 0
+AsksAs F fresh ends after (Ok Reply) = (x : Exchange F) × (fresh ≡ x ∷ []) × (x.outcome ≢ silence) × (after ≡ ends)
+AsksAs F fresh ends after (Ok Silent) = (x : Exchange F) × (fresh ≡ x ∷ []) × (x.outcome ≡ silence) × (after ≡ ends)
+AsksAs F fresh ends after (Ok Waiting) = (fresh ≡ []) × (after ≡ ends)
+AsksAs F fresh ends after (Err error) = fresh ≡ []
+
+-- What it stands for that has this behind it, holds the first of these bytes, and of which the second wait. An error comes right after
+-- the exchanges.
+abbrev pub TakesAs : (F : Framing) → {S E : Type 0} → Answering S → (E → ProcessError) → Past F → List ℕ × List ℕ → S → S → Result Next (NextError E) → Type 0
+TakesAs F A told behind kept ends now (Ok Reply) = Stands F behind kept.0 kept.1
+TakesAs F A told behind kept ends now (Ok Silent) = Stands F behind kept.0 []
+TakesAs F A told behind kept ends now (Ok Waiting) = HasTakenAll F behind kept.0 []
+TakesAs F A told behind kept ends now (Err (Broken fault)) = StopsAfter F A behind ends now (broken (told fault))
+TakesAs F A told behind kept ends now (Err (Refused reason)) = StopsAfter F A behind ends now (refused reason)
+TakesAs F A told behind kept ends now (Err (TooLong size)) = StopsAfter F A behind ends now (too_long size)
+TakesAs F A told behind kept ends now (Err NoMemory) = WantsAfter F A behind ends now × NextIsRequest F behind.bytes behind.cuts behind.exchanges
+
+-- What is taken off the held bytes: the service went on by these exchanges, and for all that the connection may have behind it, it stands
+-- for that and these then, with these bytes held and these waiting; or it ended so.
+pub record Takes (F : Framing) {S E : Type 0} (A : Answering S) (told : E → ProcessError) (old : List ℕ) (kept : List ℕ × List ℕ) (before after : S) (result : Result Next (NextError E)) : Type 0 where
+  pub fresh : List (Exchange F)
+  pub ends : S
+  pub run : Run F A before fresh ends
+  pub asked : AsksAs F fresh ends after result
+  pub stands : (behind : Past F) → Stands F behind old [] → TakesAs F A told (with_exchanges behind fresh) kept ends after result
 
 -- what is held and what waits then
 abbrev pub KeepsAs : {S E : Type 0} → (List ℕ → Type 0) → List ℕ → List ℕ → List ℕ → S → S → Result Next (NextError E) → Type 0
@@ -50,8 +67,7 @@ KeepsAs Waits old new waiting before after (Err error) = Unit {0}
 
 -- What `next` promises.
 pub record Took (F : Framing) {S E : Type 0} (A : Answering S) (told : E → ProcessError) (old new : State) (before after : S) (result : Result Next (NextError E)) : Type 0 where
-  -- for all that the connection may have behind it
-  pub stands : (behind : Past F S) → Stands F A behind old.held before [] → TakesAs F A told behind new.held after new.waiting result
+  pub takes : Takes F A told old.held (new.held, new.waiting) before after result
   pub keeps : KeepsAs F.Waits old.held new.held new.waiting before after result
   -- memory is wanting only for the next message
   pub memory : result ≡ Err NoMemory → (bytes cuts : List ℕ) (taken : List (Message F.Header)) → F.StandsFor bytes cuts old.held taken

@@ -1,5 +1,5 @@
 -- What the polled driver of a connection promises.
-use Rattle.std.specs.Prelude.{◌≡◌, ◌≢◌, ◌⊎◌, ℕ, ◌+◌, ◌≤◌, List, [], ◌++◌, length, Bool, true, IsTrue, Result, Ok, Err}
+use Rattle.std.specs.Prelude.{◌≡◌, ◌≢◌, ◌⊎◌, ℕ, ◌+◌, ◌<◌, ◌≤◌, List, [], ◌++◌, length, Bool, true, IsTrue, Result, Ok, Err}
 use Rattle.modbus_link.specs.declared.polled.Polled.{Polled}
 use Rattle.modbus_link.specs.declared.polled.Polled.TheVariants.{Ready, Pending}
 use Rattle.modbus_link.specs.declared.outside.Cut.{Cut}
@@ -8,17 +8,17 @@ use Rattle.modbus_link.specs.Passes.{Passes}
 use Rattle.modbus_link.specs.Polled.{is_pending}
 use Rattle.modbus_link.specs.Reads.{totals, HaveRooms, Spends}
 use Rattle.modbus_server.specs.declared.error.ProcessError.{ProcessError}
-use Rattle.modbus_server.specs.declared.error.ProcessError.TheVariants.{ReadFault, WriteFault}
+use Rattle.modbus_server.specs.declared.error.ProcessError.TheVariants.{ReadFault, WriteFault, NoMemory}
 use Rattle.modbus_server.specs.declared.error.Step.{Step}
 use Rattle.modbus_server.specs.Framing.{Framing}
 use Rattle.modbus_service.specs.Answering.{Answering}
-use Rattle.modbus_server.specs.Exchanges.{Exchange}
-use Rattle.modbus_server.specs.Served.{Past, past, Stands, EndsAs}
+use Rattle.modbus_server.specs.Exchanges.{Exchange, Run}
+use Rattle.modbus_server.specs.Served.{Past, past, Stands, EndsAfter}
 use Rattle.modbus_server.specs.Moment.{Moment}
 use Rattle.modbus_server.specs.State.{State}
 use Rattle.modbus_server.specs.Transfer.{WritesOnce, ReadsOnce}
 use Rattle.modbus_server.specs.Step.{Stepped, EndsRead, spending_of, Ran}
-use Rattle.modbus_server.specs.Complete.{Completes}
+use Rattle.modbus_server.specs.Complete.{IsCleanLine, NextReplyFits, Completes}
 
 -- what a polled server keeps
 pub record PolledProcessState : Type 0 where
@@ -56,8 +56,10 @@ Rests F state = (state.waiting ≢ []) ⊎ F.Waits state.held
 pub record Paused (F : Framing) {S : Type 0} (A : Answering S) (old new : State) (before after : Moment S) : Type 0 where
   pub sent : List ℕ
   pub passes : Passes before.outside after.outside [] [] sent
-  pub stands : (behind : Past F S) → Stands F A behind old.held before.service []
-      → (all : List (Exchange F)) × Stands F A (past behind.bytes behind.cuts behind.opening (behind.written ++ sent) all) new.held after.service new.waiting
+  pub fresh : List (Exchange F)
+  pub run : Run F A before.service fresh after.service
+  pub stands : (behind : Past F) → Stands F behind old.held []
+      → Stands F (past behind.bytes behind.cuts (behind.written ++ sent) (behind.exchanges ++ fresh)) new.held new.waiting
   pub is_open : new.is_open ≡ true
   pub rests : Rests F new
 
@@ -68,55 +70,61 @@ PollSteps F A old new before after may_read (Ok Pending) = Paused F A old new be
 PollSteps F A old new before after may_read (Err error) = Stepped F A old new before after may_read (Err error)
 
 -- What a polled server has behind it, over all its polls: how many turns it has in all, the bytes that it was fed, the totals and rooms of
--- the reads that gave them, the service as it was at first, and what was written.
-pub record PolledPast (S : Type 0) : Type 0 where
+-- the reads that gave them, what was written, and the exchanges.
+pub record PolledPast (F : Framing) : Type 0 where
   pub turns : ℕ
   pub bytes : List ℕ
   pub made : List Cut
-  pub opening : S
   pub written : List ℕ
+  pub exchanges : List (Exchange F)
 
-abbrev pub polled_past : {S : Type 0} → ℕ → List ℕ → List Cut → S → List ℕ → PolledPast S
-polled_past turns bytes made opening written = record { turns = turns; bytes = bytes; made = made; opening = opening; written = written }
+abbrev pub polled_past : {F : Framing} → ℕ → List ℕ → List Cut → List ℕ → List (Exchange F) → PolledPast F
+polled_past turns bytes made written exchanges = record { turns = turns; bytes = bytes; made = made; written = written; exchanges = exchanges }
 
--- it was fed more in these reads, and more was written
-abbrev pub polled_on : {S : Type 0} → PolledPast S → List ℕ → List Cut → List ℕ → PolledPast S
-polled_on behind fed made sent =
-    polled_past behind.turns (behind.bytes ++ fed) (behind.made ++ cuts_from (length behind.bytes) made) behind.opening (behind.written ++ sent)
+-- it was fed more in these reads, more was written, and more messages were answered
+abbrev pub polled_on : {F : Framing} → PolledPast F → List ℕ → List Cut → List ℕ → List (Exchange F) → PolledPast F
+polled_on behind fed made sent fresh =
+    polled_past behind.turns (behind.bytes ++ fed) (behind.made ++ cuts_from (length behind.bytes) made) (behind.written ++ sent) (behind.exchanges ++ fresh)
+
+-- what its connection has behind it
+abbrev pub past_of : {F : Framing} → PolledPast F → Past F
+past_of behind = past behind.bytes (totals behind.made) behind.written behind.exchanges
 
 -- what a polled server stands for that has this behind it
-pub record PollStands (F : Framing) {S : Type 0} (A : Answering S) (behind : PolledPast S) (now : S) (process : PolledProcessState) : Type 0 where
-  pub exchanges : List (Exchange F)
-  pub stands : Stands F A (past behind.bytes (totals behind.made) behind.opening behind.written exchanges) process.connection.held now process.connection.waiting
+pub record PollStands (F : Framing) (behind : PolledPast F) (process : PolledProcessState) : Type 0 where
+  pub stands : Stands F (past_of behind) process.connection.held process.connection.waiting
   pub rises : RisesTo 0 behind.made (length behind.bytes)
   pub rooms : HaveRooms F.HasRoom behind.bytes 0 behind.made
   pub spends : length behind.made + process.left ≡ behind.turns
 
--- how a polled server ended that has this behind it
-pub record PollEnds (F : Framing) {S : Type 0} (A : Answering S) (behind : PolledPast S) (now : S) (result : Result (Unit {0}) ProcessError) : Type 0 where
-  pub served : EndsAs F A behind.bytes (totals behind.made) behind.opening now behind.written result
+-- how a polled server ended that has this behind it, where the service stood at `ends` right after the exchanges
+pub record PollEnds (F : Framing) {S : Type 0} (A : Answering S) (behind : PolledPast F) (ends now : S) (result : Result (Unit {0}) ProcessError) : Type 0 where
+  pub served : EndsAfter F A (past_of behind) ends now result
   pub rooms : HaveRooms F.HasRoom behind.bytes 0 behind.made
   pub spends : Spends (spending_of result) (length behind.made) behind.turns
 
--- what it is after a poll
-abbrev pub PollsAs : (F : Framing) → {S : Type 0} → Answering S → PolledPast S → S → PolledProcessState → Polled (Result (Unit {0}) ProcessError) → Type 0
-PollsAs F A behind now process Pending = PollStands F A behind now process
-PollsAs F A behind now process (Ready result) = PollEnds F A behind now result
+-- what it is after a poll, and where its service stands
+abbrev pub PollsAs : (F : Framing) → {S : Type 0} → Answering S → PolledPast F → S → S → PolledProcessState → Polled (Result (Unit {0}) ProcessError) → Type 0
+PollsAs F A behind ends now process Pending = PollStands F behind process × (now ≡ ends)
+PollsAs F A behind ends now process (Ready result) = PollEnds F A behind ends now result
 
 -- it ends with the input
 abbrev pub EndsPolled : Polled (Result (Unit {0}) ProcessError) → List ℕ → Type 0
 EndsPolled Pending left = Unit {0}
 EndsPolled (Ready result) left = EndsRead result left
 
--- What one poll promises: it read and wrote these bytes, and for all that the server stood for before it, it stands for that and these
--- after it, or ended so.
+-- What one poll promises: it read and wrote these bytes, the service went on by these exchanges, and for all that the server stood for
+-- before it, it stands for that and these after it, or ended so.
 pub record PolledTo (F : Framing) {S : Type 0} (A : Answering S) (old new : PolledProcessState) (before after : Moment S)
     (result : Polled (Result (Unit {0}) ProcessError)) : Type 0 where
   pub fed : List ℕ
   pub made : List Cut
   pub sent : List ℕ
   pub passes : Passes before.outside after.outside fed made sent
-  pub goes_on : (behind : PolledPast S) → PollStands F A behind before.service old → PollsAs F A (polled_on behind fed made sent) after.service new result
+  pub fresh : List (Exchange F)
+  pub ends : S
+  pub run : Run F A before.service fresh ends
+  pub goes_on : (behind : PolledPast F) → PollStands F behind old → PollsAs F A (polled_on behind fed made sent fresh) ends after.service new result
   pub is_open : new.connection.is_open ≡ is_pending result
   pub rests : result ≡ Pending → Rests F new.connection
   -- it reads only once all that waited is written
@@ -124,6 +132,22 @@ pub record PolledTo (F : Framing) {S : Type 0} (A : Answering S) (old new : Poll
   pub ended : IsTrue before.outside.input.told → EndsPolled result after.outside.input.left
   pub read_fault : result ≡ Ready (Err ReadFault) → Rose before.outside.input.faults after.outside.input.faults
   pub write_fault : result ≡ Ready (Err WriteFault) → Rose before.outside.output.faults after.outside.output.faults
+
+-- What polls did that came to an end, over the link of all of them, which was so at first, whatever else the service was asked between them:
+-- all that a call to the end does, but that these exchanges are not a run of the service.
+pub record PolledRan (F : Framing) {S : Type 0} (A : Answering S) (behind : PolledPast F) (ends now : S) (first last : Outside) (result : Result (Unit {0}) ProcessError) : Type 0 where
+  pub passes : Passes first last behind.bytes behind.made behind.written
+  pub over : PollEnds F A behind ends now result
+  pub ended : IsTrue first.input.told → EndsRead result last.input.left
+  pub read_fault : result ≡ Err ReadFault → Rose first.input.faults last.input.faults
+  pub write_fault : result ≡ Err WriteFault → Rose first.output.faults last.output.faults
+
+-- a clean line of fewer bytes than there are turns is served to its end so
+abbrev pub CompletesAfter : (F : Framing) → {S : Type 0} → Answering S → PolledPast F → S → Outside → Outside → Result (Unit {0}) ProcessError → Type 0
+CompletesAfter F A behind ends first last result = IsTrue first.input.told
+    → (clean : IsCleanLine F first.input.left) → NextReplyFits F A behind.exchanges ends clean.messages
+    → length first.input.left < behind.turns → (Rose first.input.faults last.input.faults → ⊥)
+    → (Rose first.output.faults last.output.faults → ⊥) → (result ≡ Ok tt) ⊎ (result ≡ Err NoMemory)
 
 -- A poll is not over only where the link's count of polls that found it not ready rose, and this count never falls.
 pub record PollWaits (idle idle' : ℕ) (result : Polled (Result (Unit {0}) ProcessError)) : Type 0 where
@@ -135,8 +159,9 @@ abbrev pub RanIfReady : (F : Framing) → {S : Type 0} → Answering S → ℕ �
 RanIfReady F A turns before after Pending = Unit {0}
 RanIfReady F A turns before after (Ready result) = Ran F A turns before after result × Completes F A turns before after result
 
--- A poll that ends does, with all polls before it, what a call to the end does over the link of all polls, which was so at first.
+-- A poll that ends does, with all polls before it, what a call to the end does over the link of all polls, and a service that was asked in
+-- them alone, which were so at first.
 abbrev pub RunsWhole : (F : Framing) → {S : Type 0} → Answering S → PolledProcessState → Moment S → Moment S → Polled (Result (Unit {0}) ProcessError) → Type 0
-RunsWhole F {S} A old before after result = (behind : PolledPast S) (first : Outside) → PollStands F A behind before.service old
-    → Passes first before.outside behind.bytes behind.made behind.written
-    → RanIfReady F A behind.turns (record { service = behind.opening; outside = first }) after result
+RunsWhole F {S} A old before after result = (behind : PolledPast F) (first : Moment S) → PollStands F behind old
+    → Run F A first.service behind.exchanges before.service → Passes first.outside before.outside behind.bytes behind.made behind.written
+    → RanIfReady F A behind.turns first after result

@@ -18,38 +18,38 @@ use Rattle.modbus_server.specs.Answer.{WantsFor}
 abbrev pub IsEndOf : List ℕ → List ℕ → Type 0
 IsEndOf rest whole = (front : List ℕ) × (whole ≡ front ++ rest)
 
--- What a connection has behind it: all bytes that it was fed and the totals after each piece of them, the service as it was at first,
--- what was written, and the exchanges.
-pub record Past (F : Framing) (S : Type 0) : Type 0 where
+-- What a connection has behind it: all bytes that it was fed and the totals after each piece of them, what was written, and the exchanges.
+pub record Past (F : Framing) : Type 0 where
   pub bytes : List ℕ
   pub cuts : List ℕ
-  pub opening : S
   pub written : List ℕ
   pub exchanges : List (Exchange F)
 
-abbrev pub past : {F : Framing} {S : Type 0} → List ℕ → List ℕ → S → List ℕ → List (Exchange F) → Past F S
-past bytes cuts opening written exchanges = record { bytes = bytes; cuts = cuts; opening = opening; written = written; exchanges = exchanges }
+abbrev pub past : {F : Framing} → List ℕ → List ℕ → List ℕ → List (Exchange F) → Past F
+past bytes cuts written exchanges = record { bytes = bytes; cuts = cuts; written = written; exchanges = exchanges }
 
--- it was fed more in these reads, and more was written
-abbrev pub with_reads : {F : Framing} {S : Type 0} → Past F S → List ℕ → List Cut → List ℕ → Past F S
-with_reads behind fed made sent =
-    past (behind.bytes ++ fed) (behind.cuts ++ totals (cuts_from (length behind.bytes) made)) behind.opening (behind.written ++ sent) behind.exchanges
+-- more messages were answered
+abbrev pub with_exchanges : {F : Framing} → Past F → List (Exchange F) → Past F
+with_exchanges behind fresh = past behind.bytes behind.cuts behind.written (behind.exchanges ++ fresh)
 
--- one more message was answered
-abbrev pub with_exchange : {F : Framing} {S : Type 0} → Past F S → Exchange F → Past F S
-with_exchange behind x = past behind.bytes behind.cuts behind.opening behind.written (behind.exchanges ++ x ∷ [])
+-- it was fed more in these reads, more was written, and more messages were answered
+abbrev pub past_on : {F : Framing} → Past F → List ℕ → List Cut → List ℕ → List (Exchange F) → Past F
+past_on behind fed made sent fresh =
+    past (behind.bytes ++ fed) (behind.cuts ++ totals (cuts_from (length behind.bytes) made)) (behind.written ++ sent) (behind.exchanges ++ fresh)
 
--- A connection that has this behind it and holds these bytes. The messages that it took are requests, which the service answered in its
--- exchanges with replies that fit. What was written, and then what waits, is the output of the run, and what waits is of the last reply
--- alone.
-pub record Stands (F : Framing) {S : Type 0} (A : Answering S) (behind : Past F S) (held : List ℕ) (now : S) (waiting : List ℕ) : Type 0 where
+-- A connection that has this behind it and holds these bytes. The messages that it took are requests, which were answered in its exchanges
+-- with replies that fit. What was written, and then what waits, is the replies to them, and what waits is of the last reply alone.
+pub record Stands (F : Framing) (behind : Past F) (held waiting : List ℕ) : Type 0 where
   pub taken : List (Message F.Header)
   pub stands : F.StandsFor behind.bytes behind.cuts held taken
   pub asked : map (asked_of F) taken ≡ map (asks F) behind.exchanges
-  pub run : Run F A behind.opening behind.exchanges now
   pub fit : All (ReplyFits F) behind.exchanges
   pub wrote : behind.written ++ waiting ≡ output F behind.exchanges
   pub late : IsEndOf waiting (last_reply F behind.exchanges)
+
+-- and it took all messages of its bytes
+abbrev pub HasTakenAll : (F : Framing) → Past F → List ℕ → List ℕ → Type 0
+HasTakenAll F behind held waiting = (s : Stands F behind held waiting) × F.IsAll behind.bytes behind.cuts held s.taken
 
 -- all messages of these bytes were answered in these exchanges
 abbrev pub AreAllAnswered : (F : Framing) → List ℕ → List ℕ → List (Exchange F) → Type 0
@@ -96,10 +96,14 @@ pub record Served (F : Framing) {S : Type 0} (A : Answering S) (bytes cuts : Lis
   pub wrote : written ≡ output F exchanges
   pub halts : Halts F A bytes cuts before ends now halt
 
--- such a run, whose exchanges are these
-abbrev pub ServedAfter : (F : Framing) → {S : Type 0} → Answering S → Past F S → S → Halt → Type 0
-ServedAfter F A behind now halt =
-    (served : Served F A behind.bytes behind.cuts behind.opening now behind.written halt) × (served.exchanges ≡ behind.exchanges)
+-- A call stops right after the exchanges that a connection has behind it. They answered exactly the messages before that place with
+-- replies that fit, and these were written whole. The service stood at `ends` then, and was asked once more or not.
+pub record StopsAfter (F : Framing) {S : Type 0} (A : Answering S) (behind : Past F) (ends now : S) (halt : Halt) : Type 0 where
+  pub before : List (Message F.Header)
+  pub asked : map (asked_of F) before ≡ map (asks F) behind.exchanges
+  pub fit : All (ReplyFits F) behind.exchanges
+  pub wrote : behind.written ≡ output F behind.exchanges
+  pub halts : Halts F A behind.bytes behind.cuts before ends now halt
 
 -- all exchanges of the run of a call, with that whose response is too long, where it stops at one
 abbrev pub all_asked : {F : Framing} {S : Type 0} {A : Answering S} {bytes cuts : List ℕ} {opening now : S} {written : List ℕ} (halt : Halt)
@@ -114,7 +118,8 @@ pub record Unwritten (F : Framing) {S : Type 0} (A : Answering S) (bytes cuts : 
   pub held : List ℕ
   pub waiting : List ℕ
   pub exchanges : List (Exchange F)
-  pub stood : Stands F A (past bytes cuts opening written exchanges) held now waiting
+  pub run : Run F A opening exchanges now
+  pub stood : Stands F (past bytes cuts written exchanges) held waiting
 
 -- Right after these exchanges nothing fails: the next message is a request, or these are all messages, or nothing was fed.
 abbrev pub NothingFails : (F : Framing) → List ℕ → List ℕ → List (Exchange F) → Type 0
@@ -135,13 +140,27 @@ pub record Wanting (F : Framing) {S : Type 0} (A : Answering S) (bytes cuts : Li
   pub held : List ℕ
   pub exchanges : List (Exchange F)
   pub ends : S
-  pub stood : Stands F A (past bytes cuts opening written exchanges) held ends []
+  pub run : Run F A opening exchanges ends
+  pub stood : Stands F (past bytes cuts written exchanges) held []
   pub cause : WantsMemory F A bytes cuts held stood.taken ends now
 
--- such a want after these exchanges
-abbrev pub WantingAfter : (F : Framing) → {S : Type 0} → Answering S → Past F S → S → Type 0
-WantingAfter F A behind now =
-    (wanting : Wanting F A behind.bytes behind.cuts behind.opening now behind.written) × (wanting.exchanges ≡ behind.exchanges)
+-- memory was wanting right after the exchanges that a connection has behind it
+abbrev pub WantsAfter : (F : Framing) → {S : Type 0} → Answering S → Past F → S → S → Type 0
+WantsAfter F A behind ends now =
+    (held : List ℕ) × (s : Stands F behind held []) × WantsMemory F A behind.bytes behind.cuts held s.taken ends now
+
+-- How a call ended right after the exchanges that a connection has behind it, where the service stood at `ends` then. Where the sink
+-- failed, a rest of the last reply was not written.
+abbrev pub EndsAfter : (F : Framing) → {S : Type 0} → Answering S → Past F → S → S → Result (Unit {0}) ProcessError → Type 0
+EndsAfter F A behind ends now (Ok done) = StopsAfter F A behind ends now (remaining [])
+EndsAfter F A behind ends now (Err BytesRemaining) = (left : List ℕ) × (left ≢ []) × StopsAfter F A behind ends now (remaining left)
+EndsAfter F A behind ends now (Err ReadFault) = (left : List ℕ) × StopsAfter F A behind ends now (remaining left)
+EndsAfter F A behind ends now (Err TurnLimit) = (left : List ℕ) × StopsAfter F A behind ends now (remaining left)
+EndsAfter F A behind ends now (Err (InvalidRequest reason)) = StopsAfter F A behind ends now (refused reason)
+EndsAfter F A behind ends now (Err (ResponseTooLong size)) = StopsAfter F A behind ends now (too_long size)
+EndsAfter F A behind ends now (Err WriteFault) = (held : List ℕ) × (waiting : List ℕ) × Stands F behind held waiting × (now ≡ ends)
+EndsAfter F A behind ends now (Err NoMemory) = WantsAfter F A behind ends now
+EndsAfter F A behind ends now (Err fault) = StopsAfter F A behind ends now (broken fault)
 
 -- how a call ended, over all that was fed and written
 abbrev pub EndsAs : (F : Framing) → {S : Type 0} → Answering S → List ℕ → List ℕ → S → S → List ℕ → Result (Unit {0}) ProcessError → Type 0

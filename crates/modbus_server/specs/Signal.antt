@@ -10,7 +10,7 @@ use Rattle.modbus_service.specs.Answering.{Answering}
 use Rattle.modbus_server.specs.declared.error.ProcessError.{ProcessError}
 use Rattle.modbus_server.specs.declared.error.ProcessError.TheVariants.{NoMemory}
 use Rattle.modbus_server.specs.Framing.{Framing}
-use Rattle.modbus_server.specs.Exchanges.{Exchange}
+use Rattle.modbus_server.specs.Exchanges.{Exchange, Run}
 use Rattle.modbus_server.specs.Served.{past, Stands}
 use Rattle.modbus_server.specs.Moment.{Moment, Watched, SignalMeaning}
 use Rattle.modbus_server.specs.Step.{Ran}
@@ -34,7 +34,8 @@ pub record Stopped (F : Framing) {S X : Type 0} (A : Answering S) (signal : Sign
   pub passes : Passes before.moment.outside after.moment.outside fed made sent
   pub held : List ℕ
   pub exchanges : List (Exchange F)
-  pub stands : Stands F A (past fed (totals made) before.moment.service sent exchanges) held after.moment.service []
+  pub run : Run F A before.moment.service exchanges after.moment.service
+  pub stands : Stands F (past fed (totals made) sent exchanges) held []
   pub rooms : HaveRooms F.HasRoom fed 0 made
   pub spends : Spends some_turns (length made) turns
   pub rose : Rose (signal.stops before.signal) (signal.stops after.signal)

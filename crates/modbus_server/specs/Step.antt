@@ -6,39 +6,33 @@ use Rattle.modbus_pdu.specs.Message.{Message}
 use Rattle.modbus_link.specs.Passes.{Passes}
 use Rattle.modbus_link.specs.Reads.{totals, HaveRooms, Spending, all_turns, fewer_turns, some_turns, Spends}
 use Rattle.modbus_server.specs.declared.error.ProcessError.{ProcessError}
-use Rattle.modbus_server.specs.declared.error.ProcessError.TheVariants.{ReadFault, WriteFault, BytesRemaining, InvalidRequest, ResponseTooLong, TurnLimit, NoMemory}
+use Rattle.modbus_server.specs.declared.error.ProcessError.TheVariants.{ReadFault, WriteFault, BytesRemaining, TurnLimit, NoMemory}
 use Rattle.modbus_server.specs.declared.error.Step.{Step}
 use Rattle.modbus_server.specs.declared.error.Step.TheVariants.{Answered, Silent, MoreRead, Hungry, Ended}
 use Rattle.modbus_service.specs.Outcome.{silence}
 use Rattle.modbus_server.specs.Framing.{Framing}
 use Rattle.modbus_service.specs.Answering.{Answering}
-use Rattle.modbus_server.specs.Exchanges.{Exchange}
-use Rattle.modbus_server.specs.Served.{Past, with_reads, with_exchange, Stands, ServedAfter, remaining, broken, refused, too_long, Unwritten, WantingAfter, AreAllAnswered, NothingFails, NextTakesMemory, EndsAs}
+use Rattle.modbus_server.specs.Exchanges.{Exchange, Run}
+use Rattle.modbus_server.specs.Served.{Past, past_on, Stands, HasTakenAll, AreAllAnswered, NothingFails, NextTakesMemory, EndsAfter, EndsAs}
 use Rattle.modbus_server.specs.State.{State}
 use Rattle.modbus_server.specs.Moment.{Moment}
 use Rattle.modbus_server.specs.Transfer.{EndsInput}
 
--- Why a step tells an error. It comes right after the exchanges that were made before the step: the step answered no message. Where the
--- sink failed it answered one, whose reply was not written whole.
-abbrev pub FailsAs : (F : Framing) → {S : Type 0} → Answering S → Past F S → S → ProcessError → Type 0
-FailsAs F A behind now BytesRemaining = (left : List ℕ) × (left ≢ []) × ServedAfter F A behind now (remaining left)
-FailsAs F A behind now ReadFault = (left : List ℕ) × ServedAfter F A behind now (remaining left)
-FailsAs F A behind now TurnLimit = ⊥
-FailsAs F A behind now (InvalidRequest reason) = ServedAfter F A behind now (refused reason)
-FailsAs F A behind now (ResponseTooLong size) = ServedAfter F A behind now (too_long size)
-FailsAs F A behind now WriteFault =
-    (x : Exchange F) × (unwritten : Unwritten F A behind.bytes behind.cuts behind.opening now behind.written) × (unwritten.exchanges ≡ behind.exchanges ++ x ∷ [])
-FailsAs F A behind now NoMemory = WantingAfter F A behind now
-FailsAs F A behind now fault = ServedAfter F A behind now (broken fault)
+-- the service was asked once where the step answered a message, or could not write the reply to it, and in no other exchange
+abbrev pub AsksInStep : (F : Framing) → {S : Type 0} → List (Exchange F) → S → S → Result Step ProcessError → Type 0
+AsksInStep F fresh ends after (Ok Answered) = (x : Exchange F) × (fresh ≡ x ∷ []) × (x.outcome ≢ silence) × (after ≡ ends)
+AsksInStep F fresh ends after (Ok Silent) = (x : Exchange F) × (fresh ≡ x ∷ []) × (x.outcome ≡ silence) × (after ≡ ends)
+AsksInStep F fresh ends after (Ok _) = (fresh ≡ []) × (after ≡ ends)
+AsksInStep F fresh ends after (Err WriteFault) = (x : Exchange F) × (fresh ≡ x ∷ [])
+AsksInStep F fresh ends after (Err _) = fresh ≡ []
 
--- what a step did, with this behind it: what it was fed and what was written in the step too, but not its exchange
-abbrev pub StepsAs : (F : Framing) → {S : Type 0} → Answering S → Past F S → List ℕ → S → List ℕ → Result Step ProcessError → Type 0
-StepsAs F A behind held now waiting (Ok Answered) = (x : Exchange F) × Stands F A (with_exchange behind x) held now waiting × (x.outcome ≢ silence)
-StepsAs F A behind held now waiting (Ok Silent) = (x : Exchange F) × Stands F A (with_exchange behind x) held now waiting × (x.outcome ≡ silence)
-StepsAs F A behind held now waiting (Ok MoreRead) = Stands F A behind held now waiting
-StepsAs F A behind held now waiting (Ok Hungry) = (s : Stands F A behind held now waiting) × F.IsAll behind.bytes behind.cuts held s.taken
-StepsAs F A behind held now waiting (Ok Ended) = (s : Stands F A behind held now waiting) × F.IsAll behind.bytes behind.cuts held s.taken × (held ≡ [])
-StepsAs F A behind held now waiting (Err error) = FailsAs F A behind now error
+-- What a step left, with this behind it: what it was fed, what was written and the exchange in the step too. An error comes right after
+-- the exchanges.
+abbrev pub StepsAs : (F : Framing) → {S : Type 0} → Answering S → Past F → State → S → S → Result Step ProcessError → Type 0
+StepsAs F A behind new ends now (Ok Hungry) = HasTakenAll F behind new.held new.waiting
+StepsAs F A behind new ends now (Ok Ended) = HasTakenAll F behind new.held new.waiting × (new.held ≡ [])
+StepsAs F A behind new ends now (Ok _) = Stands F behind new.held new.waiting
+StepsAs F A behind new ends now (Err error) = EndsAfter F A behind ends now (Err error)
 
 -- A step reads, or is hungry, only after all messages of the bytes that it had. Memory refused to it stands in for no fault or refusal.
 abbrev pub ReadsLast : (F : Framing) → List ℕ → List ℕ → List (Exchange F) → Result Step ProcessError → Type 0
@@ -72,18 +66,22 @@ LeavesAs F made may_read old new before after (Ok Ended) =
 LeavesAs F made may_read old new before after (Err error) = (made ≡ []) × (new.is_open ≡ false) × EndsIfMay may_read error
 
 -- What one step promises. It holds for every source and sink: a step feeds some bytes to the connection and takes some off it, and
--- these are what a source and a sink that tell their bytes tell.
+-- these are what a source and a sink that tell their bytes tell. A step that tells an error answers no message, but where the sink failed.
 pub record Stepped (F : Framing) {S : Type 0} (A : Answering S) (old new : State) (before after : Moment S) (may_read : Bool)
     (result : Result Step ProcessError) : Type 0 where
   pub fed : List ℕ
   pub made : List Cut
   pub sent : List ℕ
   pub passes : Passes before.outside after.outside fed made sent
+  -- the service went on by these exchanges
+  pub fresh : List (Exchange F)
+  pub ends : S
+  pub run : Run F A before.service fresh ends
+  pub asked : AsksInStep F fresh ends after.service result
   -- for all that the connection may have behind it
-  pub stands : (behind : Past F S) → Stands F A behind old.held before.service []
-      → StepsAs F A (with_reads behind fed made sent) new.held after.service new.waiting result
-  pub last : (behind : Past F S) → Stands F A behind old.held before.service [] → ReadsLast F behind.bytes behind.cuts behind.exchanges result
-  pub rooms : (behind : Past F S) → Stands F A behind old.held before.service []
+  pub stands : (behind : Past F) → Stands F behind old.held [] → StepsAs F A (past_on behind fed made sent fresh) new ends after.service result
+  pub last : (behind : Past F) → Stands F behind old.held [] → ReadsLast F behind.bytes behind.cuts behind.exchanges result
+  pub rooms : (behind : Past F) → Stands F behind old.held []
       → HaveRooms F.HasRoom (behind.bytes ++ fed) (length behind.bytes) (cuts_from (length behind.bytes) made)
   pub leaves : LeavesAs F made may_read old new before.service after.service result
   -- memory is wanting only for the next message, or for the room of a read

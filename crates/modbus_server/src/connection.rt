@@ -3,9 +3,9 @@ ghost use Rattle.std.specs.Prelude.{◌≡◌, ◌↔◌, ℕ, ◌+◌, ◌<◌,
 ghost use Rattle.modbus_pdu.specs.Message.{Message};
 ghost use Rattle.modbus_link.specs.Outside.{outside, front_of};
 ghost use Rattle.modbus_link.specs.Polled.{at_once, PollsPiece, Flushes};
-ghost use Rattle.modbus_server.specs.Served.{Past, Stands, NextTakesMemory};
+ghost use Rattle.modbus_server.specs.Served.{NextTakesMemory};
 ghost use Rattle.modbus_server.specs.Transfer.{Fills};
-ghost use Rattle.modbus_server.specs.Next.{TakesAs, KeepsAs, Took, Fed};
+ghost use Rattle.modbus_server.specs.Next.{KeepsAs, Takes, Took, Fed};
 
 use crate::answer::answer;
 use crate::error::{Next, NextError};
@@ -62,10 +62,8 @@ fn take_next<I: Framing, V: Answerer>(
     requires seam { I.framing.seam ≤ length seam.old }
     requires empty { reply.old.items ≡ [] }
     requires space { I.framing.reply_room ≤ reply.old.spare }
-    ensures stands { (behind : Past I.framing V)
-        → Stands I.framing V.answering behind (I.held intake.old) service.old []
-        → TakesAs I.framing V.answering I.told behind (I.held intake.new) service.new
-        reply.new.items result }
+    ensures takes { Takes I.framing V.answering I.told (I.held intake.old)
+        (I.held intake.new, reply.new.items) service.old service.new result }
     ensures keeps { KeepsAs I.framing.Waits (I.held intake.old) (I.held intake.new) reply.new.items
         service.old service.new result }
     ensures memory { result ≡ Err NextError.NoMemory

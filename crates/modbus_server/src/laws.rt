@@ -18,7 +18,8 @@ ghost use Rattle.modbus_server.specs.Step.{Ran};
 ghost use Rattle.modbus_server.specs.Rtu.{rtu};
 ghost use Rattle.modbus_server.specs.Tcp.{tcp};
 ghost use Rattle.modbus_server.specs.Complete.{Completes};
-ghost use Rattle.modbus_server.specs.Polled.{polled, polled_past, PollStands};
+ghost use Rattle.modbus_link.specs.Outside.{Outside};
+ghost use Rattle.modbus_server.specs.Polled.{polled, polled_past, PolledPast, PollStands, PolledRan, CompletesAfter};
 ghost use Rattle.modbus_server.specs.Moment.{Moment};
 
 use crate::framing::Framing;
@@ -82,11 +83,10 @@ pub fn one_failing_adu()
 {}
 
 /// A polled server that was just opened stands for no bytes, with all of its turns left.
-pub fn polled_servers_begin<I: Framing, V: Answerer>()
-    ensures { (turns : ℕ) (start : V) (state : State) → state.held ≡ [] → state.waiting ≡ []
+pub fn polled_servers_begin<I: Framing>()
+    ensures { (turns : ℕ) (state : State) → state.held ≡ [] → state.waiting ≡ []
         → I.framing.StandsFor [] [] [] []
-        → PollStands I.framing V.answering (polled_past turns [] [] start []) start (polled state
-        turns) }
+        → PollStands I.framing (polled_past turns [] [] [] []) (polled state turns) }
 {}
 
 /// Every call that runs to its end, a polled one too, serves a clean line to its end.
@@ -94,6 +94,16 @@ pub fn clean_lines_are_served<I: Framing, V: Answerer>()
     ensures { (turns : ℕ) (before after : Moment V) (result : Result (Unit {0}) ProcessError)
         → Ran I.framing V.answering turns before after result
         → Completes I.framing V.answering turns before after result }
+{
+    I::laws();
+}
+
+/// Polls that come to an end serve a clean line to its end, whatever else the service is asked between them.
+pub fn polled_lines_are_served<I: Framing, V: Answerer>()
+    ensures { (behind : PolledPast I.framing) (ends now : V) (first last : Outside)
+        (result : Result (Unit {0}) ProcessError)
+        → PolledRan I.framing V.answering behind ends now first last result
+        → CompletesAfter I.framing V.answering behind ends first last result }
 {
     I::laws();
 }

@@ -2,4 +2,4 @@ use Rattle.modbus_server.proofs.Polling.{begins}
 use Rattle.modbus_server.proofs.laws.polled_servers_begin.Goals as goal
 
 pub returns : goal.returns
-returns g c = begins g.I.Framing.framing g.V.Answerer.answering
+returns g c = begins g.I.Framing.framing

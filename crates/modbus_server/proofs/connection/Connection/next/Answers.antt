@@ -2,7 +2,7 @@ use Rattle.modbus_server.proofs.connection.Connection.next.Goals as goal
 
 pub returns : goal.returns
 returns g c = rw (← c.self.view_is) (record {
-  stands = c.take_next-result.ensures.stands;
+  takes = c.take_next-result.ensures.takes;
   keeps = c.take_next-result.ensures.keeps;
   memory = c.take_next-result.ensures.memory;
   goes_on = c.is_ok-self-inside.ensures.value;
