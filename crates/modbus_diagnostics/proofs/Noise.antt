@@ -5,8 +5,9 @@ use Rattle.std.proofs.lemmas.Bool.Decides.{nat_tests}
 use Rattle.modbus_frame.specs.FunctionCodes.{exception_bit}
 use Rattle.modbus_frame.specs.Meaning.{Asked, Custom}
 use Rattle.modbus_frame.specs.declared.fault.Reason.{Reason}
+use Rattle.modbus_frame.specs.declared.fault.Reason.TheVariants.{InvalidQuantity}
 use Rattle.modbus_pdu.specs.RequestOf.{request_of}
-use Rattle.modbus_field.specs.Unread.{no_function, any_request_of, begins_request, read_or, unread_of}
+use Rattle.modbus_field.specs.Unread.{no_function, any_request_of, begins_request, has_spare_bytes, strictly, read_or, unread_of}
 use Rattle.modbus_diagnostics.specs.Heard.{is_noise}
 
 -- requests that could be read stand for nothing else
@@ -36,11 +37,18 @@ chosen : (code : ℕ) (rest : List ℕ) (r : Result Asked Reason) → (code == n
 chosen code rest (Ok request) other read = read_is_none request (read request refl)
 chosen code rest (Err reason) other read = unknown_is_none code rest other
 
+-- what is read strictly is read
+strict : (b : Bool) (reason : Reason) (r : Result Asked Reason) (request : Asked) → cond b (Err reason) r ≡ Ok request → r ≡ Ok request
+strict true reason r request e = cc
+strict false reason r request e = e
+
 begins_or_not : (code : ℕ) (rest : List ℕ) (b : Bool) → (not (code == no_function) && nat_lt code exception_bit) ≡ b → AreRead
-    → is_noise (cond b (read_or code rest (request_of (code ∷ rest))) (Custom no_function (code ∷ rest))) ≡ false
+    → is_noise (cond b (read_or code rest (strictly (code ∷ rest) (request_of (code ∷ rest)))) (Custom no_function (code ∷ rest))) ≡ false
 begins_or_not code rest true begins read =
     let other = begun code begins in
-    chosen code rest (request_of (code ∷ rest)) other (λ request. read code rest request (some code other))
+    let pdu = code ∷ rest in
+    chosen code rest (strictly pdu (request_of pdu)) other
+    (λ request is. read code rest request (some code other) (strict (has_spare_bytes pdu) InvalidQuantity (request_of pdu) request is))
 begins_or_not code rest false begins read = refl
 
 pub bytes_are_no_noise : AreRead → (code : ℕ) (rest : List ℕ) → is_noise (any_request_of (code ∷ rest)) ≡ false

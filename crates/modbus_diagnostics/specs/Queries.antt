@@ -14,7 +14,7 @@ use Rattle.modbus_diagnostics.specs.declared.query.Query.{Query}
 use Rattle.modbus_diagnostics.specs.declared.query.Query.TheVariants.{Status, Events, Echo, Clear, Counter, Wrong}
 
 -- The counter of a sub-function (6.8.1): 0B bus messages, 0C checksum errors, 0D exceptions, 0E own messages, 0F no responses. A port is
--- never busy, and loses no character: 10 to 12 are 0.
+-- never busy, and loses no character: 10 to 12 are 0, and so is its diagnostic register, 02.
 abbrev pub counter_of : Counters → ℕ → ℕ
 counter_of c sub =
     if sub == 0x0B then c.bus_messages
@@ -23,21 +23,22 @@ counter_of c sub =
     else if sub == 0x0E then c.own_messages
     else if sub == 0x0F then c.no_responses else 0
 
--- the sub-functions that a port knows: 00, and 0A to 12
+-- the sub-functions that a port knows: 00, 02, 0A to 12, and 14
 abbrev pub is_known : ℕ → Bool
-is_known sub = (sub == 0) || (not (nat_lt sub 0x0A) && not (nat_lt 0x12 sub))
+is_known sub = (sub == 0) || (sub == 2) || (not (nat_lt sub 0x0A) && not (nat_lt 0x12 sub)) || (sub == 0x14)
 
 -- a data field of one word, which is 0
 abbrev pub is_zero_word : List ℕ → Bool
 is_zero_word (high ∷ low ∷ []) = (high == 0) && (low == 0)
 is_zero_word _ = false
 
--- a sub-function and its data field: words for 00, one word of 0 for all others
+-- a sub-function and its data field: words for 00, one word of 0 for all others. 14 clears the counter of lost characters, which is 0.
 abbrev pub of_sub : ℕ → List ℕ → Query
 of_sub sub field =
     if sub == 0 then (if length field % 2 == 0 then Echo else Wrong IllegalDataValue)
     else if not (is_zero_word field) then Wrong IllegalDataValue
-    else if sub == 0x0A then Clear else Counter sub
+    else if sub == 0x0A then Clear
+    else if sub == 0x14 then Echo else Counter sub
 
 -- what Diagnostics asks: a sub-function of two bytes, the first of which is 0, and its data field
 abbrev pub diagnostics_query : List ℕ → Query

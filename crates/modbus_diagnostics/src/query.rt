@@ -17,11 +17,11 @@ pub enum Query {
     Status,
     /// The number of events (section 6.9).
     Events,
-    /// The same bytes again (section 6.8.1, sub-function 00).
+    /// The same bytes again (section 6.8.1, sub-functions 00 and 14: no character is ever lost, so the counter to be cleared is 0).
     Echo,
     /// That the counters be cleared (sub-function 0A).
     Clear,
-    /// The counter of this sub-function (0B to 12).
+    /// The counter of this sub-function (0B to 12), or the diagnostic register (02).
     Counter(u8),
     /// What gets this exception: a sub-function that a port doesn't know, a length or a data field that doesn't fit.
     Wrong(ExceptionCode),
@@ -45,7 +45,7 @@ fn counter(counters: Counters, sub: u8) -> u16
 fn is_known(sub: u8) -> bool
     ensures { result ≡ is_known sub }
 {
-    sub == 0 || (sub >= 0x0A && sub <= 0x12)
+    sub == 0 || sub == 2 || (sub >= 0x0A && sub <= 0x12) || sub == 0x14
 }
 
 /// Whether a data field is one word of 0.
@@ -76,6 +76,8 @@ fn diagnostics_query(bytes: &[u8]) -> Query
                 Query::Wrong(ExceptionCode::IllegalDataValue)
             } else if *sub == 0x0A {
                 Query::Clear
+            } else if *sub == 0x14 {
+                Query::Echo
             } else {
                 Query::Counter(*sub)
             }

@@ -1,15 +1,15 @@
 -- A request that could be read is none that stands for a PDU which could not.
 use Rattle.std.proofs.Common.{◌≡◌, ℕ, ◌<◌, Bool, true, false, List, ◌∷◌, drop, length, Result, Ok, Err, None, refl, subst, arith, eqb, ltb}
 use Rattle.std.proofs.lemmas.Bool.{eqb-true, ltb-true, lt-ltb, ne_eqb}
-use Rattle.std.specs.Prelude.{if◌then◌else◌}
+use Rattle.std.specs.Prelude.{if◌then◌else◌, ◌&&◌}
 use Rattle.modbus_frame.specs.FunctionCodes as number
 use Rattle.modbus_frame.specs.declared.fault.Reason.{Reason}
 use Rattle.modbus_frame.specs.Meaning.{Asked, ReadCoils, ReadDiscreteInputs, WriteSingleCoil, WriteMultipleCoils, ReadInputRegisters, ReadHoldingRegisters, WriteSingleRegister, WriteMultipleRegisters, ReportServerId, MaskWriteRegister, ReadWriteMultipleRegisters, ReadFifoQueue, ReadDeviceIdentification, Custom}
 use Rattle.modbus_pdu.specs.Decodes.{◌>>=◌}
 use Rattle.modbus_pdu.specs.Limits.{code_pdu}
 use Rattle.modbus_pdu.specs.RequestOf.{request_of, asked_by, two_words_of, single_coil_of, coils_written_of, words_written_of, only_code_of, three_words_of, read_write_of, one_word_of, identification_of}
-use Rattle.modbus_field.specs.Unread.{any_request_of, begins_request, no_function, unread_of}
-use Rattle.modbus_field.proofs.Any.{of_request}
+use Rattle.modbus_field.specs.Unread.{any_request_of, begins_request, has_spare_bytes, no_function, unread_of}
+use Rattle.modbus_field.proofs.Any.{of_request, of_spare_bytes}
 
 -- what is shown of a request that was read
 pub record WasRead (code : ℕ) (request : Asked) : Type 0 where
@@ -67,11 +67,21 @@ begins code rest some small =
     let low : ltb code number.exception_bit ≡ true = lt-ltb code number.exception_bit small in
     rw (n00, low) refl
 
-pub asked : (code : ℕ) (rest : List ℕ) (request : Asked) → 0 < code → request_of (code ∷ rest) ≡ Ok request → any_request_of (code ∷ rest) ≡ request
+pub asked : (code : ℕ) (rest : List ℕ) (request : Asked) → 0 < code → has_spare_bytes (code ∷ rest) ≡ false → request_of (code ∷ rest) ≡ Ok request
+    → any_request_of (code ∷ rest) ≡ request
 unfolding request_of
-asked code rest request some e =
+asked code rest request some exact e =
     let was = was_read code (code ∷ rest) request some e in
-    rw (of_request (code ∷ rest) (begins code rest some was.below), e) refl
+    rw (of_request (code ∷ rest) (begins code rest some was.below) exact, e) refl
+
+first_of : (a b : Bool) → (a && b) ≡ true → a ≡ true
+first_of true b e = refl
+first_of false b e = e
+
+pub spare : (code : ℕ) (rest : List ℕ) → has_spare_bytes (code ∷ rest) ≡ true → any_request_of (code ∷ rest) ≡ Custom code rest
+spare code rest e =
+    let is : code ≡ number.write_multiple_coils = eqb-true code number.write_multiple_coils (first_of (eqb code number.write_multiple_coils) _ e) in
+    of_spare_bytes (code ∷ rest) (begins code rest (omega (arith, is)) (omega (arith, is))) e
 
 pub read : (code : ℕ) (rest : List ℕ) (request : Asked) → 0 < code → request_of (code ∷ rest) ≡ Ok request → unread_of request ≡ None
 unfolding request_of

@@ -1,11 +1,13 @@
 -- What is asked by a PDU that can't be read, and what is done with it (Modbus Application Protocol V1.1b3, section 6, state diagrams).
-use Rattle.std.specs.Prelude.{ℕ, List, [], ◌∷◌, drop, slice_index, ◌==◌, ◌&&◌, not, nat_lt, false, Bool, Option, Some, None, Result, Ok, Err, if◌then◌else◌}
+use Rattle.std.specs.Prelude.{ℕ, ◌+◌, ◌*◌, List, [], ◌∷◌, drop, slice_index, ◌==◌, ◌&&◌, not, nat_lt, false, Bool, Option, Some, None, Result, Ok, Err, if◌then◌else◌}
 use Rattle.std.specs.List.{list_any}
 use Rattle.modbus_frame.specs.declared.code.ExceptionCode.{ExceptionCode}
 use Rattle.modbus_frame.specs.declared.code.ExceptionCode.TheVariants.{IllegalFunction, IllegalDataValue}
 use Rattle.modbus_frame.specs.declared.fault.Reason.{Reason}
+use Rattle.modbus_frame.specs.declared.fault.Reason.TheVariants.{InvalidQuantity}
 use Rattle.modbus_frame.specs.FunctionCodes as number
 use Rattle.modbus_frame.specs.Meaning.{Asked, Custom}
+use Rattle.modbus_pdu.specs.Fields.{word_at}
 use Rattle.modbus_pdu.specs.Limits.{mei_device_identification}
 use Rattle.modbus_pdu.specs.RequestOf.{request_of}
 use Rattle.modbus_field.specs.declared.standard.answers.Unread.{Unread}
@@ -25,10 +27,19 @@ abbrev pub begins_request : List ℕ → Bool
 begins_request [] = false
 begins_request (code ∷ rest) = not (code == no_function) && nat_lt code number.exception_bit
 
+-- Write Multiple Coils with more bytes than its coils need (6.11): the decoder reads it, and the standard has exception 03 for it
+abbrev pub has_spare_bytes : List ℕ → Bool
+has_spare_bytes pdu = (slice_index pdu 0 == number.write_multiple_coils) && nat_lt (word_at pdu 3 + 7) (8 * slice_index pdu 5)
+
+-- what was read, unless the byte count is another than the standard wants
+abbrev pub strictly : List ℕ → Result Asked Reason → Result Asked Reason
+strictly pdu read = if has_spare_bytes pdu then Err InvalidQuantity else read
+
 -- What bytes ask that stand where a PDU is: the request that they are; if they can't be read, a custom request of their function code;
 -- if they begin with none, one of no function with all of them.
 unfoldable pub any_request_of : List ℕ → Asked
-any_request_of pdu = if begins_request pdu then read_or (slice_index pdu 0) (drop 1 pdu) (request_of pdu) else Custom no_function pdu
+any_request_of pdu =
+    if begins_request pdu then read_or (slice_index pdu 0) (drop 1 pdu) (strictly pdu (request_of pdu)) else Custom no_function pdu
 
 -- the function codes whose requests have a layout of their own
 abbrev pub is_modelled : ℕ → Bool
