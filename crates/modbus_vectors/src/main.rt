@@ -1,5 +1,6 @@
-//! A table of calls: each line of the input names a call and its arguments, and the output has its answer on the line of the same number.
-//! Empty lines and those that begin with `#` are copied.
+//! A table of calls. A row of the input is `CALL => ANSWER`: it names a call with its arguments, and the answer that is wanted. The output has the
+//! rows that got another one, and how many rows there were. A line with a call alone gets its answer. Empty lines and those that begin with
+//! `#` are for the reader.
 //!
 //! Byte strings are hexadecimal, and `-` is the empty one. A value is shown as its `Debug` text.
 #![tactic(auto)]
