@@ -8,8 +8,7 @@ ghost use Rattle.modbus_line.specs.Serial.{forwards_settled};
 use modbus_client::Client;
 use modbus_frame::{Response, Slave, SlaveContext, SlaveRequest};
 use modbus_gateway::{Forwarder, answer_broadcast, answer_call};
-use modbus_link::TimedLink;
-use modbus_reconnect::SerialClient;
+use modbus_reconnect::{IdleLink, SerialClient};
 use modbus_service::ServiceError;
 use std::marker::Model;
 
@@ -39,9 +38,9 @@ impl<L> SerialLine<L> {
 
 /// Each request is one exchange on the line: a call of the slave, or for unit 0 a request that is sent to all slaves. A line that does not
 /// settle, or has ended, is told by the exception 0A, and then nothing is sent.
-impl<L: TimedLink + Send + Drop> Forwarder for SerialLine<L> {
+impl<L: IdleLink + Send + Drop> Forwarder for SerialLine<L> {
     ghost forwarding = { forwards_settled
-        (line_by rtu_protocol rtu_heading (meaning_of L.input L.output L.line) L.not_ready) };
+        (line_by rtu_protocol rtu_heading (meaning_of L.input L.output L.line) L.not_ready L.looks) };
 
     fn forward(&mut self, request: SlaveRequest<'_>) -> Result<Option<Response>, ServiceError> {
         let unit = Slave(request.slave);

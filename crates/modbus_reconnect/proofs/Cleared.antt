@@ -1,5 +1,5 @@
 -- A line on which nothing is owed.
-use Rattle.std.proofs.Common.{◌≡◌, inl, inr, ℕ, ◌<◌, Bool, true, false, true≢false, not, IsTrue, Option, None, Some, Result, Err, refl, sym, ap, subst, ◌∙◌, arith}
+use Rattle.std.proofs.Common.{◌≡◌, ℕ, zero, suc, ◌-◌, ◌<◌, Bool, true, false, true≢false, not, IsTrue, Result, Ok, Err, refl, sym, ap, subst, ◌∙◌, arith}
 use Rattle.std.specs.Duration.{as_nanos}
 use Rattle.modbus_frame.specs.Meaning.{Asked}
 use Rattle.modbus_frame.specs.declared.fault.Error.TheVariants.{Transport}
@@ -10,7 +10,8 @@ use Rattle.modbus_reconnect.specs.Owes.{leaves_nothing}
 use Rattle.modbus_reconnect.specs.Settles.{Settles}
 use Rattle.modbus_reconnect.specs.SettleState.{SettlingState, LineMeaning}
 use Rattle.modbus_reconnect.specs.Silences.{silences_in}
-use Rattle.modbus_reconnect.specs.OnLine.{SettlesLine, OwesNothing, settled, called, quiet_silences, StaysInDoubt, ClearsIf, next_question, AsksOn, IsStanding, unconnected, unsettled, asks, CallsStanding}
+use Rattle.modbus_reconnect.specs.Looks.{SettlesLine, LooksAt, ClearsAfter, ClearsLine, more_dropped}
+use Rattle.modbus_reconnect.specs.OnLine.{OwesNothing, settled, looked, called, quiet_silences, ClearsIf, next_question, AsksOn, IsStanding, unconnected, unsettled, asks, CallsStanding}
 
 -- it was settled by as many silences as are wanted
 pub settles_line : {H I L : Type 0} (m : LineMeaning H I L) (told silences limit : ℕ) (before after : L) (result : Result ℕ Unsettled) → told ≡ silences
@@ -26,12 +27,29 @@ settles_line m told silences limit before after result is settles sink line = re
 some_silences : (time silence : ℕ) → 0 < silences_in time silence
 some_silences time silence = omega arith
 
+-- bytes that were dropped in two steps were dropped in the second one
+told_more : (found dropped : ℕ) (told : Result ℕ Unsettled) → Ok dropped ≡ more_dropped found told → (more : ℕ) × (told ≡ Ok more)
+told_more found dropped (Ok more) is = (more, refl)
+told_more found dropped (Err reason) is = absurd (cc)
+
+module _ {H I L : Type 0} (m : LineMeaning H I L) (silences limit : ℕ) (some : 0 < silences) where
+  -- nothing is owed on a line after a look
+  owes_after : (before seen after : L) (found : Result ℕ Unsettled) (dropped : ℕ) → OwesNothing m before → LooksAt m before seen found
+      → ClearsAfter m silences limit seen after found (Ok dropped) → OwesNothing m after
+  owes_after before seen after (Ok zero) dropped owes look clears = subst (λ (link : L). OwesNothing m link) (sym clears.0) (looked before seen owes look)
+  owes_after before seen after (Ok (suc more)) dropped owes look (told, settles, is) =
+      let (left, told_is) = told_more (suc more) dropped told is in
+      settled seen after silences (limit - suc more) left some (subst (λ (r : Result ℕ Unsettled). SettlesLine m silences (limit - suc more) seen after r) told_is settles)
+  owes_after before seen after (Err reason) dropped owes look clears = absurd (let e = clears.1 in cc)
+
+  line_owes : (in_doubt : Bool) (before after : L) (dropped : ℕ) → (in_doubt ≡ false → OwesNothing m before) → ClearsLine m silences limit in_doubt before after (Ok dropped) → OwesNothing m after
+  line_owes true before after dropped stands settles = settled before after silences limit dropped some settles
+  line_owes false before after dropped stands (seen, found, look, clears) = owes_after before seen after found dropped (stands refl) look clears
+
 -- nothing is owed on a line that was cleared
 pub clear_owes : {H I L : Type 0} (m : LineMeaning H I L) (old clear : SettlingState I L) → ClearsIf true m old clear → IsStanding m old → OwesNothing m clear.link
-clear_owes {L = L} m old clear cleared stands = elim cleared.0 [
-  | inl kept ↦ subst (λ (link : L). OwesNothing m link) (sym kept.1) (stands kept.0)
-  | inr settles ↦ settled old.link clear.link (quiet_silences old) old.settings.limit settles.1.0 (some_silences (as_nanos old.settings.quiet) (as_nanos old.settings.silence)) settles.1.1
-]
+clear_owes m old clear cleared stands =
+    line_owes m (quiet_silences old) old.settings.limit (some_silences (as_nanos old.settings.quiet) (as_nanos old.settings.silence)) old.in_doubt old.link clear.link clear.dropped stands cleared.0
 
 settled_by : (nothing : Bool) → not nothing ≡ false → nothing ≡ true
 settled_by true clear = refl
@@ -43,14 +61,10 @@ asked_stands {I = I} {L = L} m clear new asked turns answer owes a = λ certain.
     called clear.link new.link (next_question m clear asked turns) a.held answer owes a.ends
     (settled_by (leaves_nothing asked answer a.held) (sym (ap (λ (state : SettlingState I L). state.in_doubt) a.rest) ∙ certain))
 
-doubt_after : {H I L : Type 0} (m : LineMeaning H I L) (old : SettlingState I L) (line : L) (reason : Option Unsettled) → StaysInDoubt m old line reason → IsTrue old.in_doubt
-doubt_after m old line None stays = absurd stays
-doubt_after m old line (Some reason) stays = stays.0
-
--- a line that was not settled is in doubt
+-- a line that was not cleared is in doubt
 pub unsettled_stands : {H I L : Type 0} (m : LineMeaning H I L) (old new : SettlingState I L) → ClearsIf false m old new → IsStanding m new
 unsettled_stands {I = I} {L = L} m old new kept = λ certain.
-    absurd (true≢false (sym (ap (λ (state : SettlingState I L). state.in_doubt) kept.1 ∙ doubt_after m old new.link new.unsettled kept.0) ∙ certain))
+    absurd (true≢false (sym (ap (λ (state : SettlingState I L). state.in_doubt) kept.1) ∙ certain))
 
 -- a call of each kind
 pub calls_asked : {H I L : Type 0} (m : LineMeaning H I L) (old clear new : SettlingState I L) (asked : Asked) (answer : Answer) → IsTrue old.is_connected → ClearsIf true m old clear

@@ -8,6 +8,7 @@ pub mod Calls
 pub mod Settles
 pub mod Silences
 pub mod SettleState
+pub mod Looks
 pub mod Waits
 pub mod OnLine
 pub mod Tells

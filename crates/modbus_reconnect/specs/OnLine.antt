@@ -1,26 +1,22 @@
 -- What each call of a client of a line does: nothing is owed on the line that it is made on.
-use Rattle.std.specs.Prelude.{◌≡◌, ◌⊎◌, ℕ, ◌<◌, Bool, true, false, not, List, Option, None, Some, Result, Ok, Err, IsTrue}
+use Rattle.std.specs.Prelude.{◌≡◌, ℕ, ◌<◌, Bool, true, false, not, List, Option, None, Some, Result, Ok, Err, IsTrue}
 use Rattle.modbus_frame.specs.Meaning.{Asked}
 use Rattle.modbus_frame.specs.declared.fault.Error.TheVariants.{Transport}
 use Rattle.modbus_frame.specs.declared.fault.TransportError.TheVariants.{NotConnected}
 use Rattle.modbus_client.specs.Matches.{Answer}
 use Rattle.modbus_reconnect.specs.declared.settling.Unsettled.{Unsettled}
 use Rattle.modbus_reconnect.specs.Owes.{leaves_nothing}
-use Rattle.modbus_reconnect.specs.Settles.{Settles}
+use Rattle.modbus_reconnect.specs.Looks.{SettlesLine, LooksAt, ClearsLine}
 use Rattle.modbus_reconnect.specs.Silences.{silences_for}
 use Rattle.modbus_reconnect.specs.SettleState.{SettlingState, LineMeaning}
 use Rattle.modbus_reconnect.specs.Waits.{LineQuestion, question_of, EndsWait}
 
--- A line is settled, or is not, for so many silences: nothing is written, and all else of the link stays.
-pub record SettlesLine {H I L : Type 0} (m : LineMeaning H I L) (silences limit : ℕ) (before after : L) (result : Result ℕ Unsettled) : Type 0 where
-  pub settles : Settles silences limit (m.link.input before) (m.link.input after) (m.silences before) (m.silences after) result
-  pub sink : m.link.output after ≡ m.link.output before
-  pub line : m.link.line after ≡ m.link.line before
-
--- Nothing is owed on a line: it was settled, and each call since was answered by its own reply, with no byte left over, or sent nothing.
+-- Nothing is owed on a line: it was settled, and each call since was answered by its own reply, with no byte left over, or sent nothing, and
+-- each look since found nothing.
 pub data OwesNothing {H I L : Type 0} (m : LineMeaning H I L) : L → Type 0 where
   settled : (before line : L) (silences limit dropped : ℕ)
       → 0 < silences → SettlesLine m silences limit before line (Ok dropped) → OwesNothing m line
+  looked : (before line : L) → OwesNothing m before → LooksAt m before line (Ok 0) → OwesNothing m line
   called : (before line : L) (q : LineQuestion H) (held : List ℕ) (answer : Answer)
       → OwesNothing m before → EndsWait m q before line held answer → IsTrue (leaves_nothing q.asked answer held) → OwesNothing m line
 
@@ -31,20 +27,19 @@ quiet_silences client = silences_for (Some client.settings.quiet) client.setting
 abbrev pub reply_silences : {I L : Type 0} → SettlingState I L → ℕ
 reply_silences client = silences_for client.settings.timeout client.settings.silence
 
--- A line in doubt is settled before it is used, and one that is not is used as it is.
-abbrev pub Clears : {H I L : Type 0} → LineMeaning H I L → SettlingState I L → L → Type 0
-Clears m old line = ((old.in_doubt ≡ false) × (line ≡ old.link))
-    ⊎ (IsTrue old.in_doubt × ((dropped : ℕ) × SettlesLine m (quiet_silences old) old.settings.limit old.link line (Ok dropped)))
+-- the line of a client is cleared
+abbrev pub Clears : {H I L : Type 0} → LineMeaning H I L → SettlingState I L → L → Result ℕ Unsettled → Type 0
+Clears m old line result = ClearsLine m (quiet_silences old) old.settings.limit old.in_doubt old.link line result
 
--- a line in doubt was not settled, for this reason
-abbrev pub StaysInDoubt : {H I L : Type 0} → LineMeaning H I L → SettlingState I L → L → Option Unsettled → Type 0
-StaysInDoubt m old line None = ⊥
-StaysInDoubt m old line (Some reason) = IsTrue old.in_doubt × SettlesLine m (quiet_silences old) old.settings.limit old.link line (Err reason)
+-- the line was not cleared, for this reason
+abbrev pub IsNotCleared : {H I L : Type 0} → LineMeaning H I L → SettlingState I L → L → Option Unsettled → Type 0
+IsNotCleared m old line None = ⊥
+IsNotCleared m old line (Some reason) = Clears m old line (Err reason)
 
--- the line was cleared, or it stays in doubt
+-- The line was cleared, and what was dropped for it is counted; or it was not, and is in doubt.
 abbrev pub ClearsIf : {H I L : Type 0} → Bool → LineMeaning H I L → SettlingState I L → SettlingState I L → Type 0
-ClearsIf true m old new = Clears m old new.link × (new ≡ record old { link = new.link; in_doubt = false; unsettled = None })
-ClearsIf false m old new = StaysInDoubt m old new.link new.unsettled × (new ≡ record old { link = new.link; unsettled = new.unsettled })
+ClearsIf true m old new = Clears m old new.link (Ok new.dropped) × (new ≡ record old { link = new.link; in_doubt = false; unsettled = None; dropped = new.dropped })
+ClearsIf false m old new = IsNotCleared m old new.link new.unsettled × (new ≡ record old { link = new.link; in_doubt = true; unsettled = new.unsettled; dropped = 0 })
 
 -- what a client asks, under the header that comes next, with so many reads that may give bytes
 abbrev pub next_question : {H I L : Type 0} → LineMeaning H I L → SettlingState I L → Asked → ℕ → LineQuestion H
@@ -69,7 +64,7 @@ pub data CallsOnLine {H I L : Type 0} (m : LineMeaning H I L) (old : SettlingSta
   unconnected : old.is_connected ≡ false → answer ≡ Err (Transport NotConnected) → new ≡ old → CallsOnLine m old asked answer new
   -- on a line that does not settle nothing is sent
   unsettled : IsTrue old.is_connected → answer ≡ Err (Transport NotConnected) → ClearsIf false m old new → CallsOnLine m old asked answer new
-  -- nothing is owed on the line that the request is sent on
+  -- the line was settled, or a look found nothing, right before the request; and nothing is owed on it
   asks : IsTrue old.is_connected → (clear : SettlingState I L) → ClearsIf true m old clear → (IsStanding m old → OwesNothing m clear.link)
       → AsksOn m clear asked clear.settings.turns answer new → CallsOnLine m old asked answer new
 

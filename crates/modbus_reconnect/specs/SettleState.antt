@@ -27,19 +27,22 @@ pub record SettlingState (I L : Type 0) : Type 0 where
   pub in_doubt : Bool
   -- why the last call found the line unsettled; none where it did not
   pub unsettled : Option Unsettled
+  -- how many bytes the last call dropped before it sent its request
+  pub dropped : ℕ
   pub settings : LineSettings
   -- what its protocol keeps between its calls
   pub ids : I
 
--- what the parts of such a client mean: its protocol, its link, and how many silences the link told
+-- what the parts of such a client mean: its protocol, its link, how many silences the link told, and how often a look found nothing
 pub record LineMeaning (H I L : Type 0) : Type 1 where
   pub protocol : Protocol H
   pub heading : Heading H I
   pub link : LinkMeaning L
   pub silences : L → ℕ
+  pub looks : L → ℕ
 
-abbrev pub line_by : {H I L : Type 0} → Protocol H → Heading H I → LinkMeaning L → (L → ℕ) → LineMeaning H I L
-line_by protocol heading link silences = record { protocol = protocol; heading = heading; link = link; silences = silences }
+abbrev pub line_by : {H I L : Type 0} → Protocol H → Heading H I → LinkMeaning L → (L → ℕ) → (L → ℕ) → LineMeaning H I L
+line_by protocol heading link silences looks = record { protocol = protocol; heading = heading; link = link; silences = silences; looks = looks }
 
 -- A client as it is made, of a link of which nothing is known: it is in doubt. A line is settled by one silence.
 abbrev pub unsettled_client : {H I L : Type 0} → Heading H I → L → ℕ → Duration → SettlingState I L
@@ -48,6 +51,7 @@ unsettled_client N link slave silence = record {
   is_connected = true;
   in_doubt = true;
   unsettled = None;
+  dropped = 0;
   settings = record { slave = slave; turns = default_turns; timeout = None; silence = silence; quiet = silence; limit = 4096 };
   ids = N.first;
 }

@@ -6,6 +6,7 @@
 #![tactic(auto)]
 
 mod client;
+mod looking;
 mod once;
 mod opening;
 mod owing;
@@ -18,6 +19,7 @@ mod telling;
 mod waiting;
 
 pub use crate::client::ReconnectingClient;
+pub use crate::looking::IdleLink;
 pub use crate::owing::leaves_nothing;
 pub use crate::resend::Resend;
 pub use crate::settling::{Unsettled, settle};

@@ -3,9 +3,11 @@ ghost use Rattle.std.specs.Prelude.{◌≡◌, ◌↔◌, false, Ok, IsNone, IfS
 ghost use Rattle.modbus_link.specs.Line.{meaning_of};
 ghost use Rattle.modbus_frame.specs.Meaning.{meaning};
 ghost use Rattle.modbus_reconnect.specs.SettleState.{line_by, unsettled_client};
-ghost use Rattle.modbus_reconnect.specs.OnLine.{ClearsIf, AsksOn, CallsStanding};
+ghost use Rattle.modbus_reconnect.specs.Looks.{ClearsLine};
+ghost use Rattle.modbus_reconnect.specs.OnLine.{quiet_silences, ClearsIf, AsksOn, CallsStanding};
 ghost use Rattle.modbus_reconnect.specs.Tells.{SendsStanding};
 
+use crate::looking::{IdleLink, look_at};
 use crate::owing::leaves_nothing;
 use crate::settling::{Unsettled, settle};
 use crate::silences::silences_for;
@@ -15,7 +17,6 @@ use modbus_client::{Client, Protocol, TURNS};
 use modbus_frame::{
     Error, Request, Response, Result, ShutdownFault, Slave, SlaveContext, TransportError,
 };
-use modbus_link::TimedLink;
 use std::alloc::Global;
 use std::marker::Model;
 use std::time::Duration;
@@ -27,13 +28,15 @@ const LIMIT: usize = 4096;
 ///
 /// A late reply can't be told from the next one there, so each call begins on a line on which nothing is owed. After an answer that is no
 /// reply to the request, and after a reply with bytes behind it, the line is in doubt. The next call then reads and drops what still comes,
-/// until the line was silent for a while, before it sends its request.
+/// until the line was silent for a while, before it sends its request. A line that is not in doubt is looked at before a request is sent:
+/// what came there since the last call was not asked for, so it is dropped, and the line settled as one in doubt.
 #[derive(Drop)]
 pub struct SettlingClient<P: Protocol, L> {
     link: L,
     is_connected: bool,
     in_doubt: bool,
     unsettled: Option<Unsettled>,
+    dropped: usize,
     slave: Slave,
     turns: u64,
     timeout: Option<Duration>,
@@ -44,8 +47,8 @@ pub struct SettlingClient<P: Protocol, L> {
     alloc: Global,
 }
 
-/// A contract sees the link, whether it is used, whether it is in doubt and why it stayed so, the settings, and what the protocol keeps
-/// between calls.
+/// A contract sees the link, whether it is used, whether it is in doubt and why it stayed so, how many bytes were dropped before the last
+/// request, the settings, and what the protocol keeps between calls.
 impl<P: Protocol, L> Model for SettlingClient<P, L> {
     ghost use Rattle.modbus_reconnect.specs.SettleState.{SettlingState};
 
@@ -56,6 +59,7 @@ impl<P: Protocol, L> Model for SettlingClient<P, L> {
       is_connected = it.is_connected;
       in_doubt = it.in_doubt;
       unsettled = it.unsettled;
+      dropped = it.dropped;
       settings = record { slave = it.slave.0; turns = it.turns; timeout = it.timeout; silence = it.silence; quiet = it.quiet; limit = it.limit };
       ids = it.ids;
     } };
@@ -74,6 +78,7 @@ impl<P: Protocol, L> SettlingClient<P, L> {
             is_connected: true,
             in_doubt: true,
             unsettled: None,
+            dropped: 0,
             slave,
             turns: TURNS,
             timeout: None,
@@ -121,6 +126,13 @@ impl<P: Protocol, L> SettlingClient<P, L> {
         self.unsettled
     }
 
+    /// How many bytes the last call or `send` found on the line and dropped before it sent its request; 0 where it sent nothing.
+    pub fn dropped(&self) -> usize
+        ensures { result ≡ self.now.dropped }
+    {
+        self.dropped
+    }
+
     /// The link; `None` exactly where the client is disconnected.
     pub fn link(&self) -> Option<&L>
         ensures none { IsNone result ↔ (self.now.is_connected ≡ false) }
@@ -134,25 +146,52 @@ impl<P: Protocol, L> SettlingClient<P, L> {
     }
 }
 
-impl<P: Protocol, L: TimedLink> SettlingClient<P, L> {
-    /// Settles a line in doubt. Whether nothing is owed on it then.
+impl<P: Protocol, L: IdleLink> SettlingClient<P, L> {
+    /// Drops what came on the line and was not read, and answers how many bytes that were. A line in doubt is settled; any other is looked
+    /// at, and settled where something came.
+    ///
+    /// # Errors
+    /// Those of `settle`.
+    fn clear_line(&mut self) -> std::result::Result<usize, Unsettled>
+        ensures clears { ClearsLine
+            (line_by P.protocol P.heading (meaning_of L.input L.output L.line) L.not_ready L.looks)
+            (quiet_silences self.old) self.old.settings.limit self.old.in_doubt
+            self.old.link self.new.link result }
+        ensures rest { self.new ≡ record self.old { link = self.new.link } }
+    {
+        let silences = silences_for(Some(self.quiet), self.silence);
+        if self.in_doubt {
+            return settle(&mut self.link, silences, self.limit);
+        }
+        match look_at(&mut self.link) {
+            Ok(0) => Ok(0),
+            Ok(found) => {
+                match settle(&mut self.link, silences, self.limit.saturating_sub(found)) {
+                    Ok(more) => Ok(found + more),
+                    Err(reason) => Err(reason),
+                }
+            }
+            Err(reason) => Err(reason),
+        }
+    }
+
+    /// Clears the line. Whether nothing is owed on it then.
     fn clear(&mut self) -> bool
         ensures { ClearsIf result
-            (line_by P.protocol P.heading (meaning_of L.input L.output L.line) L.not_ready)
+            (line_by P.protocol P.heading (meaning_of L.input L.output L.line) L.not_ready L.looks)
             self.old self.new }
     {
-        self.unsettled = None;
-        if !self.in_doubt {
-            return true;
-        }
-        let silences = silences_for(Some(self.quiet), self.silence);
-        match settle(&mut self.link, silences, self.limit) {
-            Ok(_) => {
+        match self.clear_line() {
+            Ok(dropped) => {
                 self.in_doubt = false;
+                self.unsettled = None;
+                self.dropped = dropped;
                 true
             }
             Err(reason) => {
+                self.in_doubt = true;
                 self.unsettled = Some(reason);
+                self.dropped = 0;
                 false
             }
         }
@@ -161,7 +200,7 @@ impl<P: Protocol, L: TimedLink> SettlingClient<P, L> {
     /// Sends a request, and waits for its reply, with at most `turns` reads that give bytes.
     fn ask(&mut self, request: &Request<'_>, turns: u64) -> Result<Response>
         ensures { AsksOn
-            (line_by P.protocol P.heading (meaning_of L.input L.output L.line) L.not_ready)
+            (line_by P.protocol P.heading (meaning_of L.input L.output L.line) L.not_ready L.looks)
             self.old (meaning request.now) turns result self.new }
     {
         let header = P::draw(&mut self.ids, self.slave);
@@ -179,7 +218,7 @@ impl<P: Protocol, L: TimedLink> SettlingClient<P, L> {
     }
 
     /// Sends a request to which no slave replies, as a broadcast (MODBUS over Serial Line V1.02, section 2.1), and reads nothing of a
-    /// reply. A line in doubt is settled first, as it is for a call.
+    /// reply. The line is cleared first, as it is for a call.
     ///
     /// After it the line is in doubt, so that the next request waits until the line was silent: the slaves have that time to do what was
     /// asked (section 2.4.1), and a slave that replies nevertheless is not heard.
@@ -190,7 +229,7 @@ impl<P: Protocol, L: TimedLink> SettlingClient<P, L> {
     /// write faults rose. `ReadFault` where the link took no more for as long as a reply is waited for. `NoMemory` where memory is refused.
     pub fn send(&mut self, request: Request<'_>) -> std::result::Result<(), Error>
         ensures { SendsStanding
-            (line_by P.protocol P.heading (meaning_of L.input L.output L.line) L.not_ready)
+            (line_by P.protocol P.heading (meaning_of L.input L.output L.line) L.not_ready L.looks)
             self.old (meaning request.entry) result self.new }
     {
         if !self.is_connected || !self.clear() {
@@ -212,12 +251,12 @@ impl<P: Protocol, L> SlaveContext for SettlingClient<P, L> {
     }
 }
 
-impl<P: Protocol, L: TimedLink + Send + Drop> Client for SettlingClient<P, L>
+impl<P: Protocol, L: IdleLink + Send + Drop> Client for SettlingClient<P, L>
 where
     P::Ids: Send,
 {
     ghost answers = { CallsStanding
-        (line_by P.protocol P.heading (meaning_of L.input L.output L.line) L.not_ready) };
+        (line_by P.protocol P.heading (meaning_of L.input L.output L.line) L.not_ready L.looks) };
 
     // Nothing is done with the line.
     ghost disconnects = { λ old result new. (result ≡ Ok tt) × (new ≡ record old { is_connected = false }) };

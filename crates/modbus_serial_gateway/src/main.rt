@@ -11,11 +11,13 @@ use listen::serve;
 use modbus_about::{About, FAILED, USAGE, asked, tell};
 use modbus_client::Client;
 use modbus_frame::Slave;
+use modbus_idle::WatchedLine;
 use modbus_line::SerialLine;
 use modbus_link::{ReadSource, TerminalLine, TerminalLink, WriteSink};
 use modbus_reconnect::SerialClient;
 use std::env;
 use std::io::{ErrorKind, Result, Stdin, Stdout};
+use std::os::fd::AsRawFd;
 use std::process::ExitCode;
 use std::time::Duration;
 use words::{HELP, Task, read_words};
@@ -53,9 +55,9 @@ fn wish_of(rt: &HostRuntime) -> Result<Option<Wish>> {
 fn open_line(
     rt: &HostRuntime,
     millis: u32,
-) -> SerialLine<TerminalLine<'_, HostRuntime, Stdin, Stdout>> {
+) -> SerialLine<WatchedLine<TerminalLine<'_, HostRuntime, Stdin, Stdout>>> {
     let streams = TerminalLink::new(ReadSource::new(rt.stdin()), WriteSink::new(rt.stdout()));
-    let link = TerminalLine::new(rt, streams);
+    let link = WatchedLine::new(rt, TerminalLine::new(rt, streams), rt.stdin().as_raw_fd());
     let limit = Duration::from_millis(u64::from(millis));
     let mut client = SerialClient::new(rt.alloc(), link, Slave(0), Duration::from_millis(SILENCE));
     client.set_timeout(Some(limit));

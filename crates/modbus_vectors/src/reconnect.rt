@@ -165,7 +165,7 @@ fn set_quiet(text: &mut Text, client: &mut Line, words: &str) -> bool {
     true
 }
 
-/// What a step does to a client of a line, which also has `quiet=4096:200`, `doubt` and `unsettled`.
+/// What a step does to a client of a line, which also has `quiet=4096:200`, `doubt`, `unsettled` and `dropped`.
 fn line_step(text: &mut Text, client: &mut Line, word: &str) -> bool {
     if let Some(quiet) = word.strip_prefix("quiet=") {
         return set_quiet(text, client, quiet);
@@ -173,6 +173,7 @@ fn line_step(text: &mut Text, client: &mut Line, word: &str) -> bool {
     match word {
         "doubt" => text.push_shown(client.is_in_doubt()),
         "unsettled" => text.push_shown(client.unsettled()),
+        "dropped" => text.push_shown(client.dropped()),
         _ => return step(text, client, word),
     }
     true

@@ -1,5 +1,5 @@
 //! A program that reads the registers of a device one after another, over links that may be late: `modbus_watch FORM ADDRESS COUNT MILLIS
-//! [RETRIES]`, or `modbus_watch serial TERMINAL COUNT MILLIS`. The terminal was set by `stty raw min 0 time 1`.
+//! [RETRIES [PAUSE]]`, or `modbus_watch serial TERMINAL COUNT MILLIS [0 PAUSE]`. The terminal was set by `stty raw min 0 time 1`.
 #![tactic(auto)]
 
 mod watch;
@@ -21,12 +21,17 @@ fn parse_args(rt: &HostRuntime) -> Option<Task> {
         None => 0,
         Some(word) => word.as_str().parse().ok()?,
     };
+    let pause = match words.next() {
+        None => 0,
+        Some(word) => word.as_str().parse().ok()?,
+    };
     match words.next() {
         None => Some(Task {
             device,
             count,
             millis,
             retries,
+            pause,
         }),
         Some(_) => None,
     }
@@ -35,8 +40,8 @@ fn parse_args(rt: &HostRuntime) -> Option<Task> {
 fn main(rt: HostRuntime) -> ExitCode {
     let Some(task) = parse_args(&rt) else {
         let _ = eprintln!(rt;
-            "watch: usage: modbus_watch tcp|rtu|once-tcp|once-rtu ADDRESS COUNT MILLIS [RETRIES]
-       modbus_watch serial TERMINAL COUNT MILLIS"
+            "watch: usage: modbus_watch tcp|rtu|once-tcp|once-rtu ADDRESS COUNT MILLIS [RETRIES [PAUSE]]
+       modbus_watch serial TERMINAL COUNT MILLIS [0 PAUSE]"
         );
         return ExitCode::from(2);
     };

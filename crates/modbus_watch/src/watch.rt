@@ -3,12 +3,14 @@
 use crate::words::{Device, Form, Task};
 use modbus_client::{Client, Reader, rtu, tcp};
 use modbus_frame::{Error, ExceptionCode, Slave};
+use modbus_idle::WatchedLine;
 use modbus_link::{Connector, Failed, ReadSource, TcpConnector, TerminalLink, WriteSink};
 use modbus_reconnect::{Resend, RtuOverTcpClient, SerialClient, TcpClient};
 use std::fs::File;
-use std::io;
 use std::net::SocketAddr;
+use std::os::fd::AsRawFd;
 use std::time::Duration;
+use std::{io, thread};
 
 const UNIT: Slave = Slave(1);
 
@@ -30,10 +32,14 @@ fn report(
     }
 }
 
-/// Reads so many registers from 0 on, one a call.
-fn watch<C: Client>(rt: &HostRuntime, client: &mut C, count: u16) -> io::Result<()> {
-    for register in 0..count {
+/// Reads as many registers as are asked for from 0 on, one a call.
+fn watch<C: Client>(rt: &HostRuntime, client: &mut C, task: &Task) -> io::Result<()> {
+    let pause = Duration::from_millis(task.pause);
+    for register in 0..task.count {
         report(rt, register, &client.read_holding_registers(register, 1))?;
+        if !pause.is_zero() {
+            thread::sleep(rt, pause);
+        }
     }
     let _ = client.disconnect();
     Ok(())
@@ -44,12 +50,14 @@ fn watch<C: Client>(rt: &HostRuntime, client: &mut C, count: u16) -> io::Result<
 fn watch_line(rt: &HostRuntime, terminal: &str, task: &Task) -> io::Result<()> {
     let reader = File::options().read(true).write(true).open(rt, terminal)?;
     let writer = reader.try_clone()?;
-    let link = TerminalLink::new(ReadSource::new(reader), WriteSink::new(writer));
+    let fd = reader.as_raw_fd();
+    let streams = TerminalLink::new(ReadSource::new(reader), WriteSink::new(writer));
+    let link = WatchedLine::new(rt, streams, fd);
     let limit = Duration::from_millis(task.millis);
     let mut client = SerialClient::new(rt.alloc(), link, UNIT, Duration::from_millis(SILENCE));
     client.set_timeout(Some(limit));
     client.set_quiet(limit, NOISE);
-    watch(rt, &mut client, task.count)
+    watch(rt, &mut client, task)
 }
 
 /// Reads the registers of a device behind an address, in the form that was asked for.
@@ -61,19 +69,19 @@ fn watch_peer(rt: &HostRuntime, form: Form, address: SocketAddr, task: &Task) ->
             let mut client = TcpClient::new(rt.alloc(), connector, address, UNIT);
             client.set_timeout(limit);
             client.set_retries(task.retries, Resend::Reads);
-            watch(rt, &mut client, task.count)
+            watch(rt, &mut client, task)
         }
         Form::Rtu => {
             let mut client = RtuOverTcpClient::new(rt.alloc(), connector, address, UNIT);
             client.set_timeout(limit);
             client.set_retries(task.retries, Resend::Reads);
-            watch(rt, &mut client, task.count)
+            watch(rt, &mut client, task)
         }
         Form::OnceTcp => match connector.connect(address, limit) {
             Ok(link) => {
                 let mut client = tcp::attach_slave(rt.alloc(), link, UNIT);
                 client.set_timeout(limit);
-                watch(rt, &mut client, task.count)
+                watch(rt, &mut client, task)
             }
             Err(Failed) => Ok(()),
         },
@@ -81,7 +89,7 @@ fn watch_peer(rt: &HostRuntime, form: Form, address: SocketAddr, task: &Task) ->
             Ok(link) => {
                 let mut client = rtu::attach_slave(rt.alloc(), link, UNIT);
                 client.set_timeout(limit);
-                watch(rt, &mut client, task.count)
+                watch(rt, &mut client, task)
             }
             Err(Failed) => Ok(()),
         },

@@ -53,12 +53,13 @@ pub fn device_of(form: &str, place: String) -> Option<Device> {
     Some(Device::Peer(form, address))
 }
 
-/// Which device is read, how many registers of it, within how many milliseconds each read and write ends, and how often a read is sent
-/// again over a new link.
+/// Which device is read, how many registers of it, within how many milliseconds each read and write ends, how often a read is sent again over
+/// a new link, and how many milliseconds are between two calls.
 #[derive(Drop)]
 pub struct Task {
     pub device: Device,
     pub count: u16,
     pub millis: u64,
     pub retries: u32,
+    pub pause: u64,
 }

@@ -7,7 +7,7 @@ use Rattle.modbus_reconnect.proofs.waiting.wait.Given as goal
 -- as many silences were told as rounds were made, and then nothing is held
 abbrev pub invariant-silences : goal.invariant-silences
 invariant-silences g l = record {
-  going : Going (line_by g.P.Protocol.protocol g.P.Protocol.heading (meaning_of g.L.Ends.input g.L.Ends.output g.L.Ends.line) g.L.PolledLink.not_ready)
+  going : Going (line_by g.P.Protocol.protocol g.P.Protocol.heading (meaning_of g.L.Ends.input g.L.Ends.output g.L.Ends.line) g.L.PolledLink.not_ready g.L.IdleLink.looks)
       l._told l.fn.link l.link l.fn.call.call l.call.call;
   none : 0 < l._told → l.call.call.held ≡ [];
   goes_on : IsTrue l.call.is_open;
