@@ -58,8 +58,8 @@ settled_by false clear = sym clear
 -- a call on it may leave nothing owed
 pub asked_stands : {H I L : Type 0} (m : LineMeaning H I L) (clear new : SettlingState I L) (asked : Asked) (turns : ℕ) (answer : Answer) → OwesNothing m clear.link → AsksOn m clear asked turns answer new → IsStanding m new
 asked_stands {I = I} {L = L} m clear new asked turns answer owes a = λ certain.
-    called clear.link new.link (next_question m clear asked turns) a.held answer owes a.ends
-    (settled_by (leaves_nothing asked answer a.held) (sym (ap (λ (state : SettlingState I L). state.in_doubt) a.rest) ∙ certain))
+    called clear.link new.link (next_question m clear asked turns) a.held a.found owes a.ends
+    (settled_by (leaves_nothing asked a.found a.held) (sym (ap (λ (state : SettlingState I L). state.in_doubt) a.rest) ∙ certain))
 
 -- a line that was not cleared is in doubt
 pub unsettled_stands : {H I L : Type 0} (m : LineMeaning H I L) (old new : SettlingState I L) → ClearsIf false m old new → IsStanding m new

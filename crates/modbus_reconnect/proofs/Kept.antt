@@ -11,6 +11,7 @@ use Rattle.modbus_client.specs.State.{ClientState}
 use Rattle.modbus_client.specs.Calls.{Called}
 use Rattle.modbus_client.specs.Ends.{Disconnected, Limited}
 use Rattle.modbus_reconnect.specs.Owes.{leaves_nothing}
+use Rattle.modbus_reconnect.specs.Replies.{fitted}
 use Rattle.modbus_reconnect.specs.State.{Settings, ReconnectingState, Meaning}
 use Rattle.modbus_reconnect.specs.Stands.{IsReady, IsReadyIfSome, called, directed, limited}
 use Rattle.modbus_reconnect.specs.Tries.{CallsOn}
@@ -22,19 +23,23 @@ asks P N M on after lent asked answer e c = subst (λ (request : Asked). Called 
 
 -- a client is kept after an answer that leaves nothing, and given up after another
 pub keeps : {H I L : Type 0} (P : Protocol H) (N : Heading H I) (M : LinkMeaning L) (on after : ClientState I L) (lent asked : Asked) (answer : Answer)
-    → lent ≡ asked → Called P N M on lent answer after → leaves_nothing asked answer after.held ≡ true → CallsOn P N M on asked answer (Some after)
-keeps P N M on after lent asked answer e c nothing = record {
+    → lent ≡ asked → Called P N M on lent answer after → (told : Answer) → told ≡ fitted asked answer → leaves_nothing asked answer after.held ≡ true → CallsOn P N M on asked told (Some after)
+keeps P N M on after lent asked answer e c told is nothing = record {
   after = after;
+  found = answer;
   called = asks P N M on after lent asked answer e c;
+  told = is;
   keeps = sym (ap (λ (kept : Bool). if kept then Some after else None) nothing);
   gives_up = λ something. absurd (true≢false (sym nothing ∙ something));
 }
 
 pub gives_up : {H I L : Type 0} (P : Protocol H) (N : Heading H I) (M : LinkMeaning L) (on after gone : ClientState I L) (lent asked : Asked) (answer : Answer) (result : Result (Unit {0}) ShutdownFault)
-    → lent ≡ asked → Called P N M on lent answer after → leaves_nothing asked answer after.held ≡ false → Disconnected M after result gone → CallsOn P N M on asked answer None
-gives_up P N M on after gone lent asked answer result e c something d = record {
+    → lent ≡ asked → Called P N M on lent answer after → (told : Answer) → told ≡ fitted asked answer → leaves_nothing asked answer after.held ≡ false → Disconnected M after result gone → CallsOn P N M on asked told None
+gives_up P N M on after gone lent asked answer result e c told is something d = record {
   after = after;
+  found = answer;
   called = asks P N M on after lent asked answer e c;
+  told = is;
   keeps = sym (ap (λ (kept : Bool). if kept then Some after else None) something);
   gives_up = λ _. record { result = result; gone = gone; disconnected = d };
 }
@@ -60,7 +65,7 @@ pub kept_is_ready : {H I C L : Type 0} (m : Meaning H I C L) (address : SocketAd
     → IsReady m address settings on → CallsOn m.protocol m.heading m.link on asked answer kept → IsReadyIfSome m address settings kept
 kept_is_ready {I = I} {L = L} m address settings on asked answer kept ready c =
     subst (λ (state : Option (ClientState I L)). IsReadyIfSome m address settings state) (sym c.keeps)
-    (kept_by m address settings c.after _ (called_is_ready m address settings on c.after asked answer ready c.called))
+    (kept_by m address settings c.after _ (called_is_ready m address settings on c.after asked c.found ready c.called))
 
 -- all that stays of a client whose own client was taken: what was ready is
 pub moved : {H I C L : Type 0} (m : Meaning H I C L) (old new : ReconnectingState C I L) (connector : C) (client used : Option (ClientState I L))

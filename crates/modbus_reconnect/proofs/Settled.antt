@@ -17,11 +17,6 @@ pub leaves_doubt : (asked : Asked) (answer : Answer) (held : List ℕ) → is_se
 leaves_doubt asked answer [] doubt = doubt
 leaves_doubt asked answer (byte ∷ bytes) doubt = refl
 
--- bytes that are held are left
-pub leaves_bytes : (asked : Asked) (answer : Answer) (held : List ℕ) → (length held ≡ 0 → ⊥) → leaves_nothing asked answer held ≡ false
-leaves_bytes asked answer [] some = absurd (some refl)
-leaves_bytes asked answer (byte ∷ bytes) some = refl
-
 settled_stays : (asked : Asked) (answer : Answer) → is_settled asked answer ≡ true → stays_connected answer ≡ true
 settled_stays asked (Ok result) settled = refl
 settled_stays asked (Err (Protocol fault)) settled = refl

@@ -19,6 +19,7 @@ use Rattle.modbus_client.specs.Matches.{Answer}
 use Rattle.modbus_client.specs.Calls.{WaitedBefore, Exchanged}
 use Rattle.modbus_client.specs.Limits.{read_room}
 use Rattle.modbus_reconnect.specs.Owes.{leaves_nothing}
+use Rattle.modbus_reconnect.specs.Replies.{fitted}
 use Rattle.modbus_reconnect.specs.SettleState.{SettlingState, LineMeaning}
 use Rattle.modbus_reconnect.specs.Waits.{question_of, GivesUp, EndsWait}
 use Rattle.modbus_reconnect.specs.OnLine.{reply_silences, ClearsIf, AsksOn, IsStanding}
@@ -217,19 +218,25 @@ module _ {H I L : Type 0} (m : LineMeaning H I L) (silences : ℕ) (header : H) 
   doubts (Err (Transport (InvalidProtocol protocol))) e = ap not (leaves_doubt asked (Err (Transport (InvalidProtocol protocol))) held refl)
   doubts (Err (Transport TurnLimit)) e = ap not (leaves_doubt asked (Err (Transport TurnLimit)) held refl)
 
+-- what is no response is told as it was found
+fitted_same : (asked : Asked) (found : Answer) → ((result : Result Response ExceptionCode) → found ≡ Ok result → ⊥) → fitted asked found ≡ found
+fitted_same asked (Ok result) none = absurd (none result refl)
+fitted_same asked (Err error) none = refl
+
 -- a request was sent on a line that was cleared
 pub sends_told : {H I L : Type 0} (m : LineMeaning H I L) (old clear new : SettlingState I L) (asked : Asked) (answer : Answer) (told : Result (Unit {0}) Error) → IsTrue old.is_connected
     → ClearsIf true m old clear → AsksOn m clear asked 0 answer new → told ≡ told_of_answer answer → SendsStanding m old asked told new
 sends_told {I = I} {L = L} m old clear new asked answer told is_connected cleared a is =
     let q = question_of (m.heading.header clear.ids clear.settings.slave) asked 0 (reply_silences clear) in
-    let on : TellsOn m clear asked (told_of_answer answer) new = record {
-      tells = tells m q.silences q.header asked clear.link new.link a.held answer a.ends;
+    let same : answer ≡ a.found = a.told ∙ fitted_same asked a.found (no_reply m q.silences q.header asked clear.link new.link a.held a.found a.ends) in
+    let on : TellsOn m clear asked (told_of_answer a.found) new = record {
+      tells = tells m q.silences q.header asked clear.link new.link a.held a.found a.ends;
       line = a.line;
       rest = subst (λ (doubt : Bool). new ≡ record clear { link = new.link; in_doubt = doubt; ids = m.heading.next clear.ids })
-          (doubts m q.silences q.header asked clear.link new.link a.held answer a.ends) a.rest;
+          (doubts m q.silences q.header asked clear.link new.link a.held a.found a.ends) a.rest;
     } in
     record {
-      does = sends is_connected clear cleared (clear_owes m old clear cleared) (subst (λ (found : Result (Unit {0}) Error). TellsOn m clear asked found new) (sym is) on);
+      does = sends is_connected clear cleared (clear_owes m old clear cleared) (subst (λ (found : Result (Unit {0}) Error). TellsOn m clear asked found new) (sym (is ∙ ap told_of_answer same)) on);
       stands = λ stands. asked_stands m clear new asked 0 answer (clear_owes m old clear cleared stands) a;
     }
 

@@ -6,6 +6,7 @@ use Rattle.modbus_frame.specs.declared.fault.TransportError.TheVariants.{NotConn
 use Rattle.modbus_client.specs.Matches.{Answer}
 use Rattle.modbus_reconnect.specs.declared.settling.Unsettled.{Unsettled}
 use Rattle.modbus_reconnect.specs.Owes.{leaves_nothing}
+use Rattle.modbus_reconnect.specs.Replies.{fitted}
 use Rattle.modbus_reconnect.specs.Looks.{SettlesLine, LooksAt, ClearsLine}
 use Rattle.modbus_reconnect.specs.Silences.{silences_for}
 use Rattle.modbus_reconnect.specs.SettleState.{SettlingState, LineMeaning}
@@ -46,13 +47,16 @@ abbrev pub next_question : {H I L : Type 0} → LineMeaning H I L → SettlingSt
 next_question m client asked turns =
     question_of (m.heading.header client.ids client.settings.slave) asked turns (reply_silences client)
 
--- A request is sent, and its reply waited for. After that the line is in doubt, unless the answer leaves nothing owed.
+-- A request is sent, and its reply waited for. After that the line is in doubt, unless what was found leaves nothing owed. A response that
+-- can't be the reply is told as that.
 pub record AsksOn {H I L : Type 0} (m : LineMeaning H I L) (old : SettlingState I L) (asked : Asked) (turns : ℕ) (answer : Answer) (new : SettlingState I L) : Type 0 where
   -- the bytes that the call read and did not use
   pub held : List ℕ
-  pub ends : EndsWait m (next_question m old asked turns) old.link new.link held answer
+  pub found : Answer
+  pub ends : EndsWait m (next_question m old asked turns) old.link new.link held found
+  pub told : answer ≡ fitted asked found
   pub line : m.link.line new.link ≡ m.link.line old.link
-  pub rest : new ≡ record old { link = new.link; in_doubt = not (leaves_nothing asked answer held); ids = m.heading.next old.ids }
+  pub rest : new ≡ record old { link = new.link; in_doubt = not (leaves_nothing asked found held); ids = m.heading.next old.ids }
 
 -- nothing is owed on the line of a client that is not in doubt
 abbrev pub IsStanding : {H I L : Type 0} → LineMeaning H I L → SettlingState I L → Type 0

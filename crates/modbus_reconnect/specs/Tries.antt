@@ -14,6 +14,7 @@ use Rattle.modbus_client.specs.State.{ClientState}
 use Rattle.modbus_client.specs.Calls.{Called}
 use Rattle.modbus_client.specs.Ends.{Disconnected}
 use Rattle.modbus_reconnect.specs.Owes.{leaves_nothing}
+use Rattle.modbus_reconnect.specs.Replies.{fitted}
 use Rattle.modbus_reconnect.specs.State.{Settings, ReconnectingState, Meaning}
 use Rattle.modbus_reconnect.specs.Stands.{IsFresh, IsReady}
 
@@ -23,12 +24,15 @@ pub record IsGivenUp {I L : Type 0} (M : LinkMeaning L) (client : ClientState I 
   pub gone : ClientState I L
   pub disconnected : Disconnected M client result gone
 
--- A call is made on this client, which is kept after it where the answer leaves nothing owed. Else it is given up.
+-- A call is made on this client, which is kept after it where what it found leaves nothing owed. Else it is given up. A response that can't
+-- be the reply is told as that.
 pub record CallsOn {H I L : Type 0} (P : Protocol H) (N : Heading H I) (M : LinkMeaning L) (on : ClientState I L) (asked : Asked) (answer : Answer) (kept : Option (ClientState I L)) : Type 0 where
   pub after : ClientState I L
-  pub called : Called P N M on asked answer after
-  pub keeps : kept ≡ (if leaves_nothing asked answer after.held then Some after else None)
-  pub gives_up : leaves_nothing asked answer after.held ≡ false → IsGivenUp M after
+  pub found : Answer
+  pub called : Called P N M on asked found after
+  pub told : answer ≡ fitted asked found
+  pub keeps : kept ≡ (if leaves_nothing asked found after.held then Some after else None)
+  pub gives_up : leaves_nothing asked found after.held ≡ false → IsGivenUp M after
 
 -- One connection to this address is made, within the timeout of these settings: it gives a client of its link, or none, and then the
 -- connector has counted a fault.

@@ -7,7 +7,8 @@ ghost use Rattle.modbus_frame.specs.Meaning.{Asked, meaning};
 ghost use Rattle.modbus_client.specs.Matches.{Answer};
 ghost use Rattle.modbus_reconnect.specs.Tries.{CallsOn};
 
-use crate::owing::is_settled;
+use crate::owing::leaves_nothing;
+use crate::reply::fitted;
 use modbus_client::{Client, LinkClient, Protocol};
 use modbus_frame::{Request, Response, Result};
 use modbus_link::Link;
@@ -17,7 +18,8 @@ pub(crate) trait CallOnce: Sized {
     // what a call may lead to: the answer, and the client that is kept
     ghost calls_on: { Self → Asked → Answer → Option Self → Type 0 };
 
-    /// Makes a call, and keeps the client where the answer leaves nothing owed on its link. Else its link is shut down.
+    /// Makes a call, and keeps the client where what it found leaves nothing owed on its link. Else its link is shut down. A response that
+    /// can't be the reply is told as `PayloadMismatch`.
     fn call_once(self, request: &Request<'_>) -> (Result<Response>, Option<Self>)
         ensures { calls_on self (meaning request.now) result.0 result.1 };
 }
@@ -29,8 +31,10 @@ where
     ghost calls_on = { CallsOn P.protocol P.heading (meaning_of L.input L.output L.line) };
 
     fn call_once(mut self, request: &Request<'_>) -> (Result<Response>, Option<Self>) {
-        let answer = self.call(request.lend());
-        if is_settled(request, &answer) && self.held() == 0 {
+        let found = self.call(request.lend());
+        let is_kept = leaves_nothing(request, &found, self.held());
+        let answer = fitted(request, found);
+        if is_kept {
             return (answer, Some(self));
         }
         // The link is of no more use, whatever its shutdown answers.

@@ -1,9 +1,9 @@
 //! Which responses can be the reply to a request (Modbus Application Protocol V1.1b3, section 6).
 ghost use Rattle.std.specs.Prelude.{◌≡◌, nat_le, ◌==◌, length};
 ghost use Rattle.modbus_frame.specs.Meaning.{meaning};
-ghost use Rattle.modbus_reconnect.specs.Replies.{is_reply_to};
+ghost use Rattle.modbus_reconnect.specs.Replies.{is_reply_to, fitted};
 
-use modbus_frame::{Coils, Quantity, Request, Response, Words};
+use modbus_frame::{Coils, Error, ProtocolError, Quantity, Request, Response, Result, Words};
 
 /// Whether there are at least so many coils: a response fills its last byte up with others.
 fn has_coils(coils: &Coils, quantity: Quantity) -> bool
@@ -62,5 +62,25 @@ pub(crate) fn is_reply_to(request: &Request<'_>, response: &Response) -> bool
         | Request::ReadFifoQueue(_)
         | Request::ReadDeviceIdentification(_, _)
         | Request::Custom(_, _) => true,
+    }
+}
+
+/// What is told of the answer of a call.
+///
+/// # Errors
+/// `PayloadMismatch` with a response that can't be the reply to the request; else that of the call.
+pub(crate) fn fitted(request: &Request<'_>, answer: Result<Response>) -> Result<Response>
+    ensures { result ≡ fitted (meaning request.now) answer }
+{
+    match answer {
+        Ok(Ok(response)) => {
+            if is_reply_to(request, &response) {
+                Ok(Ok(response))
+            } else {
+                Err(Error::Protocol(ProtocolError::PayloadMismatch { response }))
+            }
+        }
+        Ok(Err(code)) => Ok(Err(code)),
+        Err(error) => Err(error),
     }
 }

@@ -9,6 +9,7 @@ ghost use Rattle.modbus_reconnect.specs.Tells.{SendsStanding};
 
 use crate::looking::{IdleLink, look_at};
 use crate::owing::leaves_nothing;
+use crate::reply::fitted;
 use crate::settling::{Unsettled, settle};
 use crate::silences::silences_for;
 use crate::telling::told_of;
@@ -214,7 +215,7 @@ impl<P: Protocol, L: IdleLink> SettlingClient<P, L> {
             silences,
         );
         self.in_doubt = !leaves_nothing(request, &answer, held);
-        answer
+        fitted(request, answer)
     }
 
     /// Sends a request to which no slave replies, as a broadcast (MODBUS over Serial Line V1.02, section 2.1), and reads nothing of a
