@@ -11,10 +11,15 @@ use modbus_server::ProcessError;
 use std::alloc::Global;
 use std::io::{Stdin, Stdout};
 use std::net::SocketAddr;
-use std::time::Duration;
+use std::sync::Wait;
+use std::thread;
+use std::time::{Clock, Duration};
 
 /// How long a connection to a line may take, in milliseconds.
 const CONNECTING: u64 = 10_000;
+
+/// How many milliseconds lie between two tries to reach a line that is gone.
+const PAUSE: u64 = 1_000;
 
 /// The serial line on the standard streams, which was set by `stty raw min 0 time 1`: a tenth of a second without a byte ends a frame.
 pub fn terminal(rt: &HostRuntime) -> TerminalLine<'_, HostRuntime, Stdin, Stdout> {
@@ -28,6 +33,22 @@ pub fn connect(rt: &HostRuntime, address: SocketAddr, silence: u64) -> Option<Ti
     let mut link = TcpConnector::new(rt).connect(address, Some(limit)).ok()?;
     link.set_timeout(Some(Duration::from_millis(silence)));
     Some(TimedTcpLink::new(link))
+}
+
+/// The line behind an address that was gone, once it is reached again.
+pub fn connect_again<R: Wait + Clock>(
+    rt: &HostRuntime,
+    waits: &R,
+    address: SocketAddr,
+    silence: u64,
+) -> TimedTcpLink {
+    for _ in waits.forever() {
+        thread::sleep(waits, Duration::from_millis(PAUSE));
+        if let Some(link) = connect(rt, address, silence) {
+            return link;
+        }
+    }
+    unreachable!()
 }
 
 /// Serves a line until it ends.

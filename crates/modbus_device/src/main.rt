@@ -18,15 +18,22 @@ use std::alloc::Global;
 use std::io::ErrorKind;
 use std::net::SocketAddr;
 use std::process::ExitCode;
+use std::sync::Wait;
+use std::time::Clock;
 use words::{Place, Task};
 
 /// What its messages begin with.
 const PROGRAM: &str = "modbus_device";
 
-/// The status of a line that ended so, which is told.
+/// The status of the line on the standard streams that ended so, which is told.
 fn ended(rt: &HostRuntime, end: Result<(), ProcessError>) -> u8 {
     match end {
-        Ok(()) => 0,
+        Ok(()) => {
+            let _ = eprintln!(rt;
+                "modbus_device: the line has ended; a serial port wants stty raw -echo min 0 time 1"
+            );
+            0
+        }
         Err(error) => {
             let _ = eprintln!(rt; "modbus_device: {error}");
             FAILED
@@ -34,20 +41,37 @@ fn ended(rt: &HostRuntime, end: Result<(), ProcessError>) -> u8 {
     }
 }
 
-/// Serves the line behind this address.
-fn serve_stream(
+/// Tells that the line behind this address is gone, and why.
+fn tell_gone(rt: &HostRuntime, address: SocketAddr, end: Result<(), ProcessError>) {
+    let _ = match end {
+        Ok(()) => eprintln!(rt; "modbus_device: {address} is gone: its input has ended"),
+        Err(error) => eprintln!(rt; "modbus_device: {address} is gone: {error}"),
+    };
+}
+
+/// Serves the line behind this address, and connects anew where it is gone, which is told. The status, where it wasn't there at first, or memory
+/// is refused.
+fn serve_stream<R: Wait + Clock>(
     rt: &HostRuntime,
+    waits: &R,
     address: SocketAddr,
     silence: u64,
     device: &mut LineDevice,
 ) -> u8 {
-    match line::connect(rt, address, silence) {
-        Some(link) => ended(rt, line::serve(rt.alloc(), link, device)),
-        None => {
-            let _ = eprintln!(rt; "modbus_device: no connection to {address}");
-            FAILED
+    let Some(mut link) = line::connect(rt, address, silence) else {
+        let _ = eprintln!(rt; "modbus_device: no connection to {address}");
+        return FAILED;
+    };
+    for _ in waits.forever() {
+        let end = line::serve(rt.alloc(), link, device);
+        if end == Err(ProcessError::NoMemory) {
+            return ended(rt, end);
         }
+        tell_gone(rt, address, end);
+        link = line::connect_again(rt, waits, address, silence);
+        let _ = eprintln!(rt; "modbus_device: {address} is back");
     }
+    unreachable!()
 }
 
 /// Tells why the system refuses a listener.
@@ -132,9 +156,16 @@ fn open_task(rt: &HostRuntime, words: &[String]) -> Result<Opened, u8> {
 }
 
 /// Serves the serial line at this place; the status.
-fn serve_line(rt: &HostRuntime, place: Place, mut device: LineDevice) -> u8 {
+fn serve_line<R: Wait + Clock>(
+    rt: &HostRuntime,
+    waits: &R,
+    place: Place,
+    mut device: LineDevice,
+) -> u8 {
     match place {
-        Place::Stream(address, silence) => serve_stream(rt, address, silence, &mut device),
+        Place::Stream(address, silence) => {
+            serve_stream(rt, waits, address, silence, &mut device)
+        }
         _ => ended(rt, line::serve(rt.alloc(), line::terminal(rt), &mut device)),
     }
 }
@@ -146,7 +177,9 @@ fn main(rt: HostRuntime) -> ExitCode {
     };
     let (address, device) = match open_task(&rt, words.as_slice()) {
         Ok(Opened::Port(address, device)) => (address, device),
-        Ok(Opened::Line(place, device)) => return ExitCode::from(serve_line(&rt, place, device)),
+        Ok(Opened::Line(place, device)) => {
+            return ExitCode::from(serve_line(&rt, &rt, place, device));
+        }
         Err(status) => return ExitCode::from(status),
     };
     let Some(listener) = bind(&rt, address) else {
