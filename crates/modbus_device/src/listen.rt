@@ -6,7 +6,6 @@ use modbus_field::stream::StreamBuffer;
 use modbus_hub::{EventServer, Limits};
 use modbus_link::FlagStop;
 use modbus_ready::{MioReadiness, PolledTcpAcceptor};
-use modbus_turn::InTurn;
 use std::alloc::AllocGlobal;
 use std::net::Net;
 use std::sync::Wait;
@@ -47,7 +46,7 @@ fn open_server<R: Net + AllocGlobal>(
 fn run<R: Wait + Clock>(
     rt: &R,
     server: &mut NetServer,
-    device: &mut InTurn<Device>,
+    device: &mut Device,
     signal: &mut FlagStop,
 ) -> &'static str {
     match server.serve_until(rt, device, Some(Duration::from_secs(IDLE)), signal) {
@@ -60,13 +59,13 @@ fn run<R: Wait + Clock>(
 pub fn serve<R: Net + AllocGlobal + Wait + Clock>(
     rt: &R,
     listener: TcpListener,
-    device: Device,
+    mut device: Device,
 ) -> &'static str {
     let Ok(mut signal) = FlagStop::new(rt.alloc()) else {
         return "no memory";
     };
     match open_server(rt, listener) {
-        Ok(mut server) => run(rt, &mut server, &mut InTurn::new(device), &mut signal),
+        Ok(mut server) => run(rt, &mut server, &mut device, &mut signal),
         Err(fault) => fault,
     }
 }

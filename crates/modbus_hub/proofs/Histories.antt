@@ -4,8 +4,8 @@ use Rattle.std.proofs.lemmas.Bool.{cases_eq}
 use Rattle.std.specs.Prelude.{if◌then◌else◌}
 use Rattle.modbus_service.specs.Answering.{Answering}
 use Rattle.modbus_server.specs.Framing.{Framing}
-use Rattle.modbus_turn.specs.declared.turn.Turn.{Turn}
-use Rattle.modbus_turn.specs.InTurn.{Said, RunOver}
+use Rattle.modbus_hub.specs.declared.turn.Turn.{Turn}
+use Rattle.modbus_hub.specs.Turn.{Said, RunOver}
 use Rattle.modbus_hub.specs.Events.{Event, came, refused, told, turned, dropped, Account, KeyAccount, told_more, after_turn, account_after, account_of, by_key, HasAnyTurn, links_of}
 use Rattle.modbus_hub.specs.Seats.{PolledMeaning, RunsOn, IsTurnOf, StaysOrTurns, DropsNone, ServesInTurn}
 

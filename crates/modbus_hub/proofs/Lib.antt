@@ -1,3 +1,5 @@
+pub mod Rationing
+pub mod Turning
 pub mod Counting
 pub mod Histories
 pub mod Marks

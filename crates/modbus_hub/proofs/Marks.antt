@@ -1,9 +1,9 @@
 -- What is known to be left, over all connections.
-use Rattle.std.proofs.Common.{◌≡◌, ◌≢◌, inl, inr, ◌<◌, ◌≤◌, ◌+◌, ℕ, Option, Some, None, Bool, true, false, if◌then◌else◌, refl, sym, subst, arith, IsTrue}
+use Rattle.std.proofs.Common.{◌≡◌, ◌≢◌, inl, inr, ◌<◌, ◌+◌, ℕ, Option, Some, None, Bool, true, false, if◌then◌else◌, refl, subst, arith, IsTrue}
 use Rattle.std.proofs.lemmas.Bool.{cases_eq}
-use Rattle.slab.specs.Slab.{Slab, get, Updates}
+use Rattle.slab.specs.Slab.{get}
 use Rattle.modbus_hub.specs.Events.{Place}
-use Rattle.modbus_hub.specs.Seats.{SeatsState, KeepsMarks, MarksLeft, is_spent_at, kept}
+use Rattle.modbus_hub.specs.Seats.{SeatsState, KeepsMarks, is_spent_at, kept}
 
 no_both : (b : Bool) → b ≡ false → b ≡ true → ⊥
 no_both b e f = cc

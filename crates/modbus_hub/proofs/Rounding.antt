@@ -5,7 +5,7 @@ use Rattle.modbus_link.specs.Memory.{next_count}
 use Rattle.modbus_link.specs.declared.outside.Failed.{Failed}
 use Rattle.modbus_link.specs.declared.polled.Polled.{Polled}
 use Rattle.modbus_link.specs.declared.polled.Polled.TheVariants as polled
-use Rattle.modbus_turn.specs.declared.turn.Turn.{Turn}
+use Rattle.modbus_hub.specs.declared.turn.Turn.{Turn}
 use Rattle.modbus_hub.specs.Accepts.{with_given, GivesByPolls, GivesLinks, EndsIn, GivesUntil, IsNobody, IsFault}
 use Rattle.modbus_ready.specs.declared.readiness.Ready.{Ready}
 use Rattle.modbus_ready.specs.declared.readiness.Ready.TheVariants.{Peer, Link}

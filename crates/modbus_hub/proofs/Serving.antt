@@ -4,7 +4,7 @@ use Rattle.modbus_link.specs.declared.outside.Failed.{Failed}
 use Rattle.modbus_link.specs.declared.polled.Polled.{Polled}
 use Rattle.modbus_ready.specs.declared.readiness.Ready.{Ready}
 use Rattle.modbus_hub.specs.Events.{Event}
-use Rattle.modbus_hub.specs.Turns.{ServerState, Round, GoesByRounds, RoundAndDrops, TakesRound, TellsRound, TellsRounds}
+use Rattle.modbus_hub.specs.Turns.{ServerState, Round, GoesByRounds, RoundAndDrops, TellsRound, TellsRounds}
 use Rattle.modbus_hub.proofs.Rounding.{comes_both}
 
 module _ {A S L : Type 0} (accepts : A → Result (Polled L) Failed → A → Type 0) (faults : S → ℕ) (found : S → List Ready) where

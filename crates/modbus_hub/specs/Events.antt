@@ -1,10 +1,10 @@
 -- What happens to the connections of one thread, in order, and what that says of the connection under each key.
 use Rattle.std.specs.Prelude.{◌≡◌, ℕ, ◌==◌, List, [], ◌∷◌, ◌++◌, map, Option, Some, None, Bool, true, false, if◌then◌else◌}
 use Rattle.modbus_link.specs.Memory.{next_count}
-use Rattle.modbus_turn.specs.declared.turn.Turn.{Turn}
-use Rattle.modbus_turn.specs.declared.turn.Turn.TheVariants.{Waiting, Spent, Over}
-use Rattle.modbus_turn.specs.InTurn.{Said}
-use Rattle.modbus_turn.specs.Turn.{SeatState}
+use Rattle.modbus_hub.specs.declared.turn.Turn.{Turn}
+use Rattle.modbus_hub.specs.declared.turn.Turn.TheVariants.{Waiting, Spent, Over}
+use Rattle.modbus_hub.specs.Turn.{Said}
+use Rattle.modbus_hub.specs.Turn.{SeatState}
 
 -- why a link that came is dropped at once
 pub data Refusal : Type 0 where

@@ -5,10 +5,10 @@ use Rattle.modbus_link.specs.Outside.{cuts_made, Rose}
 use Rattle.modbus_server.specs.Framing.{Framing}
 use Rattle.modbus_service.specs.Answering.{Answering}
 use Rattle.modbus_service.specs.Exchange.{GivesOutcome}
-use Rattle.modbus_turn.specs.declared.turn.Turn.{Turn}
-use Rattle.modbus_turn.specs.declared.turn.Turn.TheVariants.{Waiting, Spent, Over}
-use Rattle.modbus_turn.specs.InTurn.{Said}
-use Rattle.modbus_turn.specs.Turn.{StandsAlone, RanAlone}
+use Rattle.modbus_hub.specs.declared.turn.Turn.{Turn}
+use Rattle.modbus_hub.specs.declared.turn.Turn.TheVariants.{Waiting, Spent, Over}
+use Rattle.modbus_hub.specs.Turn.{Said}
+use Rattle.modbus_hub.specs.Turn.{SeatStands, SeatEnds}
 use Rattle.slab.specs.Slab.{Slab, get, slab_len}
 use Rattle.modbus_hub.specs.Events.{Event, came, refused, told, turned, dropped, no_memory, Place, KeyAccount, account_of, by_key, HasAnyTurn, links_of}
 
@@ -51,6 +51,33 @@ pub record PolledMeaning (L : Type 0) : Type 1 where
 abbrev pub polled_by : {L : Type 0} → LinkMeaning L → (L → ℕ) → ℕ → PolledMeaning L
 polled_by link not_ready reads = record { link = link; not_ready = not_ready; reads = reads }
 
+-- What happens after these events without the service: links come, under keys that have no connection, or are dropped, and connections are
+-- let go.
+abbrev pub AsksNone : {L : Type 0} → List (Event L) → List (Event L) → Type 0
+AsksNone earlier [] = Unit {0}
+AsksNone earlier (came key link ∷ es) = (account_of key None earlier ≡ None) × AsksNone (earlier ++ came key link ∷ []) es
+AsksNone earlier (refused cause link ∷ es) = AsksNone (earlier ++ refused cause link ∷ []) es
+AsksNone earlier (dropped key ∷ es) = AsksNone (earlier ++ dropped key ∷ []) es
+AsksNone earlier (e ∷ es) = ⊥
+
+module _ (F : Framing) {L : Type 0} (M : LinkMeaning L) where
+  -- there is a connection exactly where there is an account, and it stands for that
+  abbrev pub IsSeatedAs : KeyAccount L → Option (Place L) → Type 0
+  IsSeatedAs None None = Unit {0}
+  IsSeatedAs None (Some place) = ⊥
+  IsSeatedAs (Some account) None = ⊥
+  IsSeatedAs (Some account) (Some place) = IsTrue place.seat.process.connection.is_open × SeatStands F M turns account.first account.own place.seat
+      × (place.seat.link ≡ account.last) × (place.is_spent ≡ account.is_spent)
+
+  -- after these events each connection stands for its account
+  abbrev pub AllStand : List (Event L) → Slab (Place L) → Type 0
+  AllStand history seats = (key : ℕ) → IsSeatedAs (account_of key None history) (get seats key)
+
+  -- The connections stay, whatever happened before: links come and go, and of that, with what was before, this is told.
+  abbrev pub SeatsStay : (List (Event L) → List (Event L) → Type 0) → Slab (Place L) → Slab (Place L) → Type 0
+  SeatsStay Tells old new = (history : List (Event L)) → AllStand history old
+      → (more : List (Event L)) × AsksNone history more × AllStand (history ++ more) new × Tells history more
+
 module _ (F : Framing) {S : Type 0} (A : Answering S) {L : Type 0} (M : PolledMeaning L) where
   -- Where the connection with this account had a turn that ended so, the service goes from one state to another. It stays, but where the
   -- connection is over for want of memory, which may leave the service in another state. One that waits asked its link, which was not ready. One whose reads
@@ -59,7 +86,7 @@ module _ (F : Framing) {S : Type 0} (A : Answering S) {L : Type 0} (M : PolledMe
   EndsTurn None last old new turn = ⊥
   EndsTurn (Some account) last old new Waiting = (new ≡ old) × Rose (M.not_ready account.last) (M.not_ready last)
   EndsTurn (Some account) last old new Spent = (new ≡ old) × UsesUp M.link M.reads account.last last
-  EndsTurn (Some account) last old new (Over result) = RanAlone F A M.link turns account.first account.own last old new result
+  EndsTurn (Some account) last old new (Over result) = SeatEnds F A M.link turns account.first account.own last old new result
 
   -- what an event after these does to the service
   abbrev pub Happens : List (Event L) → S → Event L → S → Type 0
@@ -74,18 +101,10 @@ module _ (F : Framing) {S : Type 0} (A : Answering S) {L : Type 0} (M : PolledMe
   RunsOn earlier old [] new = new ≡ old
   RunsOn earlier old (e ∷ es) new = (next : S) × Happens earlier old e next × RunsOn (earlier ++ e ∷ []) next es new
 
-  -- there is a connection exactly where there is an account, and it stands for that
-  abbrev pub IsSeatedAs : KeyAccount L → Option (Place L) → Type 0
-  IsSeatedAs None None = Unit {0}
-  IsSeatedAs None (Some place) = ⊥
-  IsSeatedAs (Some account) None = ⊥
-  IsSeatedAs (Some account) (Some place) = IsTrue place.seat.process.connection.is_open × StandsAlone F A M.link turns account.first account.own place.seat
-      × (place.seat.link ≡ account.last) × (place.is_spent ≡ account.is_spent)
-
   -- One run of the service over all that happened brought it here, and each connection stands for its account.
   pub record AreSeated (start : S) (history : List (Event L)) (seats : Slab (Place L)) (service : S) : Type 0 where
     pub run : RunsOn [] start history service
-    pub each : (key : ℕ) → IsSeatedAs (account_of key None history) (get seats key)
+    pub each : AllStand F M.link history seats
 
   -- The connections go on, whatever happened before: some more happens, and of all that, with what was before, this is told.
   abbrev pub SeatsGoOn : (List (Event L) → List (Event L) → Type 0) → Slab (Place L) → Slab (Place L) → S → S → Type 0

@@ -5,10 +5,13 @@
 //! connection has the contract of `process` over its own messages.
 #![tactic(auto)]
 
+mod rationed;
 mod seat;
 mod seats;
 mod server;
+mod turn;
 
 pub use seat::Seat;
 pub use seats::{Limits, Seats};
 pub use server::EventServer;
+pub use turn::{Turn, take_turn};

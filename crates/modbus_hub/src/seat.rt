@@ -3,13 +3,13 @@ ghost use Rattle.std.specs.Prelude.{◌≡◌, [], ◌-◌, true, false, IsTrue,
 ghost use Rattle.modbus_link.specs.Line.{meaning_of};
 ghost use Rattle.modbus_link.specs.Outside.{Rose};
 ghost use Rattle.modbus_server.specs.Polled.{Rests};
-ghost use Rattle.modbus_turn.specs.declared.turn.Turn.TheVariants.{Waiting, Spent};
-ghost use Rattle.modbus_turn.specs.Turn.{is_going_on, is_spent, TakesTurn};
+ghost use Rattle.modbus_hub.specs.declared.turn.Turn.TheVariants.{Waiting, Spent};
+ghost use Rattle.modbus_hub.specs.Turn.{is_going_on, is_spent, TakesTurn};
 ghost use Rattle.modbus_hub.specs.Seats.{turns, TakesFew, UsesUp};
 
+use crate::turn::{Turn, take_turn};
 use modbus_link::PolledLink;
 use modbus_server::{Answerer, Framing, PolledProcess};
-use modbus_turn::{InTurn, Turn, take_turn};
 use std::alloc::{AllocError, Global};
 use std::marker::Model;
 
@@ -73,12 +73,11 @@ impl<I: Framing, L: PolledLink + Drop> Seat<I, L> {
     }
 
     /// Takes its turn: serves the link as far as it is ready, as `take_turn` does.
-    pub fn serve<V: Answerer>(&mut self, service: &mut InTurn<V>, reads: u64) -> Turn
+    pub fn serve<V: Answerer>(&mut self, service: &mut V, reads: u64) -> Turn
         requires { IsTrue self.old.seat.process.connection.is_open }
         ensures open { self.new.seat.process.connection.is_open ≡ is_going_on result }
-        ensures own { service.new.ahead ≡ [] }
         ensures turn { TakesTurn I.framing V.answering (meaning_of L.input L.output L.line)
-            self.old.seat self.new.seat service.old.service service.new.service result }
+            self.old.seat self.new.seat service.old service.new result }
         ensures rests { IsTrue (is_going_on result)
             → Rests I.framing self.new.seat.process.connection }
         ensures waited { result ≡ Waiting

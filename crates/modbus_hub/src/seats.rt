@@ -1,14 +1,14 @@
 //! The connections of one thread.
 ghost use Rattle.std.specs.Prelude.{◌≡◌, ◌≢◌, ◌↔◌, ℕ, ◌==◌, ◌≤◌, [], Some, IsTrue, IfOk};
 ghost use Rattle.modbus_link.specs.Line.{meaning_of};
-ghost use Rattle.modbus_turn.specs.declared.turn.Turn.TheVariants.{Spent};
+ghost use Rattle.modbus_hub.specs.declared.turn.Turn.TheVariants.{Spent};
 ghost use Rattle.slab.specs.Slab.{Updates, get, slab_len};
-ghost use Rattle.modbus_hub.specs.Seats.{SeatsGoOn, polled_by, IsTurnOf, Admits, TurnsIfSpent, ServesSpent, IsDrop, KeepsMarks, MarksLeft, TakesFewAt, NoMore, OneMore, is_spent_at, kept};
+ghost use Rattle.modbus_hub.specs.Seats.{SeatsGoOn, SeatsStay, polled_by, IsTurnOf, Admits, TurnsIfSpent, ServesSpent, IsDrop, KeepsMarks, MarksLeft, TakesFewAt, NoMore, OneMore, is_spent_at, kept};
 
 use crate::seat::Seat;
+use crate::turn::Turn;
 use modbus_link::PolledLink;
 use modbus_server::{Answerer, Framing};
-use modbus_turn::{InTurn, Turn};
 use slab::Slab;
 use std::alloc::{AllocError, Global};
 use std::marker::Model;
@@ -94,17 +94,14 @@ impl<I: Framing, L: PolledLink + Drop> Seats<I, L> {
     ///
     /// # Errors
     /// `AllocError` where memory is refused; the link is dropped.
-    pub fn admit<V: Answerer>(&mut self, link: L, service: &InTurn<V>) -> Result<usize, AllocError>
+    pub fn admit(&mut self, link: L) -> Result<usize, AllocError>
         ensures spent { self.new.has_spent ≡ self.old.has_spent }
         ensures marks { KeepsMarks self.old self.new }
         ensures one { OneMore self.old self.new }
         ensures key { IfOk result (λ key. key ≡ self.old.seats.vacant_key) }
-        ensures goes_on { SeatsGoOn I.framing V.answering
-            (polled_by (meaning_of L.input L.output L.line) L.not_ready self.old.reads)
-            (Admits link result) self.old.seats self.new.seats service.now.service
-            service.now.service }
+        ensures stays { SeatsStay I.framing (meaning_of L.input L.output L.line)
+            (Admits link result) self.old.seats self.new.seats }
     {
-        let _service = service;
         if self.seats.reserve(1).is_err() {
             return Err(AllocError);
         }
@@ -118,12 +115,11 @@ impl<I: Framing, L: PolledLink + Drop> Seats<I, L> {
     ///
     /// Only this connection is told something, by the service's own run; what it is told and how its turn ends is the turn that
     /// `take_turn` gives it.
-    pub fn serve<V: Answerer>(&mut self, key: usize, service: &mut InTurn<V>) -> Option<Turn>
-        ensures own { service.new.ahead ≡ [] }
+    pub fn serve<V: Answerer>(&mut self, key: usize, service: &mut V) -> Option<Turn>
         ensures goes_on { SeatsGoOn I.framing V.answering
             (polled_by (meaning_of L.input L.output L.line) L.not_ready self.old.reads)
-            (IsTurnOf key result) self.old.seats self.new.seats service.old.service
-            service.new.service }
+            (IsTurnOf key result) self.old.seats self.new.seats service.old
+            service.new }
         ensures others { (other : _) → other ≢ key
             → get self.new.seats other ≡ get self.old.seats other }
         ensures bounded { TakesFewAt (meaning_of L.input L.output L.line) self.old.reads
@@ -135,13 +131,11 @@ impl<I: Framing, L: PolledLink + Drop> Seats<I, L> {
         ensures no_more { NoMore self.old self.new }
     {
         let Some(seat) = self.seats.get_mut(key) else {
-            let _same = service.service();
             return None;
         };
         if !seat.is_open() {
             // a connection that is over does not stay
             let _ = self.seats.try_remove(key);
-            let _same = service.service();
             return None;
         }
         match seat.serve(service, self.limits.reads) {
@@ -168,12 +162,11 @@ impl<I: Framing, L: PolledLink + Drop> Seats<I, L> {
     }
 
     // Gives the connection under a key another turn, where the reads of its last turn were used up.
-    fn serve_if_spent<V: Answerer>(&mut self, key: usize, service: &mut InTurn<V>)
-        ensures own { service.new.ahead ≡ [] }
+    fn serve_if_spent<V: Answerer>(&mut self, key: usize, service: &mut V)
         ensures goes_on { SeatsGoOn I.framing V.answering
             (polled_by (meaning_of L.input L.output L.line) L.not_ready self.old.reads)
             (TurnsIfSpent key (get self.old.seats key)) self.old.seats self.new.seats
-            service.old.service service.new.service }
+            service.old service.new }
         ensures others { (other : ℕ) → other ≢ key
             → get self.new.seats other ≡ get self.old.seats other }
         ensures stays { IsTrue self.old.has_spent → IsTrue self.new.has_spent }
@@ -183,22 +176,18 @@ impl<I: Framing, L: PolledLink + Drop> Seats<I, L> {
     {
         if self.is_spent(key) {
             let _ = self.serve(key, service);
-        } else {
-            let _same = service.service();
         }
     }
 
     /// Gives each connection another turn of which the reads of its last turn were used up.
-    pub fn serve_spent<V: Answerer>(&mut self, service: &mut InTurn<V>)
-        ensures own { service.new.ahead ≡ [] }
+    pub fn serve_spent<V: Answerer>(&mut self, service: &mut V)
         ensures goes_on { SeatsGoOn I.framing V.answering
             (polled_by (meaning_of L.input L.output L.line) L.not_ready self.old.reads)
-            (ServesSpent self.old.seats) self.old.seats self.new.seats service.old.service
-            service.new.service }
+            (ServesSpent self.old.seats) self.old.seats self.new.seats service.old
+            service.new }
         ensures marks { MarksLeft self.new }
         ensures no_more { NoMore self.old self.new }
     {
-        let _before = service.service();
         self.has_spent = false;
         'keys: for key in 0..self.seats.capacity() {
             self.serve_if_spent(key, service);
@@ -206,16 +195,14 @@ impl<I: Framing, L: PolledLink + Drop> Seats<I, L> {
     }
 
     // Lets the connection under a key go, unless it was served since this was last asked, or is new.
-    fn drop_if_idle<V: Answerer>(&mut self, key: usize, service: &InTurn<V>)
-        ensures goes_on { SeatsGoOn I.framing V.answering
-            (polled_by (meaning_of L.input L.output L.line) L.not_ready self.old.reads)
-            IsDrop self.old.seats self.new.seats service.now.service service.now.service }
+    fn drop_if_idle(&mut self, key: usize)
+        ensures stays { SeatsStay I.framing (meaning_of L.input L.output L.line) IsDrop
+            self.old.seats self.new.seats }
         ensures lets_go { Updates self.old.seats self.new.seats key
             (kept (get self.old.seats key)) }
         ensures spent { self.new.has_spent ≡ self.old.has_spent }
         ensures no_more { NoMore self.old self.new }
     {
-        let _service = service;
         let Some(idle) = self.seats.get_mut(key) else {
             return;
         };
@@ -226,18 +213,16 @@ impl<I: Framing, L: PolledLink + Drop> Seats<I, L> {
     }
 
     /// Lets each connection go that was not served since the last call of this, and came before it. The others stay as they are.
-    pub fn drop_idle<V: Answerer>(&mut self, service: &InTurn<V>)
-        ensures goes_on { SeatsGoOn I.framing V.answering
-            (polled_by (meaning_of L.input L.output L.line) L.not_ready self.old.reads)
-            IsDrop self.old.seats self.new.seats service.now.service service.now.service }
+    pub fn drop_idle(&mut self)
+        ensures stays { SeatsStay I.framing (meaning_of L.input L.output L.line) IsDrop
+            self.old.seats self.new.seats }
         ensures lets_go { (key : ℕ) → get self.new.seats key ≡ kept (get self.old.seats key) }
         ensures spent { self.new.has_spent ≡ self.old.has_spent }
         ensures marks { KeepsMarks self.old self.new }
         ensures no_more { NoMore self.old self.new }
     {
-        let _service = service;
         'keys: for key in 0..self.seats.capacity() {
-            self.drop_if_idle(key, service);
+            self.drop_if_idle(key);
         }
     }
 }

@@ -4,7 +4,7 @@ ghost use Rattle.modbus_ready.specs.declared.readiness.Ready.TheVariants.{Peer};
 ghost use Rattle.modbus_link.specs.Line.{meaning_of};
 ghost use Rattle.modbus_link.specs.Outside.{Rose};
 ghost use Rattle.slab.specs.Slab.{get, slab_len};
-ghost use Rattle.modbus_hub.specs.Seats.{SeatsGoOn, polled_by, IsDrop, NoMore, OneMore, KeepsLimit, KeepsMarks, MarksLeft, kept};
+ghost use Rattle.modbus_hub.specs.Seats.{SeatsGoOn, SeatsStay, polled_by, IsDrop, NoMore, OneMore, KeepsLimit, KeepsMarks, MarksLeft, kept};
 ghost use Rattle.modbus_hub.specs.Turns.{AcceptsNext, AcceptsAsked, Brings, IsPeerFound, ServesFound, ServesLeft, TakesRound, TellsRound, TellsRounds};
 
 use crate::seats::{Limits, Seats};
@@ -12,7 +12,6 @@ use modbus_frame::Terminated;
 use modbus_link::{Failed, Polled, PolledLink, Stop};
 use modbus_ready::{PolledAcceptor, Readiness, Ready};
 use modbus_server::{Answerer, Framing};
-use modbus_turn::InTurn;
 use std::alloc::{AllocError, Global};
 use std::marker::Model;
 use std::sync::Wait;
@@ -100,23 +99,20 @@ where
     }
 
     // Takes a link under the next key. One that can't be watched, or for which memory is refused, is dropped and counted.
-    fn admit<V: Answerer>(&mut self, mut link: A::Link, service: &InTurn<V>)
+    fn admit(&mut self, mut link: A::Link)
         ensures acceptor { self.new.acceptor ≡ self.old.acceptor }
         ensures found { S.found self.new.readiness ≡ S.found self.old.readiness }
         ensures later { S.faults self.old.readiness ≤ S.faults self.new.readiness }
         ensures one { OneMore self.old.seats self.new.seats }
         ensures marks { KeepsMarks self.old.seats self.new.seats }
         ensures asked { self.new.is_asked ≡ self.old.is_asked }
-        ensures goes_on { SeatsGoOn I.framing V.answering
-            (polled_by (meaning_of A.Link.input A.Link.output A.Link.line) A.Link.not_ready
-            self.old.seats.reads)
-            (Brings S.faults link self.old self.new) self.old.seats.seats self.new.seats.seats
-            service.now.service service.now.service }
+        ensures stays { SeatsStay I.framing (meaning_of A.Link.input A.Link.output A.Link.line)
+            (Brings S.faults link self.old self.new) self.old.seats.seats self.new.seats.seats }
     {
         let key = self.seats.next_key();
         match self.readiness.watch(&mut link, key) {
             Err(Failed) => {}
-            Ok(()) => match self.seats.admit(link, service) {
+            Ok(()) => match self.seats.admit(link) {
                 Ok(_key) => {}
                 Err(AllocError) => {
                     self.unseated = self.unseated.saturating_add(1);
@@ -126,25 +122,21 @@ where
     }
 
     // Accepts the next peer that waits, where there is room; whether another may wait then. After a fault the others wait for the next try.
-    fn accept_one<V: Answerer>(&mut self, service: &InTurn<V>) -> bool
+    fn accept_one(&mut self) -> bool
         ensures found { S.found self.new.readiness ≡ S.found self.old.readiness }
         ensures later { S.faults self.old.readiness ≤ S.faults self.new.readiness }
         ensures limit { KeepsLimit self.old.seats self.new.seats }
         ensures marks { KeepsMarks self.old.seats self.new.seats }
-        ensures goes_on { SeatsGoOn I.framing V.answering
-            (polled_by (meaning_of A.Link.input A.Link.output A.Link.line) A.Link.not_ready
-            self.old.seats.reads)
+        ensures stays { SeatsStay I.framing (meaning_of A.Link.input A.Link.output A.Link.line)
             (AcceptsNext A.accepts S.faults result self.old self.new) self.old.seats.seats
-            self.new.seats.seats
-            service.now.service service.now.service }
+            self.new.seats.seats }
     {
-        let _service = service;
         if self.seats.is_full() {
             return false;
         }
         match self.acceptor.poll_accept() {
             Ok(Polled::Ready(link)) => {
-                self.admit(link, service);
+                self.admit(link);
                 true
             }
             Ok(Polled::Pending) => {
@@ -156,29 +148,24 @@ where
     }
 
     // Accepts all peers that wait, up to the limit.
-    fn accept_all<V: Answerer>(&mut self, service: &InTurn<V>)
+    fn accept_all(&mut self)
         ensures found { S.found self.new.readiness ≡ S.found self.old.readiness }
         ensures later { S.faults self.old.readiness ≤ S.faults self.new.readiness }
         ensures limit { KeepsLimit self.old.seats self.new.seats }
         ensures marks { KeepsMarks self.old.seats self.new.seats }
-        ensures goes_on { SeatsGoOn I.framing V.answering
-            (polled_by (meaning_of A.Link.input A.Link.output A.Link.line) A.Link.not_ready
-            self.old.seats.reads)
+        ensures stays { SeatsStay I.framing (meaning_of A.Link.input A.Link.output A.Link.line)
             (AcceptsAsked A.accepts S.faults self.old self.new) self.old.seats.seats
-            self.new.seats.seats
-            service.now.service service.now.service }
+            self.new.seats.seats }
     {
-        let _service = service;
         'peers: for _ in 0..u64::MAX {
-            if !self.accept_one(service) {
+            if !self.accept_one() {
                 return;
             }
         }
     }
 
     // Does what is to be done where this may be ready.
-    fn take<V: Answerer>(&mut self, ready: Ready, service: &mut InTurn<V>)
-        ensures own { service.new.ahead ≡ [] }
+    fn take<V: Answerer>(&mut self, ready: Ready, service: &mut V)
         ensures acceptor { self.new.acceptor ≡ self.old.acceptor }
         ensures readiness { self.new.readiness ≡ self.old.readiness }
         ensures unseated { self.new.unseated ≡ self.old.unseated }
@@ -190,7 +177,7 @@ where
             (polled_by (meaning_of A.Link.input A.Link.output A.Link.line) A.Link.not_ready
             self.old.seats.reads)
             (ServesFound (ready ∷ []))
-            self.old.seats.seats self.new.seats.seats service.old.service service.new.service }
+            self.old.seats.seats self.new.seats.seats service.old service.new }
     {
         match ready {
             Ready::Link(key) => {
@@ -198,14 +185,12 @@ where
             }
             Ready::Peer => {
                 self.is_asked = true;
-                let _same = service.service();
             }
         }
     }
 
     // Gives each connection its turn that the last wait found ready.
-    fn serve_ready<V: Answerer>(&mut self, service: &mut InTurn<V>)
-        ensures own { service.new.ahead ≡ [] }
+    fn serve_ready<V: Answerer>(&mut self, service: &mut V)
         ensures acceptor { self.new.acceptor ≡ self.old.acceptor }
         ensures readiness { self.new.readiness ≡ self.old.readiness }
         ensures unseated { self.new.unseated ≡ self.old.unseated }
@@ -217,9 +202,8 @@ where
             (polled_by (meaning_of A.Link.input A.Link.output A.Link.line) A.Link.not_ready
             self.old.seats.reads)
             (ServesFound (S.found self.old.readiness)) self.old.seats.seats self.new.seats.seats
-            service.old.service service.new.service }
+            service.old service.new }
     {
-        let _before = service.service();
         'ready: for index in 0..self.readiness.ready().len() {
             let ready = self.readiness.ready()[index];
             self.take(ready, service);
@@ -227,8 +211,7 @@ where
     }
 
     // Gives each connection another turn whose reads were used up.
-    fn serve_left<V: Answerer>(&mut self, service: &mut InTurn<V>)
-        ensures own { service.new.ahead ≡ [] }
+    fn serve_left<V: Answerer>(&mut self, service: &mut V)
         ensures acceptor { self.new.acceptor ≡ self.old.acceptor }
         ensures readiness { self.new.readiness ≡ self.old.readiness }
         ensures unseated { self.new.unseated ≡ self.old.unseated }
@@ -239,31 +222,25 @@ where
             (polled_by (meaning_of A.Link.input A.Link.output A.Link.line) A.Link.not_ready
             self.old.seats.reads)
             (ServesLeft self.old.seats)
-            self.old.seats.seats self.new.seats.seats service.old.service service.new.service }
+            self.old.seats.seats self.new.seats.seats service.old service.new }
     {
         if self.seats.has_spent() {
             self.seats.serve_spent(service);
-        } else {
-            let _same = service.service();
         }
     }
 
     // Accepts the peers that wait, where one may.
-    fn accept_asked<V: Answerer>(&mut self, service: &InTurn<V>)
+    fn accept_asked(&mut self)
         ensures found { S.found self.new.readiness ≡ S.found self.old.readiness }
         ensures later { S.faults self.old.readiness ≤ S.faults self.new.readiness }
         ensures limit { KeepsLimit self.old.seats self.new.seats }
         ensures marks { KeepsMarks self.old.seats self.new.seats }
-        ensures goes_on { SeatsGoOn I.framing V.answering
-            (polled_by (meaning_of A.Link.input A.Link.output A.Link.line) A.Link.not_ready
-            self.old.seats.reads)
+        ensures stays { SeatsStay I.framing (meaning_of A.Link.input A.Link.output A.Link.line)
             (AcceptsAsked A.accepts S.faults self.old self.new) self.old.seats.seats
-            self.new.seats.seats
-            service.now.service service.now.service }
+            self.new.seats.seats }
     {
-        let _service = service;
         if self.is_asked {
-            self.accept_all(service);
+            self.accept_all();
         }
     }
 
@@ -286,10 +263,9 @@ where
     /// `Failed`, only where the count of faults of the source of readiness rose; then nothing was done.
     pub fn turn<V: Answerer>(
         &mut self,
-        service: &mut InTurn<V>,
+        service: &mut V,
         timeout: Option<Duration>,
     ) -> Result<(), Failed>
-        ensures own { service.new.ahead ≡ [] }
         ensures later { S.faults self.old.readiness ≤ S.faults self.new.readiness }
         ensures cause { OnErr result (Rose (S.faults self.old.readiness)
             (S.faults self.new.readiness)) }
@@ -299,49 +275,44 @@ where
             (polled_by (meaning_of A.Link.input A.Link.output A.Link.line) A.Link.not_ready
             self.old.seats.reads)
             (TakesRound A.accepts S.faults S.found self.old self.new result) self.old.seats.seats
-            self.new.seats.seats service.old.service service.new.service }
+            self.new.seats.seats service.old service.new }
     {
-        let _before = service.service();
         let patience = self.patience(timeout);
         match self.readiness.wait(patience) {
             Err(failed) => Err(failed),
             Ok(()) => {
                 self.serve_left(service);
                 self.serve_ready(service);
-                self.accept_asked(service);
+                self.accept_asked();
                 Ok(())
             }
         }
     }
 
     /// Lets each connection go that was not served since the last call of this, and came before it.
-    pub fn drop_idle<V: Answerer>(&mut self, service: &InTurn<V>)
+    pub fn drop_idle(&mut self)
         ensures acceptor { self.new.acceptor ≡ self.old.acceptor }
         ensures readiness { self.new.readiness ≡ self.old.readiness }
         ensures asked { self.new.is_asked ≡ self.old.is_asked }
         ensures unseated { self.new.unseated ≡ self.old.unseated }
         ensures no_more { NoMore self.old.seats self.new.seats }
         ensures marks { KeepsMarks self.old.seats self.new.seats }
-        ensures goes_on { SeatsGoOn I.framing V.answering
-            (polled_by (meaning_of A.Link.input A.Link.output A.Link.line) A.Link.not_ready
-            self.old.seats.reads) IsDrop
-            self.old.seats.seats
-            self.new.seats.seats service.now.service service.now.service }
+        ensures stays { SeatsStay I.framing (meaning_of A.Link.input A.Link.output A.Link.line)
+            IsDrop self.old.seats.seats self.new.seats.seats }
         ensures lets_go { (key : ℕ) → get self.new.seats.seats key
             ≡ kept (get self.old.seats.seats key) }
     {
-        self.seats.drop_idle(service);
+        self.seats.drop_idle();
     }
 
     // A round, and then, where it is due, lets the idle connections go.
     fn round<R: Clock, V: Answerer>(
         &mut self,
         rt: &R,
-        service: &mut InTurn<V>,
+        service: &mut V,
         idle: Option<Duration>,
         swept: &mut Option<Instant>,
     ) -> Result<(), Failed>
-        ensures own { service.new.ahead ≡ [] }
         ensures later { S.faults self.old.readiness ≤ S.faults self.new.readiness }
         ensures cause { OnErr result (Rose (S.faults self.old.readiness)
             (S.faults self.new.readiness)) }
@@ -351,7 +322,7 @@ where
             (polled_by (meaning_of A.Link.input A.Link.output A.Link.line) A.Link.not_ready
             self.old.seats.reads)
             (TellsRound A.accepts S.faults S.found self.old self.new result) self.old.seats.seats
-            self.new.seats.seats service.old.service service.new.service }
+            self.new.seats.seats service.old service.new }
     {
         let timeout = shorter(idle, Duration::from_millis(LOOK));
         match self.turn(service, timeout) {
@@ -359,7 +330,7 @@ where
             Ok(()) => {
                 if is_due(rt, *swept, idle) {
                     *swept = Instant::now(rt).ok();
-                    self.drop_idle(service);
+                    self.drop_idle();
                 }
                 Ok(())
             }
@@ -379,11 +350,10 @@ where
     pub fn serve_until<R: Wait + Clock, V: Answerer, X: Stop>(
         &mut self,
         rt: &R,
-        service: &mut InTurn<V>,
+        service: &mut V,
         idle: Option<Duration>,
         abort_signal: &mut X,
     ) -> Result<Terminated, Failed>
-        ensures own { service.new.ahead ≡ [] }
         ensures aborted { OnOk result ((result ≡ Ok Terminated.Aborted)
             × Rose (X.stops abort_signal.old) (X.stops abort_signal.new)) }
         ensures cause { OnErr result (Rose (S.faults self.old.readiness)
@@ -394,9 +364,8 @@ where
             (polled_by (meaning_of A.Link.input A.Link.output A.Link.line) A.Link.not_ready
             self.old.seats.reads)
             (TellsRounds A.accepts S.faults S.found self.old self.new result) self.old.seats.seats
-            self.new.seats.seats service.old.service service.new.service }
+            self.new.seats.seats service.old service.new }
     {
-        let _before = service.service();
         let mut swept = Instant::now(rt).ok();
         'rounds: for _ in rt.forever() {
             if abort_signal.is_set() {

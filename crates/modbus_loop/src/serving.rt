@@ -9,7 +9,6 @@ use modbus_rtu::Inbox;
 use modbus_server::Framing;
 use modbus_server::tcp::AduBuffer;
 use modbus_store::{RegisterStore, Sizes, StoreError};
-use modbus_turn::InTurn;
 use std::alloc::{AllocGlobal, Global};
 use std::net::Net;
 use std::sync::Wait;
@@ -39,7 +38,7 @@ fn open_store(alloc: Global, broadcast: bool) -> Result<RegisterStore, StoreErro
 fn serve_listener<I: Framing, R: Net + AllocGlobal + Wait + Clock>(
     rt: &R,
     listener: TcpListener,
-    store: RegisterStore,
+    mut store: RegisterStore,
     idle: Duration,
 ) -> &'static str {
     let Ok(mut signal) = FlagStop::new(rt.alloc()) else {
@@ -62,8 +61,7 @@ fn serve_listener<I: Framing, R: Net + AllocGlobal + Wait + Clock>(
         readiness,
         limits,
     );
-    let mut service = InTurn::new(store);
-    match server.serve_until(rt, &mut service, Some(idle), &mut signal) {
+    match server.serve_until(rt, &mut store, Some(idle), &mut signal) {
         Ok(_) => "stopped",
         Err(_) => "epoll fault",
     }

@@ -8,7 +8,6 @@ use modbus_ready::{Ready, ScheduledAcceptor, ScheduledReadiness};
 use modbus_server::Terminated;
 use modbus_server::tcp::AduBuffer;
 use modbus_store::{RegisterStore, Sizes, StoreError};
-use modbus_turn::InTurn;
 use std::alloc::{AllocError, Global};
 use std::process::Abort;
 use std::sync::Wait;
@@ -102,7 +101,7 @@ fn server<'a>(
 fn serve<R: Wait + Clock + Abort>(
     rt: &R,
     server: &mut TwoLinks<'_>,
-    service: &mut InTurn<RegisterStore>,
+    service: &mut RegisterStore,
 ) {
     let ended = server.serve_until(rt, service, None, &mut MemoryStop::new(5));
     check(rt, ended, Ok(Terminated::Aborted));
@@ -114,7 +113,7 @@ fn serve_both<R: Wait + Clock + Abort>(
     rt: &R,
     alloc: Global,
     links: &mut Pair,
-    service: &mut InTurn<RegisterStore>,
+    service: &mut RegisterStore,
 ) -> Result<(), AllocError> {
     let acceptor = acceptor(alloc, links)?;
     serve(rt, &mut server(alloc, acceptor)?, service);
@@ -132,9 +131,9 @@ fn serve_device<R: Wait + Clock + Abort>(
     alloc: Global,
     links: &mut Pair,
 ) -> Result<RegisterStore, Fail> {
-    let mut turns = InTurn::new(device(alloc)?);
-    serve_both(rt, alloc, links, &mut turns)?;
-    Ok(turns.into_service())
+    let mut store = device(alloc)?;
+    serve_both(rt, alloc, links, &mut store)?;
+    Ok(store)
 }
 
 /// Serves both, and compares what was written to the device and what each has got.

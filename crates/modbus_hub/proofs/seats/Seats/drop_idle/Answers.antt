@@ -1,7 +1,7 @@
 use Rattle.std.proofs.Common.{◌∙◌}
 use Rattle.modbus_link.specs.Line.{meaning_of}
-use Rattle.modbus_hub.specs.Seats.{polled_by, IsDrop}
-use Rattle.modbus_hub.proofs.Seating.{go_both}
+use Rattle.modbus_hub.specs.Seats.{IsDrop}
+use Rattle.modbus_hub.proofs.Seating.{stay_both}
 use Rattle.modbus_hub.proofs.Counting.{none_more}
 use Rattle.modbus_hub.proofs.Rounds.{drops_both, drops_below, same_above}
 use Rattle.modbus_hub.proofs.seats.Seats.drop_idle.Goals as goal
@@ -14,8 +14,8 @@ keys-preserved g c =
     let u = c.drop_if_idle.ensures.lets_go in (
       c.drop_if_idle.ensures.spent ∙ c.keys.invariant.0,
       none_more c.args.self.now c.keys.self c.drop_if_idle.new.self c.keys.invariant.1 c.drop_if_idle.ensures.no_more,
-      go_both g.I.Framing.framing g.V.Answerer.answering (polled_by (meaning_of g.L.Ends.input g.L.Ends.output g.L.Ends.line) g.L.PolledLink.not_ready c.args.self.now.reads) IsDrop IsDrop IsDrop old now next c.args.service.now.service c.args.service.now.service c.args.service.now.service
-          c.keys.invariant.2 (rw (c.keys.invariant.1.0) at c.drop_if_idle.ensures.goes_on) drops_both,
+      stay_both g.I.Framing.framing (meaning_of g.L.Ends.input g.L.Ends.output g.L.Ends.line) IsDrop IsDrop IsDrop old now next
+          c.keys.invariant.2 c.drop_if_idle.ensures.stays drops_both,
       drops_below old now next c.keys.key u c.keys.invariant.3 c.keys.invariant.4,
       same_above old now next c.keys.key u.others c.keys.invariant.4,
     )

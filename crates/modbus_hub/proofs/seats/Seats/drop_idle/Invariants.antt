@@ -1,11 +1,11 @@
 use Rattle.std.proofs.Common.{◌≡◌, ◌≤◌, ◌<◌, ℕ}
 use Rattle.modbus_link.specs.Line.{meaning_of}
 use Rattle.slab.specs.Slab.{get}
-use Rattle.modbus_hub.specs.Seats.{polled_by, NoMore, SeatsGoOn, IsDrop, kept}
+use Rattle.modbus_hub.specs.Seats.{NoMore, SeatsStay, IsDrop, kept}
 use Rattle.modbus_hub.proofs.seats.Seats.drop_idle.Given as goal
 
 abbrev pub invariant-keys : goal.invariant-keys
 invariant-keys g l = (l.self.has_spent ≡ l.fn.self.has_spent) × NoMore l.fn.self l.self
-    × SeatsGoOn g.I.Framing.framing g.V.Answerer.answering (polled_by (meaning_of g.L.Ends.input g.L.Ends.output g.L.Ends.line) g.L.PolledLink.not_ready l.fn.self.reads) IsDrop l.fn.self.seats l.self.seats l.fn.service.service l.fn.service.service
+    × SeatsStay g.I.Framing.framing (meaning_of g.L.Ends.input g.L.Ends.output g.L.Ends.line) IsDrop l.fn.self.seats l.self.seats
     × ((key : ℕ) → key < l.key → get l.self.seats key ≡ kept (get l.fn.self.seats key))
     × ((key : ℕ) → l.key ≤ key → get l.self.seats key ≡ get l.fn.self.seats key)

@@ -2,21 +2,20 @@ use Rattle.std.proofs.Common.{rules, ◌≡◌, Some}
 use Rattle.slab.specs.Slab.{ContainsKey, get}
 use Rattle.slab.proofs.SlabLemmas.{Updates-with_value}
 use Rattle.modbus_link.specs.Line.{meaning_of}
-use Rattle.modbus_hub.specs.Seats.{polled_by}
 use Rattle.modbus_hub.proofs.Seating.{let_go, kept_fresh, updates_both}
 use Rattle.modbus_hub.proofs.seats.Seats.drop_if_idle.Goals as goal
 
-pub returns-then-take_fresh-clause-goes_on : goal.returns-then-take_fresh-clause-goes_on
-returns-then-take_fresh-clause-goes_on g c =
+pub returns-then-take_fresh-clause-stays : goal.returns-then-take_fresh-clause-stays
+returns-then-take_fresh-clause-stays g c =
     let olds = c.self.inside.seats in
     let here : get olds c.args.key ≡ Some c.in-Some.idle.now = search rules in
     let present : ContainsKey olds c.args.key = search rules in
-    rw (← c.self.view_is) (kept_fresh g.I.Framing.framing g.V.Answerer.answering (polled_by (meaning_of g.L.Ends.input g.L.Ends.output g.L.Ends.line) g.L.PolledLink.not_ready c.self.inside.limits.reads) c.args.key olds _ c.in-Some.idle.now c.take_fresh.new.self c.args.service.now.service here
+    rw (← c.self.view_is) (kept_fresh g.I.Framing.framing (meaning_of g.L.Ends.input g.L.Ends.output g.L.Ends.line) c.args.key olds _ c.in-Some.idle.now c.take_fresh.new.self here
     c.take_fresh.ensures.now (Updates-with_value olds c.args.key c.take_fresh.new.self present))
 
-pub returns-clause-goes_on : goal.returns-clause-goes_on
-returns-clause-goes_on g c =
+pub returns-clause-stays : goal.returns-clause-stays
+returns-clause-stays g c =
     let olds = c.self.inside.seats in
     let present : ContainsKey olds c.args.key = search rules in
-    rw (← c.self.view_is) (let_go g.I.Framing.framing g.V.Answerer.answering (polled_by (meaning_of g.L.Ends.input g.L.Ends.output g.L.Ends.line) g.L.PolledLink.not_ready c.self.inside.limits.reads) c.args.key olds c.try_remove.new.self c.args.service.now.service
+    rw (← c.self.view_is) (let_go g.I.Framing.framing (meaning_of g.L.Ends.input g.L.Ends.output g.L.Ends.line) c.args.key olds c.try_remove.new.self
     (updates_both olds _ c.try_remove.new.self c.args.key _ _ (Updates-with_value olds c.args.key c.take_fresh.new.self present) c.try_remove.ensures.updates))

@@ -10,9 +10,9 @@ pub returns-then-is_spent-clause-goes_on : goal.returns-then-is_spent-clause-goe
 returns-then-is_spent-clause-goes_on g c =
     let meaning = polled_by (meaning_of g.L.Ends.input g.L.Ends.output g.L.Ends.line) g.L.PolledLink.not_ready c.args.self.now.reads in
     let spent : IsTrue (is_spent_at (get c.args.self.now.seats c.args.key)) = search rules in
-    go_as g.I.Framing.framing g.V.Answerer.answering meaning (Turned g.I.Framing.framing g.V.Answerer.answering meaning c.args.key) (TurnsIfSpent c.args.key (get c.args.self.now.seats c.args.key))
-    c.args.self.now.seats c.serve.new.self.seats c.args.service.now.service c.serve.new.service.service
-    (turned_where g.I.Framing.framing g.V.Answerer.answering meaning c.args.key c.serve.result c.args.self.now.seats c.serve.new.self.seats c.args.service.now.service c.serve.new.service.service spent c.serve.ensures.goes_on)
+    go_as g.I.Framing.framing g.V.Answerer.answering meaning (Turned c.args.key) (TurnsIfSpent c.args.key (get c.args.self.now.seats c.args.key))
+    c.args.self.now.seats c.serve.new.self.seats c.args.service.now c.serve.new.service
+    (turned_where g.I.Framing.framing g.V.Answerer.answering meaning c.args.key c.serve.result c.args.self.now.seats c.serve.new.self.seats c.args.service.now c.serve.new.service spent c.serve.ensures.goes_on)
     (λ history more says. (says.0, λ is. says.1))
 
 no_both : (b : Bool) → b ≡ false → b ≡ true → ⊥
@@ -22,5 +22,5 @@ pub returns-else-is_spent-clause-goes_on : goal.returns-else-is_spent-clause-goe
 returns-else-is_spent-clause-goes_on g c =
     let unspent : is_spent_at (get c.args.self.now.seats c.args.key) ≡ false = search rules in
     go_same g.I.Framing.framing g.V.Answerer.answering (polled_by (meaning_of g.L.Ends.input g.L.Ends.output g.L.Ends.line) g.L.PolledLink.not_ready c.args.self.now.reads) (TurnsIfSpent c.args.key (get c.args.self.now.seats c.args.key))
-    c.args.self.now.seats c.args.self.now.seats c.args.service.now.service (λ key. refl)
-    (λ start history all. ((refl, stays_none history, tt), λ spent. absurd (no_both (is_spent_at (get c.args.self.now.seats c.args.key)) unspent spent)))
+    c.args.self.now.seats c.args.service.now
+    (λ history. ((refl, stays_none history, tt), λ spent. absurd (no_both (is_spent_at (get c.args.self.now.seats c.args.key)) unspent spent)))

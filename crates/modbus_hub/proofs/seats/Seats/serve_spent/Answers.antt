@@ -13,10 +13,9 @@ pub keys-init : goal.keys-init
 keys-init g c =
     let old = c.args.self.now.seats in
     rw (← c.self.view_is) (
-      c.service-before.ensures.own,
       (refl, refl, omega arith),
       go_same g.I.Framing.framing g.V.Answerer.answering (polled_by (meaning_of g.L.Ends.input g.L.Ends.output g.L.Ends.line) g.L.PolledLink.not_ready c.self.inside.limits.reads) (ServesBelow 0 c.self.inside.seats)
-          c.self.inside.seats c.self.inside.seats c.args.service.now.service (λ key. refl) (λ start history all. ((refl, stays_none history, tt), λ key low. absurd (omega (arith, low)))),
+          c.self.inside.seats c.args.service.now (λ history. ((refl, stays_none history, tt), λ key low. absurd (omega (arith, low)))),
       λ key high. refl,
       λ key low. absurd (omega (arith, low)),
     )
@@ -26,11 +25,10 @@ keys-preserved g c =
     let old = c.args.self.now.seats in
     let now = c.keys.self.seats in
     let key = c.keys.key in (
-      c.serve_if_spent.ensures.own,
-      none_more c.args.self.now c.keys.self c.serve_if_spent.new.self c.keys.invariant.1 c.serve_if_spent.ensures.no_more,
+      none_more c.args.self.now c.keys.self c.serve_if_spent.new.self c.keys.invariant.0 c.serve_if_spent.ensures.no_more,
       go_both g.I.Framing.framing g.V.Answerer.answering (polled_by (meaning_of g.L.Ends.input g.L.Ends.output g.L.Ends.line) g.L.PolledLink.not_ready c.args.self.now.reads) (ServesBelow key old) (TurnsIfSpent key (get now key)) (ServesBelow (key + 1) old)
-          old now c.serve_if_spent.new.self.seats c.args.service.now.service c.keys.service.service c.serve_if_spent.new.service.service
-          c.keys.invariant.2 (rw (c.keys.invariant.1.0) at c.serve_if_spent.ensures.goes_on) (serves_below old now key c.keys.invariant.3),
-      same_above old now c.serve_if_spent.new.self.seats key c.serve_if_spent.ensures.others c.keys.invariant.3,
-      marks_below c.keys.self c.serve_if_spent.new.self key c.serve_if_spent.ensures.others c.serve_if_spent.ensures.stays c.serve_if_spent.ensures.marks c.keys.invariant.4,
+          old now c.serve_if_spent.new.self.seats c.args.service.now c.keys.service c.serve_if_spent.new.service
+          c.keys.invariant.1 (rw (c.keys.invariant.0.0) at c.serve_if_spent.ensures.goes_on) (serves_below old now key c.keys.invariant.2),
+      same_above old now c.serve_if_spent.new.self.seats key c.serve_if_spent.ensures.others c.keys.invariant.2,
+      marks_below c.keys.self c.serve_if_spent.new.self key c.serve_if_spent.ensures.others c.serve_if_spent.ensures.stays c.serve_if_spent.ensures.marks c.keys.invariant.3,
     )

@@ -1,9 +1,8 @@
 use Rattle.std.proofs.Common.{refl, arith, ◌∙◌, ◌+◌, true, false}
 use Rattle.modbus_link.specs.Line.{meaning_of}
-use Rattle.modbus_hub.specs.Seats.{polled_by}
 use Rattle.modbus_hub.specs.Turns.{AcceptsNext, AcceptsAsked}
 use Rattle.modbus_hub.proofs.Counting.{within_both}
-use Rattle.modbus_hub.proofs.Seating.{go_as, go_both, go_same, go_under}
+use Rattle.modbus_hub.proofs.Seating.{stay_as, stay_both, stay_same}
 use Rattle.modbus_hub.proofs.Rounding.{AcceptsSome, accepts_none, accepts_more, accepts_last, accepts_many}
 use Rattle.modbus_hub.proofs.server.EventServer.accept_all.Goals as goal
 
@@ -15,34 +14,32 @@ peers-init g c =
       (refl, refl, λ within. within),
       refl,
       omega arith,
-      go_same g.I.Framing.framing g.V.Answerer.answering (polled_by (meaning_of g.A.Link.Ends.input g.A.Link.Ends.output g.A.Link.Ends.line) g.A.Link.PolledLink.not_ready first.seats.reads)
-          (AcceptsSome accepts faults 0 first first) first.seats.seats first.seats.seats c.args.service.now.service (λ key. refl) (λ start history all. accepts_none accepts faults first history),
+      stay_same g.I.Framing.framing (meaning_of g.A.Link.Ends.input g.A.Link.Ends.output g.A.Link.Ends.line)
+          (AcceptsSome accepts faults 0 first first) first.seats.seats first.seats.seats (λ key. refl) (λ history all. accepts_none accepts faults first history),
       λ marks. marks,
     )
 
-pub returns-then-not-accept_one-clause-goes_on : goal.returns-then-not-accept_one-clause-goes_on
-returns-then-not-accept_one-clause-goes_on g c =
+pub returns-then-not-accept_one-clause-stays : goal.returns-then-not-accept_one-clause-stays
+returns-then-not-accept_one-clause-stays g c =
     let accepts = g.A.PolledAcceptor.accepts in
     let faults = g.S.Readiness.faults in
     let first = c.args.self.now in
     let now = c.peers.self in
     let next = c.accept_one.new.self in
-    let service = c.args.service.now.service in
-    go_both g.I.Framing.framing g.V.Answerer.answering (polled_by (meaning_of g.A.Link.Ends.input g.A.Link.Ends.output g.A.Link.Ends.line) g.A.Link.PolledLink.not_ready first.seats.reads)
+    stay_both g.I.Framing.framing (meaning_of g.A.Link.Ends.input g.A.Link.Ends.output g.A.Link.Ends.line)
     (AcceptsSome accepts faults c.peers.counter first now) (AcceptsNext accepts faults false now next) (AcceptsAsked accepts faults first next)
-    first.seats.seats now.seats.seats next.seats.seats service service service c.peers.invariant.3
-    (go_under g.I.Framing.framing g.V.Answerer.answering (meaning_of g.A.Link.Ends.input g.A.Link.Ends.output g.A.Link.Ends.line) g.A.Link.PolledLink.not_ready now.seats.reads first.seats.reads (AcceptsNext accepts faults false now next) now.seats.seats next.seats.seats service service c.peers.invariant.0.0 c.if-not-accept_one.ensures.goes_on)
+    first.seats.seats now.seats.seats next.seats.seats c.peers.invariant.3
+    c.if-not-accept_one.ensures.stays
     (accepts_last accepts faults c.peers.counter first now next)
 
-pub returns-clause-goes_on : goal.returns-clause-goes_on
-returns-clause-goes_on g c =
+pub returns-clause-stays : goal.returns-clause-stays
+returns-clause-stays g c =
     let accepts = g.A.PolledAcceptor.accepts in
     let faults = g.S.Readiness.faults in
     let first = c.args.self.now in
     let now = c.peers.self in
-    let service = c.args.service.now.service in
-    go_as g.I.Framing.framing g.V.Answerer.answering (polled_by (meaning_of g.A.Link.Ends.input g.A.Link.Ends.output g.A.Link.Ends.line) g.A.Link.PolledLink.not_ready first.seats.reads)
-    (AcceptsSome accepts faults c.peers.counter first now) (AcceptsAsked accepts faults first now) first.seats.seats now.seats.seats service service c.peers.invariant.3
+    stay_as g.I.Framing.framing (meaning_of g.A.Link.Ends.input g.A.Link.Ends.output g.A.Link.Ends.line)
+    (AcceptsSome accepts faults c.peers.counter first now) (AcceptsAsked accepts faults first now) first.seats.seats now.seats.seats c.peers.invariant.3
     (λ history more some. accepts_many accepts faults c.peers.counter first now history more (omega (arith, c.peers-test.false)) some)
 
 pub peers-preserved : goal.peers-preserved
@@ -51,15 +48,14 @@ peers-preserved g c =
     let faults = g.S.Readiness.faults in
     let first = c.args.self.now in
     let now = c.peers.self in
-    let next = c.accept_one.new.self in
-    let service = c.args.service.now.service in (
+    let next = c.accept_one.new.self in (
       within_both first.seats now.seats next.seats c.peers.invariant.0 c.accept_one.ensures.limit,
       c.accept_one.ensures.found ∙ c.peers.invariant.1,
       omega (arith, c.peers.invariant.2, c.accept_one.ensures.later),
-      go_both g.I.Framing.framing g.V.Answerer.answering (polled_by (meaning_of g.A.Link.Ends.input g.A.Link.Ends.output g.A.Link.Ends.line) g.A.Link.PolledLink.not_ready first.seats.reads)
+      stay_both g.I.Framing.framing (meaning_of g.A.Link.Ends.input g.A.Link.Ends.output g.A.Link.Ends.line)
           (AcceptsSome accepts faults c.peers.counter first now) (AcceptsNext accepts faults true now next) (AcceptsSome accepts faults (c.peers.counter + 1) first next)
-          first.seats.seats now.seats.seats next.seats.seats service service service c.peers.invariant.3
-          (go_under g.I.Framing.framing g.V.Answerer.answering (meaning_of g.A.Link.Ends.input g.A.Link.Ends.output g.A.Link.Ends.line) g.A.Link.PolledLink.not_ready now.seats.reads first.seats.reads (AcceptsNext accepts faults true now next) now.seats.seats next.seats.seats service service c.peers.invariant.0.0 c.if-not-accept_one.ensures.goes_on)
+          first.seats.seats now.seats.seats next.seats.seats c.peers.invariant.3
+          c.if-not-accept_one.ensures.stays
           (accepts_more accepts faults c.peers.counter first now next),
       λ marks. c.accept_one.ensures.marks (c.peers.invariant.4 marks),
     )

@@ -1,6 +1,6 @@
 use Rattle.std.proofs.Common.{◌≡◌, ◌≤◌}
 use Rattle.modbus_link.specs.Line.{meaning_of}
-use Rattle.modbus_hub.specs.Seats.{polled_by, KeepsLimit, KeepsMarks, SeatsGoOn}
+use Rattle.modbus_hub.specs.Seats.{KeepsLimit, KeepsMarks, SeatsStay}
 use Rattle.modbus_hub.proofs.Rounding.{AcceptsSome}
 use Rattle.modbus_hub.proofs.server.EventServer.accept_all.Given as goal
 
@@ -8,6 +8,6 @@ abbrev pub invariant-peers : goal.invariant-peers
 invariant-peers g l = KeepsLimit l.fn.self.seats l.self.seats
     × (g.S.Readiness.found l.self.readiness ≡ g.S.Readiness.found l.fn.self.readiness)
     × (g.S.Readiness.faults l.fn.self.readiness ≤ g.S.Readiness.faults l.self.readiness)
-    × SeatsGoOn g.I.Framing.framing g.V.Answerer.answering (polled_by (meaning_of g.A.Link.Ends.input g.A.Link.Ends.output g.A.Link.Ends.line) g.A.Link.PolledLink.not_ready l.fn.self.seats.reads)
-    (AcceptsSome g.A.PolledAcceptor.accepts g.S.Readiness.faults l.counter l.fn.self l.self) l.fn.self.seats.seats l.self.seats.seats l.fn.service.service l.fn.service.service
+    × SeatsStay g.I.Framing.framing (meaning_of g.A.Link.Ends.input g.A.Link.Ends.output g.A.Link.Ends.line)
+    (AcceptsSome g.A.PolledAcceptor.accepts g.S.Readiness.faults l.counter l.fn.self l.self) l.fn.self.seats.seats l.self.seats.seats
     × KeepsMarks l.fn.self.seats l.self.seats

@@ -1,34 +1,32 @@
 use Rattle.std.proofs.Common.{refl, ap, inl, inr, true, false, length, [], ◌∷◌, Ok, Err, arith, rules, ◌≤◌}
 use Rattle.modbus_link.specs.Line.{meaning_of}
-use Rattle.modbus_hub.specs.Seats.{polled_by}
 use Rattle.slab.specs.Slab.{slab_len}
 use Rattle.modbus_link.specs.declared.polled.Polled.TheVariants.{Pending}
 use Rattle.modbus_hub.specs.Turns.{AcceptsNext, Brings}
-use Rattle.modbus_hub.proofs.Seating.{go_as, go_same}
+use Rattle.modbus_hub.proofs.Seating.{stay_as, stay_same}
 use Rattle.modbus_hub.proofs.Rounding.{state, brings, nobody, accepts_none}
 use Rattle.modbus_hub.proofs.server.EventServer.accept_one.Goals as goal
 
-pub returns-then-is_full-clause-goes_on : goal.returns-then-is_full-clause-goes_on
-returns-then-is_full-clause-goes_on g c =
+pub returns-then-is_full-clause-stays : goal.returns-then-is_full-clause-stays
+returns-then-is_full-clause-stays g c =
     let accepts = g.A.PolledAcceptor.accepts in
     let faults = g.S.Readiness.faults in
     let now = c.args.self.now in
     let full : now.seats.most ≤ slab_len now.seats.seats = search rules in
-    go_same g.I.Framing.framing g.V.Answerer.answering (polled_by (meaning_of g.A.Link.Ends.input g.A.Link.Ends.output g.A.Link.Ends.line) g.A.Link.PolledLink.not_ready now.seats.reads)
-    (AcceptsNext accepts faults false now now) now.seats.seats now.seats.seats c.args.service.now.service (λ key. refl)
-    (λ start history all. ((accepts_none accepts faults now history).0, λ asked. inr (asked, inl full)))
+    stay_same g.I.Framing.framing (meaning_of g.A.Link.Ends.input g.A.Link.Ends.output g.A.Link.Ends.line)
+    (AcceptsNext accepts faults false now now) now.seats.seats now.seats.seats (λ key. refl)
+    (λ history all. ((accepts_none accepts faults now history).0, λ asked. inr (asked, inl full)))
 
-pub returns-in-Ok-Ready-clause-goes_on : goal.returns-in-Ok-Ready-clause-goes_on
-returns-in-Ok-Ready-clause-goes_on g c =
-    let meaning = polled_by (meaning_of g.A.Link.Ends.input g.A.Link.Ends.output g.A.Link.Ends.line) g.A.Link.PolledLink.not_ready c.self.inside.seats.reads in
+pub returns-in-Ok-Ready-clause-stays : goal.returns-in-Ok-Ready-clause-stays
+returns-in-Ok-Ready-clause-stays g c =
+    let meaning = meaning_of g.A.Link.Ends.input g.A.Link.Ends.output g.A.Link.Ends.line in
     let accepts = g.A.PolledAcceptor.accepts in
     let faults = g.S.Readiness.faults in
-    let service = c.args.service.now.service in
     let first = state c.self.inside.acceptor c.self.inside.readiness c.self.inside.seats c.self.inside.unseated c.self.inside.is_asked in
     let polled = state c.poll_accept.new.self c.self.inside.readiness c.self.inside.seats c.self.inside.unseated c.self.inside.is_asked in
     let last = c.admit.new.self in
-    rw (← c.self.view_is) (go_as g.I.Framing.framing g.V.Answerer.answering meaning (Brings faults c.in-Ok-Ready.link polled last) (AcceptsNext accepts faults true first last)
-    c.self.inside.seats.seats last.seats.seats service service c.admit.ensures.goes_on
+    rw (← c.self.view_is) (stay_as g.I.Framing.framing meaning (Brings faults c.in-Ok-Ready.link polled last) (AcceptsNext accepts faults true first last)
+    c.self.inside.seats.seats last.seats.seats c.admit.ensures.stays
     (λ history more e. (
       (
         brings accepts faults first polled last c.in-Ok-Ready.link history more
@@ -39,30 +37,30 @@ returns-in-Ok-Ready-clause-goes_on g c =
       c.admit.ensures.asked,
     )))
 
-pub returns-in-Ok-Pending-clause-goes_on : goal.returns-in-Ok-Pending-clause-goes_on
-returns-in-Ok-Pending-clause-goes_on g c =
-    let meaning = polled_by (meaning_of g.A.Link.Ends.input g.A.Link.Ends.output g.A.Link.Ends.line) g.A.Link.PolledLink.not_ready c.self.inside.seats.reads in
+pub returns-in-Ok-Pending-clause-stays : goal.returns-in-Ok-Pending-clause-stays
+returns-in-Ok-Pending-clause-stays g c =
+    let meaning = meaning_of g.A.Link.Ends.input g.A.Link.Ends.output g.A.Link.Ends.line in
     let accepts = g.A.PolledAcceptor.accepts in
     let faults = g.S.Readiness.faults in
     let first = state c.self.inside.acceptor c.self.inside.readiness c.self.inside.seats c.self.inside.unseated c.self.inside.is_asked in
     let polled = state c.poll_accept.new.self c.self.inside.readiness c.self.inside.seats c.self.inside.unseated false in
-    rw (← c.self.view_is) (go_same g.I.Framing.framing g.V.Answerer.answering meaning (AcceptsNext accepts faults false first polled)
-    c.self.inside.seats.seats c.self.inside.seats.seats c.args.service.now.service (λ key. refl)
-    (λ start history all. (
+    rw (← c.self.view_is) (stay_same g.I.Framing.framing meaning (AcceptsNext accepts faults false first polled)
+    c.self.inside.seats.seats c.self.inside.seats.seats (λ key. refl)
+    (λ history all. (
       (nobody accepts faults first polled history (Ok Pending) refl (rw c.in-Ok-Pending.field-0-is at c.in-Ok-Pending.ensures.accepts) (omega arith) refl, tt),
       λ asked. inl (Ok Pending ∷ [], (polled.acceptor, [], rw c.in-Ok-Pending.field-0-is at c.in-Ok-Pending.ensures.accepts, refl, (refl, refl)), tt),
     )))
 
-pub returns-in-Err-clause-goes_on : goal.returns-in-Err-clause-goes_on
-returns-in-Err-clause-goes_on g c =
-    let meaning = polled_by (meaning_of g.A.Link.Ends.input g.A.Link.Ends.output g.A.Link.Ends.line) g.A.Link.PolledLink.not_ready c.self.inside.seats.reads in
+pub returns-in-Err-clause-stays : goal.returns-in-Err-clause-stays
+returns-in-Err-clause-stays g c =
+    let meaning = meaning_of g.A.Link.Ends.input g.A.Link.Ends.output g.A.Link.Ends.line in
     let accepts = g.A.PolledAcceptor.accepts in
     let faults = g.S.Readiness.faults in
     let first = state c.self.inside.acceptor c.self.inside.readiness c.self.inside.seats c.self.inside.unseated c.self.inside.is_asked in
     let polled = state c.poll_accept.new.self c.self.inside.readiness c.self.inside.seats c.self.inside.unseated c.self.inside.is_asked in
-    rw (← c.self.view_is) (go_same g.I.Framing.framing g.V.Answerer.answering meaning (AcceptsNext accepts faults false first polled)
-    c.self.inside.seats.seats c.self.inside.seats.seats c.args.service.now.service (λ key. refl)
-    (λ start history all. (
+    rw (← c.self.view_is) (stay_same g.I.Framing.framing meaning (AcceptsNext accepts faults false first polled)
+    c.self.inside.seats.seats c.self.inside.seats.seats (λ key. refl)
+    (λ history all. (
       (nobody accepts faults first polled history (Err c.in-Err.field-0) refl c.in-Err.ensures.accepts (omega arith) refl, tt),
       λ asked. inr (asked, inr (inl (Err c.in-Err.field-0 ∷ [], (polled.acceptor, [], c.in-Err.ensures.accepts, refl, (refl, refl)), tt))),
     )))

@@ -14,5 +14,5 @@ returns-else-has_spent-clause-goes_on g c =
     let seats = c.args.self.now.seats in
     let none_spent : seats.has_spent ≡ false = search rules in
     go_same g.I.Framing.framing g.V.Answerer.answering (polled_by (meaning_of g.A.Link.Ends.input g.A.Link.Ends.output g.A.Link.Ends.line) g.A.Link.PolledLink.not_ready c.args.self.now.seats.reads) (ServesLeft seats)
-    seats.seats seats.seats c.args.service.now.service (λ key. refl)
-    (λ start history all. ((refl, stays_none history, tt), λ left. absurd (no_both seats.has_spent none_spent left)))
+    seats.seats c.args.service.now
+    (λ history. ((refl, stays_none history, tt), λ left. absurd (no_both seats.has_spent none_spent left)))

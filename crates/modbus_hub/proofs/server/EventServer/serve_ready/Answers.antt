@@ -13,12 +13,11 @@ use Rattle.modbus_hub.proofs.server.EventServer.serve_ready.Goals as goal
 pub ready-init : goal.ready-init
 ready-init g c = (
   (refl, refl, omega arith),
-  c.service-before.ensures.own,
   refl,
   refl,
   refl,
   go_same g.I.Framing.framing g.V.Answerer.answering (polled_by (meaning_of g.A.Link.Ends.input g.A.Link.Ends.output g.A.Link.Ends.line) g.A.Link.PolledLink.not_ready c.args.self.now.seats.reads) (ServesFound [])
-      c.args.self.now.seats.seats c.args.self.now.seats.seats c.args.service.now.service (λ key. refl) (λ start history all. found_nothing history),
+      c.args.self.now.seats.seats c.args.service.now (λ history. found_nothing history),
   λ was. was,
   λ is. absurd is,
   λ marks. marks,
@@ -30,34 +29,33 @@ ready-preserved g c =
     let index = c.ready.index in
     let same : c.ready-in-ready.result.now ≡ found =
     c.ready-in-ready.ensures ∙ ap (λ (s : ServerState g.row.A.Denot g.row.S.Denot g.row.A-Link.Denot). g.S.Readiness.found s.readiness) c.self-in-ready.view_is
-    ∙ ap g.S.Readiness.found c.ready.invariant.3 in
+    ∙ ap g.S.Readiness.found c.ready.invariant.2 in
     let counted : c.ready-index-end.result.now ≡ found =
     c.ready-index-end.ensures ∙ ap (λ (s : ServerState g.row.A.Denot g.row.S.Denot g.row.A-Link.Denot). g.S.Readiness.found s.readiness) c.self.view_is in
     let low : index < length found = subst (λ (l : List Ready). index < length l) counted c.ready-test.true in
     let more : take (index + 1) found ≡ take index found ++ get_or c.ready-in-ready.result.now index Peer ∷ [] =
     take_more found index Peer low ∙ ap (λ (l : List Ready). take index found ++ get_or l index Peer ∷ []) (sym same) in (
       none_more c.args.self.now.seats c.ready.self.seats c.take.new.self.seats c.ready.invariant.0 c.take.ensures.no_more,
-      c.take.ensures.own,
-      c.take.ensures.acceptor ∙ c.ready.invariant.2,
-      c.take.ensures.readiness ∙ c.ready.invariant.3,
-      c.take.ensures.unseated ∙ c.ready.invariant.4,
+      c.take.ensures.acceptor ∙ c.ready.invariant.1,
+      c.take.ensures.readiness ∙ c.ready.invariant.2,
+      c.take.ensures.unseated ∙ c.ready.invariant.3,
       go_both g.I.Framing.framing g.V.Answerer.answering (polled_by (meaning_of g.A.Link.Ends.input g.A.Link.Ends.output g.A.Link.Ends.line) g.A.Link.PolledLink.not_ready c.args.self.now.seats.reads) (ServesFound (take index found))
           (ServesFound (get_or c.ready-in-ready.result.now index Peer ∷ [])) (ServesFound (take (index + 1) found))
-          c.args.self.now.seats.seats c.ready.self.seats.seats c.take.new.self.seats.seats c.args.service.now.service c.ready.service.service c.take.new.service.service
-          c.ready.invariant.5 (rw (c.ready.invariant.0.0) at c.take.ensures.goes_on)
+          c.args.self.now.seats.seats c.ready.self.seats.seats c.take.new.self.seats.seats c.args.service.now c.ready.service c.take.new.service
+          c.ready.invariant.4 (rw (c.ready.invariant.0.0) at c.take.ensures.goes_on)
           (λ history xs ys first second. subst (λ (l : List Ready). ServesFound l history (xs ++ ys)) (sym more)
           (found_both (take index found) (get_or c.ready-in-ready.result.now index Peer ∷ []) history xs ys first second)),
-      λ was. c.take.ensures.waits (c.ready.invariant.6 was),
+      λ was. c.take.ensures.waits (c.ready.invariant.5 was),
       λ is.
           elim (peer_in (take index found) (get_or c.ready-in-ready.result.now index Peer ∷ []) (subst IsPeerFound more is)) [
-            | inl before ↦ c.take.ensures.waits (c.ready.invariant.7 before)
+            | inl before ↦ c.take.ensures.waits (c.ready.invariant.6 before)
             | inr now ↦
                 elim now [
                   | inl e ↦ c.take.ensures.asked e
                   | inr never ↦ absurd never
                 ]
           ],
-      λ marks. c.take.ensures.marks (c.ready.invariant.8 marks),
+      λ marks. c.take.ensures.marks (c.ready.invariant.7 marks),
     )
 
 pub returns-clause-asked : goal.returns-clause-asked
@@ -67,7 +65,7 @@ returns-clause-asked g c =
     c.ready-index-end.ensures ∙ ap (λ (s : ServerState g.row.A.Denot g.row.S.Denot g.row.A-Link.Denot). g.S.Readiness.found s.readiness) c.self.view_is in
     let all : take c.ready.index found ≡ found =
     take_all c.ready.index found (subst (λ (l : List Ready). length l ≤ c.ready.index) counted c.ready-test.false) in
-    rw (all) at c.ready.invariant.7
+    rw (all) at c.ready.invariant.6
 
 pub returns-clause-goes_on : goal.returns-clause-goes_on
 returns-clause-goes_on g c =
@@ -76,4 +74,4 @@ returns-clause-goes_on g c =
     c.ready-index-end.ensures ∙ ap (λ (s : ServerState g.row.A.Denot g.row.S.Denot g.row.A-Link.Denot). g.S.Readiness.found s.readiness) c.self.view_is in
     let all : take c.ready.index found ≡ found =
     take_all c.ready.index found (subst (λ (l : List Ready). length l ≤ c.ready.index) counted c.ready-test.false) in
-    rw (all) at c.ready.invariant.5
+    rw (all) at c.ready.invariant.4

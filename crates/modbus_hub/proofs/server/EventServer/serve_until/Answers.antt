@@ -12,12 +12,11 @@ use Rattle.modbus_hub.proofs.server.EventServer.serve_until.Goals as goal
 pub rounds-init : goal.rounds-init
 rounds-init g c = (
   (refl, refl, λ within. within),
-  c.service-before.ensures.own,
   omega arith,
   omega arith,
   go_same g.I.Framing.framing g.V.Answerer.answering (polled_by (meaning_of g.A.Link.Ends.input g.A.Link.Ends.output g.A.Link.Ends.line) g.A.Link.PolledLink.not_ready c.args.self.now.seats.reads)
-      (TellsRounds g.A.PolledAcceptor.accepts g.S.Readiness.faults {R = Unit {0}} g.S.Readiness.found c.args.self.now c.args.self.now (Ok tt)) c.args.self.now.seats.seats c.args.self.now.seats.seats c.args.service.now.service
-      (λ key. refl) (λ start history all. (none_come g.A.PolledAcceptor.accepts g.S.Readiness.faults c.args.self.now c.args.self.now history [] refl (omega arith) refl refl, ([], (refl, refl)))),
+      (TellsRounds g.A.PolledAcceptor.accepts g.S.Readiness.faults {R = Unit {0}} g.S.Readiness.found c.args.self.now c.args.self.now (Ok tt)) c.args.self.now.seats.seats c.args.service.now
+      (λ history. (none_come g.A.PolledAcceptor.accepts g.S.Readiness.faults c.args.self.now c.args.self.now history [] refl (omega arith) refl refl, ([], (refl, refl)))),
   λ marks. marks,
 )
 
@@ -30,15 +29,14 @@ rounds-preserved g c =
     let now = c.rounds.self in
     let next = c.round.new.self in (
       within_both first.seats now.seats next.seats c.rounds.invariant.0 c.round.ensures.limit,
-      c.round.ensures.own,
-      omega (arith, c.rounds.invariant.2, c.round.ensures.later),
-      omega (arith, c.rounds.invariant.3, c.is_set.ensures.later),
+      omega (arith, c.rounds.invariant.1, c.round.ensures.later),
+      omega (arith, c.rounds.invariant.2, c.is_set.ensures.later),
       go_both g.I.Framing.framing g.V.Answerer.answering (polled_by (meaning_of g.A.Link.Ends.input g.A.Link.Ends.output g.A.Link.Ends.line) g.A.Link.PolledLink.not_ready c.args.self.now.seats.reads)
           (TellsRounds accepts faults {R = Unit {0}} found first now (Ok tt)) (TellsRound accepts faults found now next (Ok tt)) (TellsRounds accepts faults {R = Unit {0}} found first next (Ok tt))
-          first.seats.seats now.seats.seats next.seats.seats c.args.service.now.service c.rounds.service.service c.round.new.service.service
-          c.rounds.invariant.4
-          (go_under g.I.Framing.framing g.V.Answerer.answering (meaning_of g.A.Link.Ends.input g.A.Link.Ends.output g.A.Link.Ends.line) g.A.Link.PolledLink.not_ready now.seats.reads first.seats.reads (TellsRound accepts faults found now next (Ok tt)) now.seats.seats next.seats.seats c.rounds.service.service c.round.new.service.service c.rounds.invariant.0.0 c.in-Ok.ensures.goes_on) (rounds_more accepts faults found first now next),
-      λ marks. c.round.ensures.marks (c.rounds.invariant.5 marks),
+          first.seats.seats now.seats.seats next.seats.seats c.args.service.now c.rounds.service c.round.new.service
+          c.rounds.invariant.3
+          (go_under g.I.Framing.framing g.V.Answerer.answering (meaning_of g.A.Link.Ends.input g.A.Link.Ends.output g.A.Link.Ends.line) g.A.Link.PolledLink.not_ready now.seats.reads first.seats.reads (TellsRound accepts faults found now next (Ok tt)) now.seats.seats next.seats.seats c.rounds.service c.round.new.service c.rounds.invariant.0.0 c.in-Ok.ensures.goes_on) (rounds_more accepts faults found first now next),
+      λ marks. c.round.ensures.marks (c.rounds.invariant.4 marks),
     )
 
 pub returns-in-Err-clause-goes_on : goal.returns-in-Err-clause-goes_on
@@ -52,6 +50,6 @@ returns-in-Err-clause-goes_on g c =
     let next = c.round.new.self in
     go_both g.I.Framing.framing g.V.Answerer.answering (polled_by (meaning_of g.A.Link.Ends.input g.A.Link.Ends.output g.A.Link.Ends.line) g.A.Link.PolledLink.not_ready c.args.self.now.seats.reads)
     (TellsRounds accepts faults {R = Unit {0}} found first now (Ok tt)) (TellsRound accepts faults found now next (Err failed)) (TellsRounds accepts faults {R = Terminated} found first next (Err failed))
-    first.seats.seats now.seats.seats next.seats.seats c.args.service.now.service c.rounds.service.service c.round.new.service.service
-    c.rounds.invariant.4
-    (go_under g.I.Framing.framing g.V.Answerer.answering (meaning_of g.A.Link.Ends.input g.A.Link.Ends.output g.A.Link.Ends.line) g.A.Link.PolledLink.not_ready now.seats.reads first.seats.reads (TellsRound accepts faults found now next (Err failed)) now.seats.seats next.seats.seats c.rounds.service.service c.round.new.service.service c.rounds.invariant.0.0 c.in-Err.ensures.goes_on) (rounds_fail accepts faults found Terminated failed first now next)
+    first.seats.seats now.seats.seats next.seats.seats c.args.service.now c.rounds.service c.round.new.service
+    c.rounds.invariant.3
+    (go_under g.I.Framing.framing g.V.Answerer.answering (meaning_of g.A.Link.Ends.input g.A.Link.Ends.output g.A.Link.Ends.line) g.A.Link.PolledLink.not_ready now.seats.reads first.seats.reads (TellsRound accepts faults found now next (Err failed)) now.seats.seats next.seats.seats c.rounds.service c.round.new.service c.rounds.invariant.0.0 c.in-Err.ensures.goes_on) (rounds_fail accepts faults found Terminated failed first now next)

@@ -2,7 +2,7 @@ use Rattle.std.proofs.Common.{◌≡◌, ◌⊎◌, inl, inr, ◌∙◌, Ok, IsT
 use Rattle.modbus_link.specs.Line.{meaning_of}
 use Rattle.modbus_hub.specs.Seats.{polled_by}
 use Rattle.modbus_hub.specs.Turns.{ServesFound, ServesLeft, AcceptsAsked, IsPeerFound, TakesRound}
-use Rattle.modbus_hub.proofs.Seating.{go_both, go_under}
+use Rattle.modbus_hub.proofs.Seating.{go_aside, go_both}
 use Rattle.modbus_hub.proofs.Rounding.{state, ServesRound, left_both, round_of}
 use Rattle.modbus_hub.proofs.server.EventServer.turn.Goals as goal
 
@@ -16,9 +16,9 @@ returns-in-Ok-clause-goes_on g c =
     let served = c.serve_left.new.self.seats.seats in
     let ready = c.serve_ready.new.self in
     let last = c.accept_asked.new.self in
-    let service = c.args.service.now.service in
-    let now = c.serve_left.new.service.service in
-    let after = c.serve_ready.new.service.service in
+    let service = c.args.service.now in
+    let now = c.serve_left.new.service in
+    let after = c.serve_ready.new.service in
     let waited : faults c.self.inside.readiness ≤ faults ready.readiness =
     subst (λ r. faults c.self.inside.readiness ≤ faults r) (sym (c.serve_ready.ensures.readiness ∙ c.serve_left.ensures.readiness)) c.wait.ensures.later in
     let found = g.S.Readiness.found in
@@ -33,8 +33,7 @@ returns-in-Ok-clause-goes_on g c =
     seats.seats ready.seats.seats last.seats.seats service after after
     (go_both g.I.Framing.framing g.V.Answerer.answering meaning (ServesLeft seats) (ServesFound (found last.readiness)) (ServesRound seats (found last.readiness)) seats.seats served ready.seats.seats service now after
     c.serve_left.ensures.goes_on (rw (same) (rw (c.serve_left.ensures.no_more.0) at c.serve_ready.ensures.goes_on)) (left_both seats (found last.readiness)))
-    (go_under g.I.Framing.framing g.V.Answerer.answering (meaning_of g.A.Link.Ends.input g.A.Link.Ends.output g.A.Link.Ends.line) g.A.Link.PolledLink.not_ready ready.seats.reads seats.reads (AcceptsAsked accepts faults ready last) ready.seats.seats last.seats.seats after after
-    (c.serve_ready.ensures.no_more.0 ∙ c.serve_left.ensures.no_more.0) c.accept_asked.ensures.goes_on)
+    (go_aside g.I.Framing.framing g.V.Answerer.answering meaning (AcceptsAsked accepts faults ready last) ready.seats.seats last.seats.seats after c.accept_asked.ensures.stays)
     (λ history xs ys some more. round_of accepts faults found first ready last history xs ys (c.serve_ready.ensures.acceptor ∙ c.serve_left.ensures.acceptor) waited
     (c.serve_ready.ensures.unseated ∙ c.serve_left.ensures.unseated) some asks more))
 

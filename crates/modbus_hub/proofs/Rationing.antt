@@ -6,7 +6,7 @@ use Rattle.modbus_link.specs.declared.outside.Cut.{Cut}
 use Rattle.modbus_link.specs.Outside.{cut_at, outside, Input, Output, Advances, Gives, cuts_made, one_cut, input_through, output_through}
 use Rattle.modbus_link.specs.Passes.{Passes}
 use Rattle.modbus_link.specs.Through.{tail_of}
-use Rattle.modbus_turn.specs.Rationed.{reads_in_all, left_behind, rationed_input}
+use Rattle.modbus_hub.specs.Rationed.{reads_in_all, left_behind, rationed_input}
 
 pub cuts_counted : (a b : Input) → Gives a b → length b.cuts ≡ length a.cuts + length (cuts_made a b)
 cuts_counted a b g =
@@ -57,25 +57,6 @@ through n m p n' m' p' a b k l q q' fed made sent s = record {
     content = λ told. let g = s.source.content told in record { left = g.left; given = g.given; cuts = g.cuts; rising = g.rising };
   };
   sink = record { told = s.sink.told; later = s.sink.later; names = ap tail_of s.sink.names; sure = s.sink.sure; no_fault = s.sink.no_fault; content = s.sink.content };
-  read = s.read;
-  cuts = s.cuts;
-  wrote = s.wrote;
-  rises = s.rises;
-}
-
--- and what is behind it, for it
-pub lifted : (n m p q : ℕ) (a b : Input) (k l : Output) (fed : List ℕ) (made : List Cut) (sent : List ℕ) → Passes (outside a k) (outside b l) fed made sent
-    → Passes (outside (input_through n (input_through m (input_through p a))) (output_through q k)) (outside (input_through n (input_through m (input_through p b))) (output_through q l)) fed made sent
-lifted n m p q a b k l fed made sent s = record {
-  source = record {
-    told = s.source.told;
-    later = s.source.later;
-    names = ap (λ (l : List ℕ). n ∷ (m ∷ (p ∷ l))) s.source.names;
-    sure = s.source.sure;
-    no_fault = s.source.no_fault;
-    content = λ told. let g = s.source.content told in record { left = g.left; given = g.given; cuts = g.cuts; rising = g.rising };
-  };
-  sink = record { told = s.sink.told; later = s.sink.later; names = ap (λ (l : List ℕ). q ∷ l) s.sink.names; sure = s.sink.sure; no_fault = s.sink.no_fault; content = s.sink.content };
   read = s.read;
   cuts = s.cuts;
   wrote = s.wrote;

@@ -1,7 +1,7 @@
 //! A link of which one turn takes so many reads at most.
 ghost use Rattle.std.specs.Prelude.{◌≡◌, ◌+◌};
 ghost use Rattle.modbus_link.specs.Outside.{output_through};
-ghost use Rattle.modbus_turn.specs.Rationed.{rationed_input};
+ghost use Rattle.modbus_hub.specs.Rationed.{rationed_input};
 
 use modbus_link::{Ends, Failed, Polled, PolledLink};
 

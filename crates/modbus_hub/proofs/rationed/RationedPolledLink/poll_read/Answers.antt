@@ -1,6 +1,6 @@
 use Rattle.std.proofs.Common.{rules, ◌≡◌, ◌∙◌, ap, ◌-◌, ◌<◌, length, arith}
-use Rattle.modbus_turn.proofs.Rationing.{rationed, one_counted, none_counted}
-use Rattle.modbus_turn.proofs.rationed.RationedPolledLink.poll_read.Goals as goal
+use Rattle.modbus_hub.proofs.Rationing.{rationed, one_counted, none_counted}
+use Rattle.modbus_hub.proofs.rationed.RationedPolledLink.poll_read.Goals as goal
 
 pub returns-in-Ok-Ready-eq0-clause-source : goal.returns-in-Ok-Ready-eq0-clause-source
 returns-in-Ok-Ready-eq0-clause-source g c =

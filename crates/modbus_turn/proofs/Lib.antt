@@ -1,3 +1,0 @@
-pub mod Rationing
-pub mod Taking
-pub mod Turning

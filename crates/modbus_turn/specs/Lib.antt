@@ -1,3 +1,0 @@
-pub mod InTurn
-pub mod Rationed
-pub mod Turn
