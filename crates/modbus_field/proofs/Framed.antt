@@ -1,15 +1,19 @@
 -- Which bursts are frames, and which message each burst is.
-use Rattle.std.proofs.Common.{◌≡◌, ◌↔◌, ℕ, ◌+◌, ◌-◌, ◌*◌, ◌/◌, ◌%◌, ◌<◌, ◌≤◌, Bool, true, false, List, [], ◌∷◌, ◌++◌, length, take, drop, slice_index, refl, sym, ap, ◌∙◌, subst, arith, length-append, length-take, length-drop, map}
-use Rattle.std.specs.Prelude.{if◌then◌else◌, ◌==◌}
-use Rattle.std.specs.List.{AllByRecursion, flat_map}
+use Rattle.std.proofs.Common.{◌≡◌, ◌↔◌, ℕ, ◌+◌, ◌-◌, ◌*◌, ◌/◌, ◌%◌, ◌<◌, ◌≤◌, Bool, true, false, List, [], ◌∷◌, ◌++◌, length, take, drop, slice_index, refl, sym, ap, ◌∙◌, subst, arith, length-append}
+use Rattle.std.specs.Prelude.{if◌then◌else◌}
+use Rattle.std.specs.List.{AllByRecursion}
 use Rattle.std.proofs.lemmas.Grind.{common_steps}
-use Rattle.std.proofs.lemmas.List.{take_at, get_or_at}
+use Rattle.std.proofs.lemmas.List.{drop_all, take_at, get_or_at}
 use Rattle.modbus_pdu.specs.Laws.{IsByte}
 use Rattle.modbus_pdu.specs.SlavePdu.{SlavePdu, IsFramed}
 use Rattle.modbus_pdu.specs.Message.{message}
 use Rattle.modbus_rtu.specs.Checksum.{crc}
 use Rattle.modbus_rtu.specs.Frame.{frame}
-use Rattle.modbus_field.specs.Bursts.{bursts_from, is_frame, slave_and_pdu, frame_of, noise, message_in_burst, messages, frames, frames_in_message}
+use Rattle.modbus_rtu.specs.Frame.{head}
+use Rattle.modbus_rtu.specs.ResponseHead.{response_head}
+use Rattle.modbus_field.specs.declared.burst.frame.Part.TheVariants.{Last}
+use Rattle.modbus_field.specs.Bursts.{Heard, heard, is_frame, slave_and_pdu, frame_of, frame_length, request_length, reply_length, is_reply, part_at, message_at, said}
+use Rattle.modbus_field.proofs.Said.{said_nothing, said_one}
 
 -- a slave address, a PDU and two bytes
 abbrev shape : ℕ → List ℕ → ℕ → ℕ → List ℕ
@@ -116,48 +120,43 @@ frames_are burst message bytes = (forth, back)
     back : (burst ≡ frame message.header message.pdu) × IsFramed message → frame_of burst ≡ message ∷ []
     back (e, is) = ap frame_of e ∙ is_framed message.header message.pdu is.some is.fits
 
--- the message of a burst, by its frame
-pub heard_none : (burst : List ℕ) → [] ≡ frame_of burst → noise ≡ message_in_burst burst
-unfolding frame_of message_in_burst
-heard_none burst e = by_frame (is_frame burst) (slave_and_pdu burst) e
-  where
-    by_frame : (b : Bool) (p : SlavePdu) → [] ≡ (if b then p ∷ [] else []) → noise ≡ (if b then p else noise)
-    by_frame true p e = cc
-    by_frame false p e = refl
+-- no frame stands where nothing does
+pub no_frame : frame_length [] ≡ 0
+unfolding frame_length request_length reply_length head response_head
+no_frame = refl
 
-pub heard_one : (burst : List ℕ) (message : SlavePdu) → message ∷ [] ≡ frame_of burst → message ≡ message_in_burst burst
-unfolding frame_of message_in_burst
-heard_one burst message e = by_frame (is_frame burst) (slave_and_pdu burst) e
-  where
-    by_frame : (b : Bool) (p : SlavePdu) → message ∷ [] ≡ (if b then p ∷ [] else []) → message ≡ (if b then p else noise)
-    by_frame true p e = cc
-    by_frame false p e = cc
+-- a burst that is a frame says that frame alone
+module _ (burst : List ℕ) (is : is_frame burst ≡ true) where
+  whole_length : frame_length burst ≡ length burst
+  unfolding frame_length
+  whole_length = rw is refl
 
--- the PDU of a frame has a byte
-parts_some : (burst : List ℕ) → is_frame burst ≡ true → 0 < length (slave_and_pdu burst).pdu
-parts_some burst is =
-    let long : 4 ≤ length burst = grind arith in
-    omega (arith, long, length-take (length burst - 3) (drop 1 burst), length-drop 1 burst)
+  whole_no_reply : is_reply burst ≡ false
+  unfolding is_reply
+  whole_no_reply = rw is refl
 
-not_empty : (xs : List ℕ) → 0 < length xs → (length xs == 0) ≡ false
-not_empty xs some = grind (arith, some)
+  whole_sizes : (4 ≤ length burst) × (length burst ≤ 256)
+  whole_sizes = (grind arith, grind arith)
 
--- a message is that of a frame, or noise
-pub framed_is : (burst : List ℕ) → frames_in_message (message_in_burst burst) ≡ frame_of burst
-unfolding frame_of message_in_burst
-framed_is burst = by_frame (is_frame burst) (slave_and_pdu burst) (λ is. parts_some burst is)
-  where
-    by_frame : (b : Bool) (p : SlavePdu) → (b ≡ true → 0 < length p.pdu) → frames_in_message (if b then p else noise) ≡ (if b then p ∷ [] else [])
-    by_frame true p some = rw (not_empty p.pdu (some refl)) refl
-    by_frame false p some = refl
+  whole_is_last : part_at burst ≡ Last
+  whole_is_last =
+      let none : frame_length (drop (frame_length burst) burst) ≡ 0 = ap frame_length (drop_all (frame_length burst) burst (omega (arith, whole_length))) ∙ no_frame in
+      rw whole_no_reply (rw none refl)
 
-pub noise_is : (burst : List ℕ) → (message_in_burst burst ≡ noise) ↔ (frame_of burst ≡ [])
-noise_is burst = ((λ e. sym (framed_is burst) ∙ ap frames_in_message e), (λ e. sym (heard_none burst (sym e))))
+  whole_message : message_at burst ≡ heard (slave_and_pdu burst).header Last (slave_and_pdu burst).pdu
+  unfolding message_at
+  whole_message = rw whole_is_last (rw whole_length refl)
 
-all_framed : (bursts : List (List ℕ)) → flat_map frames_in_message (map message_in_burst bursts) ≡ flat_map frame_of bursts
-all_framed [] = refl
-all_framed (burst ∷ bursts) = ap (λ front. front ++ flat_map frames_in_message (map message_in_burst bursts)) (framed_is burst) ∙ ap (λ rest. frame_of burst ++ rest) (all_framed bursts)
+  whole_said : said burst ≡ heard (slave_and_pdu burst).header Last (slave_and_pdu burst).pdu ∷ []
+  whole_said =
+      let n = whole_length in
+      said_one burst (omega (arith, whole_sizes.1)) (omega (arith, n, whole_sizes.0)) (omega (arith, whole_sizes.0))
+      ∙ ap (λ (m : Heard). m ∷ said (drop (frame_length burst) burst)) whole_message
+      ∙ ap (λ (xs : List Heard). heard (slave_and_pdu burst).header Last (slave_and_pdu burst).pdu ∷ xs)
+      (ap said (drop_all (frame_length burst) burst (omega (arith, n))) ∙ said_nothing)
 
-pub frames_among : (bytes cuts : List ℕ) → flat_map frames_in_message (messages bytes cuts) ≡ frames bytes cuts
-unfolding messages frames
-frames_among bytes cuts = all_framed (bursts_from 0 bytes cuts)
+pub frame_said : (burst : List ℕ) (message : SlavePdu) → frame_of burst ≡ message ∷ [] → said burst ≡ heard message.header Last message.pdu ∷ []
+unfolding frame_of
+frame_said burst message e =
+    let known = found_frame (is_frame burst) (slave_and_pdu burst) message e in
+    whole_said burst known.0 ∙ ap (λ (m : SlavePdu). heard m.header Last m.pdu ∷ []) known.1

@@ -3,8 +3,10 @@ pub mod Below
 pub mod BurstPieces
 pub mod Framed
 pub mod Never
+pub mod OneReading
 pub mod Read
 pub mod Reading
+pub mod Said
 pub mod Serving
 pub mod StreamFaults
 pub mod StreamPieces

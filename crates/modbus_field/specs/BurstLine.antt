@@ -1,6 +1,5 @@
 -- What a server of bursts promises of the bursts that it read.
 use Rattle.std.specs.Prelude.{◌≡◌, ◌⊎◌, ℕ, ◌<◌, List, [], map, length, IsTrue, Result, Ok, Err}
-use Rattle.modbus_pdu.specs.SlavePdu.{SlavePdu}
 use Rattle.modbus_link.specs.Outside.{Input, Output, Rose, bytes_read, cuts_made, bytes_appended}
 use Rattle.modbus_link.specs.Reads.{totals}
 use Rattle.modbus_service.specs.Answering.{Answering}
@@ -8,15 +7,15 @@ use Rattle.modbus_server.specs.declared.error.ProcessError.{ProcessError}
 use Rattle.modbus_server.specs.declared.error.ProcessError.TheVariants.{TooManyRetries, BytesRemaining, InvalidRequest, InvalidLength, InvalidProtocol, NoMemory}
 use Rattle.modbus_server.specs.Complete.{RepliesFit}
 use Rattle.modbus_server.specs.Exchanges.{Exchange, Run, output, asked_of, asks}
-use Rattle.modbus_field.specs.Bursts.{messages}
+use Rattle.modbus_field.specs.Bursts.{Heard, messages}
 use Rattle.modbus_field.specs.BurstFraming.{bursts}
 
 -- the messages of the bursts that were read, where each read is a burst
-abbrev pub messages_read : Input → Input → List SlavePdu
+abbrev pub messages_read : Input → Input → List Heard
 messages_read from to = messages (bytes_read from to) (totals (cuts_made from to))
 
--- The input ended, and one run of the service was asked each burst that was read, in order, as its message asks; what was appended is
--- exactly its replies, each framed for the slave of its message.
+-- The input ended, and one run of the service was asked what each burst that was read says, message by message in order; what was appended
+-- is exactly its answers to the last frame of each burst, each framed for the slave of that frame.
 pub record AnswersBursts {S : Type 0} (A : Answering S) (before after : S) (from to : Input) (sunk sinks : Output) : Type 0 where
   pub exchanges : List (Exchange bursts)
   pub run : Run bursts A before exchanges after

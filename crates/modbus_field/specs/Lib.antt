@@ -2,6 +2,7 @@ pub mod BurstFraming
 pub mod BurstLimits
 pub mod BurstLine
 pub mod BurstLink
+pub mod BurstReading
 pub mod Bursts
 pub mod DefaultUnit
 pub mod Pieces

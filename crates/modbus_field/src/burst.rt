@@ -1,10 +1,11 @@
 //! RTU frames by silence: a server for a device on a serial line that others share (MODBUS over Serial Line V1.02, section 2.5.1.1).
 //!
 //! On such a line a device hears the requests to all and the replies of all, frames that are cut, and noise. The standard ends a frame by a
-//! silence of 3.5 characters. So what lies between two silences, a burst, is one frame or none, whatever came before it. Each burst is a
-//! message: that of its frame, or noise for the reserved address 255. The service hears them all, and is silent to what is not for it;
-//! nothing that comes over the line ends the server. `BurstLink` makes each read of a link that tells silence one burst, and `Bursts` is the
-//! framing of the engine in which each read is a burst.
+//! silence of 3.5 characters, which quick neighbours and converters leave out. So what lies between two silences, a burst, is read from its
+//! start, whatever came before it: all of it where that is a frame, else frames one after another, each as long as a request or a reply. Each
+//! is a message, and what is left is noise for the reserved address 255. The service hears them all, and is silent to what is not for it; its
+//! answer to the last frame alone is written. Nothing that comes over the line ends the server. `BurstLink` makes each read of a link that
+//! tells silence one burst, and `Bursts` is the framing of the engine in which each read is a burst.
 
 mod bursts;
 mod counted;
@@ -15,6 +16,8 @@ mod link;
 
 pub use crate::burst::bursts::{Bursts, MOST_READ};
 pub use crate::burst::counted::CountedLink;
-pub use crate::burst::frame::{NOISE_ADDRESS, SHORTEST_FRAME, frame_in, message_in};
+pub use crate::burst::frame::{
+    FrameHeader, NOISE_ADDRESS, Part, SHORTEST_FRAME, frame_in, message_in,
+};
 pub use crate::burst::line::{Connection, ConnectionWorker, PolledProcess, process, process_link};
 pub use crate::burst::link::BurstLink;

@@ -1,20 +1,21 @@
-//! The burst that a server read last, as a framing: each read is a burst, and each burst is a message.
-ghost use Rattle.std.specs.Prelude.{◌-◌, length};
+//! The burst that a server read last, as a framing: each read is a burst, whose messages are taken off one after another.
+ghost use Rattle.std.specs.Prelude.{◌≡◌, ◌-◌, length};
 ghost use Rattle.modbus_server.specs.declared.error.ProcessError.TheVariants.{TooManyRetries};
 ghost use Rattle.modbus_field.specs.BurstFraming.{bursts};
 ghost use Rattle.modbus_field.specs.BurstLimits.{most_read};
 
-use crate::burst::frame::message_in;
+use crate::burst::frame::{FrameHeader, message_in};
 use crate::standard::decode_any;
 use bytes::BytesMut;
 use modbus_frame::{EncodeError, ExceptionResponse, Front, PduError, Request, Response, SlaveId};
+use modbus_pdu::response_result_pdu_size;
 use modbus_rtu::{MAX_FRAME, encode_response_frame};
 use modbus_server::{Framing, NoFault, ProcessError};
 use std::alloc::{AllocError, Global};
 use std::marker::Model;
 
-/// The bytes of a burst that are read: one more than the longest frame has, so that a longer burst is known as such.
-pub const MOST_READ: usize = MAX_FRAME + 1;
+/// The bytes of a burst that are read. One that has as many or more is noise, as what came behind them is not known.
+pub const MOST_READ: usize = 65_536;
 
 /// The burst that was read and not used yet.
 ///
@@ -42,14 +43,23 @@ impl Model for Bursts {
     } };
 }
 
+impl Bursts {
+    /// What is held of the burst.
+    fn bytes_held(&self) -> &[u8]
+        ensures { result.now ≡ self.now }
+    {
+        &self.bytes.as_slice()[self.taken..]
+    }
+}
+
 impl Framing for Bursts {
-    type Header = SlaveId;
+    type Header = FrameHeader;
 
     type Fault = NoFault;
 
     ghost framing = { bursts };
 
-    ghost header_of = { λ slave. slave };
+    ghost header_of = { λ header. header };
 
     ghost told = { λ fault. TooManyRetries };
 
@@ -61,8 +71,8 @@ impl Framing for Bursts {
         ProcessError::TooManyRetries
     }
 
-    fn slave(header: SlaveId) -> SlaveId {
-        header
+    fn slave(header: FrameHeader) -> SlaveId {
+        header.slave_asked()
     }
 
     fn reply_room() -> usize {
@@ -84,11 +94,16 @@ impl Framing for Bursts {
 
     fn encode_answer(
         alloc: Global,
-        header: SlaveId,
+        header: FrameHeader,
         answer: &Result<Response, ExceptionResponse>,
         reply: &mut BytesMut,
     ) -> Result<(), EncodeError> {
-        encode_response_frame(alloc, header, answer, reply)
+        if header.is_answered() {
+            encode_response_frame(alloc, header.slave, answer, reply)
+        } else {
+            response_result_pdu_size(answer)?;
+            Ok(())
+        }
     }
 
     fn open(alloc: Global) -> Result<Bursts, AllocError> {
@@ -102,17 +117,13 @@ impl Framing for Bursts {
         self.taken == self.bytes.len()
     }
 
-    fn front<'a>(&'a self, _seam: &'a mut [u8]) -> Result<Front<'a, SlaveId>, NoFault> {
-        let burst = &self.bytes.as_slice()[self.taken..];
+    fn front<'a>(&'a self, _seam: &'a mut [u8]) -> Result<Front<'a, FrameHeader>, NoFault> {
+        let burst = self.bytes_held();
         if burst.is_empty() {
             return Ok(Front::Waiting { dropped: 0 });
         }
-        let (slave, pdu) = message_in(burst);
-        Ok(Front::Message {
-            header: slave,
-            pdu,
-            end: burst.len(),
-        })
+        let (header, pdu, end) = message_in(burst);
+        Ok(Front::Message { header, pdu, end })
     }
 
     fn advance(&mut self, count: usize) {

@@ -49,27 +49,32 @@ pub fn process_link<L: Source + Sink, V: Answerer>(
 }
 
 /// Serves a source and a sink, of which each read is a burst, until the input ends, with at most `turns` reads that give bytes, each with a
-/// room of 257 bytes.
+/// room of 65,536 bytes.
 ///
-/// Over a source and a sink that tell their bytes, Ok comes only where the input ended. Then one run of the service was asked each burst, in
-/// order, and stands at its end; its replies, each framed for its message's slave, are all that was appended. A burst that is a frame asks what
-/// its PDU does, for whatever slave. Noise, a frame that is cut or has a wrong checksum, and two frames with no silence between them, ask a
-/// custom request of function code 0 with no byte, for the address 255. No bytes of two bursts are ever read as one frame.
+/// Over a source and a sink that tell their bytes, Ok comes only where the input ended. Then one run of the service was asked what each burst
+/// says, message by message in order, and stands at its end; its answers to the last frame of each burst, framed for the slave of that frame,
+/// are all that was appended.
+///
+/// A burst says all of it, where that is a frame; else the frames that stand one after another from its start, each as long as a request of
+/// its function or as a reply, with a right checksum. A frame asks what its PDU does, for the slave of its address; one that is as long as a
+/// reply alone asks that of the address 255, which no device has. So an earlier request is done, and not answered: behind it the master spoke
+/// on. What is left is noise, as a cut frame with all that stands behind it, and a burst that fills the room: it asks a custom request of
+/// function code 0 with no byte, for the address 255. No bytes of two bursts are ever read as one frame.
 ///
 /// So the service hears the whole line, and has to be silent to what is not for it: `OnlyUnit` and `Units` of modbus_service are, to the
-/// messages for other slaves. Below them `StandardAnswers` answers a PDU that can't be read with the exception that the
-/// standard wants, and is silent to noise.
+/// messages for other slaves. Below them `StandardAnswers` answers a PDU that can't be read with the exception that the standard wants, and is
+/// silent to noise.
 ///
 /// # Errors
 /// - `ReadFault`, `WriteFault`: only where the source, the sink counted a fault in this call.
-/// - `ResponseTooLong`: the service answered a response whose PDU has this many bytes, more than 253.
+/// - `ResponseTooLong`: the service answered a response whose PDU has this many bytes, more than 253, be it to be written or not.
 /// - `TurnLimit`: `turns` reads gave bytes, and all that they allow was answered.
 /// - `NoMemory`: memory was refused: as the connection was opened, for a request that carries a list, which each custom request does, or in
 ///   the service. A read and a reply take none.
 ///
 /// `TooManyRetries`, `BytesRemaining`, `InvalidRequest`, `InvalidLength` and `InvalidProtocol` never come: whatever is on the line, bursts
-/// have no fault, none is left over, and each asks something. After any error but `WriteFault`, each reply to a message before the failing
-/// place was written whole.
+/// have no fault, nothing is left over, and each message asks something. After any error but `WriteFault`, each answer to a last frame before
+/// the failing place was written whole.
 pub fn process<S: Source, K: Sink, V: Answerer>(
     alloc: Global,
     source: &mut S,

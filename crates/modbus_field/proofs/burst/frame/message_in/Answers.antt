@@ -1,8 +1,9 @@
-use Rattle.modbus_field.proofs.Framed.{heard_none, heard_one}
+use Rattle.std.proofs.Common.{arith}
+use Rattle.modbus_field.proofs.Said.{said_parts}
 use Rattle.modbus_field.proofs.burst.frame.message_in.Goals as goal
 
-pub returns-in-None : goal.returns-in-None
-returns-in-None c = heard_none c.args.burst.now c.in-None.ensures
-
-pub returns-in-Some : goal.returns-in-Some
-returns-in-Some c = heard_one c.args.burst.now (record { header = c.in-Some.frame.0; pdu = c.in-Some.frame.1.now }) c.in-Some.ensures
+pub returns-in-Some-clause-says : goal.returns-in-Some-clause-says
+returns-in-Some-clause-says c = λ some.
+    let e = c.in-Some.ensures in
+    let few = c.if-burst-ge-MOST_READ.false in
+    said_parts c.args.burst.now c.in-Some.frame.length c.in-Some.frame.is_reply c.part_of.result (grind (arith, few)) e.0 e.1 e.2 e.3 c.part_of.ensures

@@ -1,4 +1,4 @@
 use Rattle.modbus_field.proofs.burst.bursts.BurstsFraming.encode_answer.Goals as goal
 
-pub returns-clause-memory : goal.returns-clause-memory
-returns-clause-memory c = c.encode_response_frame.ensures.longest
+pub returns-then-is_answered-clause-memory : goal.returns-then-is_answered-clause-memory
+returns-then-is_answered-clause-memory c = c.encode_response_frame.ensures.longest
