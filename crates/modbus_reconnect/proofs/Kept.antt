@@ -1,5 +1,5 @@
 -- A client that is kept is ready again.
-use Rattle.std.proofs.Common.{◌≡◌, ℕ, Bool, true, false, true≢false, Option, None, Some, Result, refl, sym, ap, subst, ◌∙◌, if◌then◌else◌}
+use Rattle.std.proofs.Common.{◌≡◌, inl, inr, ℕ, [], Bool, true, false, true≢false, Option, None, Some, Result, Err, refl, sym, ap, subst, ◌∙◌, if◌then◌else◌}
 use Rattle.std.specs.declared.net.SocketAddr.{SocketAddr}
 use Rattle.std.specs.declared.time.Duration.{Duration}
 use Rattle.modbus_link.specs.Line.{Line, LinkMeaning}
@@ -10,12 +10,15 @@ use Rattle.modbus_client.specs.Matches.{Answer}
 use Rattle.modbus_client.specs.State.{ClientState}
 use Rattle.modbus_client.specs.Calls.{Called}
 use Rattle.modbus_client.specs.Ends.{Disconnected, Limited}
-use Rattle.modbus_reconnect.specs.Owes.{leaves_nothing}
+use Rattle.modbus_frame.specs.declared.fault.Error.TheVariants.{Transport}
+use Rattle.modbus_frame.specs.declared.fault.TransportError.TheVariants.{ReadFault}
+use Rattle.modbus_reconnect.specs.Owes.{leaves_nothing, is_kept}
 use Rattle.modbus_reconnect.specs.Replies.{fitted}
 use Rattle.modbus_reconnect.specs.State.{Settings, ReconnectingState, Meaning}
-use Rattle.modbus_reconnect.specs.Stands.{IsReady, IsReadyIfSome, called, directed, limited}
+use Rattle.modbus_reconnect.specs.Stands.{TellsReplies, IsReady, IsReadyIfSome, called, waited, directed, limited}
 use Rattle.modbus_reconnect.specs.Tries.{CallsOn}
 use Rattle.modbus_reconnect.proofs.Settled.{nothing_stays}
+use Rattle.modbus_reconnect.proofs.Late.{kept_why}
 
 asks : {H I L : Type 0} (P : Protocol H) (N : Heading H I) (M : LinkMeaning L) (on after : ClientState I L) (lent asked : Asked) (answer : Answer)
     → lent ≡ asked → Called P N M on lent answer after → Called P N M on asked answer after
@@ -23,8 +26,8 @@ asks P N M on after lent asked answer e c = subst (λ (request : Asked). Called 
 
 -- a client is kept after an answer that leaves nothing, and given up after another
 pub keeps : {H I L : Type 0} (P : Protocol H) (N : Heading H I) (M : LinkMeaning L) (on after : ClientState I L) (lent asked : Asked) (answer : Answer)
-    → lent ≡ asked → Called P N M on lent answer after → (told : Answer) → told ≡ fitted asked answer → leaves_nothing asked answer after.held ≡ true → CallsOn P N M on asked told (Some after)
-keeps P N M on after lent asked answer e c told is nothing = record {
+    → lent ≡ asked → Called P N M on lent answer after → (told : Answer) → told ≡ fitted asked answer → (patient : Bool) → is_kept patient asked answer after.held ≡ true → CallsOn P N M on patient asked told (Some after)
+keeps P N M on after lent asked answer e c told is patient nothing = record {
   after = after;
   found = answer;
   called = asks P N M on after lent asked answer e c;
@@ -34,8 +37,8 @@ keeps P N M on after lent asked answer e c told is nothing = record {
 }
 
 pub gives_up : {H I L : Type 0} (P : Protocol H) (N : Heading H I) (M : LinkMeaning L) (on after gone : ClientState I L) (lent asked : Asked) (answer : Answer) (result : Result (Unit {0}) ShutdownFault)
-    → lent ≡ asked → Called P N M on lent answer after → (told : Answer) → told ≡ fitted asked answer → leaves_nothing asked answer after.held ≡ false → Disconnected M after result gone → CallsOn P N M on asked told None
-gives_up P N M on after gone lent asked answer result e c told is something d = record {
+    → lent ≡ asked → Called P N M on lent answer after → (told : Answer) → told ≡ fitted asked answer → (patient : Bool) → is_kept patient asked answer after.held ≡ false → Disconnected M after result gone → CallsOn P N M on patient asked told None
+gives_up P N M on after gone lent asked answer result e c told is patient something d = record {
   after = after;
   found = answer;
   called = asks P N M on after lent asked answer e c;
@@ -60,12 +63,26 @@ kept_by : {H I C L : Type 0} (m : Meaning H I C L) (address : SocketAddr) (setti
 kept_by m address settings after true ready = ready refl
 kept_by m address settings after false ready = tt
 
+-- so is one that a reply is late for, where replies are told by their headers
+waited_is_ready : {H I C L : Type 0} (m : Meaning H I C L) (address : SocketAddr) (settings : Settings) (on after : ClientState I L) (asked : Asked)
+    → TellsReplies m.protocol → IsReady m address settings on → Called m.protocol m.heading m.link on asked (Err (Transport ReadFault)) after → after.held ≡ [] → IsReady m address settings after
+waited_is_ready m address settings on after asked tells ready c none = record {
+  owes_nothing = waited on after asked tells ready.owes_nothing c none;
+  connected = c.connected ready.connected;
+  slave = c.keeps.slave ∙ ready.slave;
+  turns = c.keeps.turns ∙ ready.turns;
+  timed = ap (λ (line : Line). line.timeout) c.line ∙ ready.timed;
+}
+
 -- the client that a call leaves is ready, where it leaves one
-pub kept_is_ready : {H I C L : Type 0} (m : Meaning H I C L) (address : SocketAddr) (settings : Settings) (on : ClientState I L) (asked : Asked) (answer : Answer) (kept : Option (ClientState I L))
-    → IsReady m address settings on → CallsOn m.protocol m.heading m.link on asked answer kept → IsReadyIfSome m address settings kept
-kept_is_ready {I = I} {L = L} m address settings on asked answer kept ready c =
+pub kept_is_ready : {H I C L : Type 0} (m : Meaning H I C L) (address : SocketAddr) (settings : Settings) (on : ClientState I L) (patient : Bool) (asked : Asked) (answer : Answer) (kept : Option (ClientState I L))
+    → (patient ≡ true → TellsReplies m.protocol) → IsReady m address settings on → CallsOn m.protocol m.heading m.link on patient asked answer kept → IsReadyIfSome m address settings kept
+kept_is_ready {I = I} {L = L} m address settings on patient asked answer kept tells ready c =
     subst (λ (state : Option (ClientState I L)). IsReadyIfSome m address settings state) (sym c.keeps)
-    (kept_by m address settings c.after _ (called_is_ready m address settings on c.after asked c.found ready c.called))
+    (kept_by m address settings c.after _ (λ keeps. elim (kept_why patient asked c.found c.after.held keeps) [
+      | inl nothing ↦ called_is_ready m address settings on c.after asked c.found ready c.called nothing
+      | inr late ↦ waited_is_ready m address settings on c.after asked (tells late.0) ready (subst (λ (found : Answer). Called m.protocol m.heading m.link on asked found c.after) late.1 c.called) late.2
+    ]))
 
 -- all that stays of a client whose own client was taken: what was ready is
 pub moved : {H I C L : Type 0} (m : Meaning H I C L) (old new : ReconnectingState C I L) (connector : C) (client used : Option (ClientState I L))

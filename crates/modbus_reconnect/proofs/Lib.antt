@@ -6,3 +6,4 @@ pub mod Dropping
 pub mod Waited
 pub mod Cleared
 pub mod Told
+pub mod Late

@@ -35,10 +35,10 @@ abbrev pub DisconnectsIfSome : {H I C L : Type 0} → Meaning H I C L → Option
 DisconnectsIfSome m None result = result ≡ Ok tt
 DisconnectsIfSome {I = I} {L = L} m (Some client) result = (gone : ClientState I L) × Disconnected m.link client result gone
 
--- After a disconnection there is no client, so the next call connects anew.
+-- After a disconnection there is no client, so the next call connects anew, and the new link is kept through as many time-outs.
 pub record Disconnects {H I C L : Type 0} (m : Meaning H I C L) (old : ReconnectingState C I L) (result : Result (Unit {0}) ShutdownFault) (new : ReconnectingState C I L) : Type 0 where
   pub client : DisconnectsIfSome m old.client result
-  pub rest : new ≡ record old { client = None }
+  pub rest : new ≡ record old { client = None; left = old.patience }
 
 -- a timeout is set on the client that is there, and on its link
 abbrev pub LimitsIfSome : {H I C L : Type 0} → Meaning H I C L → Option (ClientState I L) → Option Duration → Option (ClientState I L) → Type 0

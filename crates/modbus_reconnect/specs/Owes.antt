@@ -1,7 +1,9 @@
 -- Which answers of a call leave nothing owed on its link: no reply to it comes any more, and no byte of one lies unread.
-use Rattle.std.specs.Prelude.{ℕ, Bool, true, false, List, [], ◌∷◌, Ok, Err}
+use Rattle.std.specs.Prelude.{ℕ, ◌-◌, Bool, true, false, ◌&&◌, ◌||◌, if◌then◌else◌, List, [], ◌∷◌, Ok, Err}
 use Rattle.modbus_frame.specs.Meaning.{Asked}
 use Rattle.modbus_frame.specs.Stage.{Stage, unsent, writing, reading, of_bytes, memory, error_stage}
+use Rattle.modbus_frame.specs.declared.fault.Error.TheVariants.{Transport}
+use Rattle.modbus_frame.specs.declared.fault.TransportError.TheVariants.{ReadFault}
 use Rattle.modbus_client.specs.Matches.{Answer}
 use Rattle.modbus_reconnect.specs.Replies.{is_reply_to}
 
@@ -30,3 +32,23 @@ is_settled asked (Err error) = settles (error_stage error)
 abbrev pub leaves_nothing : Asked → Answer → List ℕ → Bool
 leaves_nothing asked answer [] = is_settled asked answer
 leaves_nothing asked answer (byte ∷ bytes) = false
+
+-- a read failed, as one does that nothing came for in time
+abbrev pub is_read_fault : Answer → Bool
+is_read_fault (Err (Transport ReadFault)) = true
+is_read_fault _ = false
+
+-- a call was given up at a read fault, with no byte of a reply read
+abbrev pub is_late : Answer → List ℕ → Bool
+is_late answer [] = is_read_fault answer
+is_late answer (byte ∷ bytes) = false
+
+-- A link is kept where nothing is owed on it; and where a reply is late, by a client that lets it come.
+abbrev pub is_kept : Bool → Asked → Answer → List ℕ → Bool
+is_kept patient asked answer held = leaves_nothing asked answer held || (patient && is_late answer held)
+
+-- How many more time-outs in a row a link is kept through, after a call with this answer: one less after a time-out, as many as at first
+-- after a reply, and for a new link.
+abbrev pub left_after : Bool → Answer → ℕ → ℕ → ℕ
+left_after false answer patience left = patience
+left_after true answer patience left = if is_read_fault answer then left - 1 else patience

@@ -1,9 +1,13 @@
--- What a link stands for that is used for a call: nothing is owed on it.
-use Rattle.std.specs.Prelude.{◌≡◌, ℕ, Option, None, Some, Ok, IsTrue}
+-- What a link stands for that is used for a call: nothing is owed on it that could be taken for the reply.
+use Rattle.std.specs.Prelude.{◌≡◌, ℕ, ◌<◌, List, [], Option, None, Some, Ok, Err, IsTrue}
 use Rattle.std.specs.declared.net.SocketAddr.{SocketAddr}
 use Rattle.std.specs.declared.time.Duration.{Duration}
 use Rattle.modbus_link.specs.Line.{KeepsEnds}
 use Rattle.modbus_frame.specs.Meaning.{Asked}
+use Rattle.modbus_frame.specs.declared.fault.Error.TheVariants.{Transport}
+use Rattle.modbus_frame.specs.declared.fault.HeaderSeen.{HeaderSeen}
+use Rattle.modbus_frame.specs.declared.fault.TransportError.TheVariants.{ReadFault}
+use Rattle.modbus_client.specs.Protocol.{Protocol, reply}
 use Rattle.modbus_client.specs.Matches.{Answer}
 use Rattle.modbus_client.specs.State.{ClientState, attached_client}
 use Rattle.modbus_client.specs.Calls.{Called}
@@ -18,14 +22,23 @@ pub record IsFresh {H I C L : Type 0} (m : Meaning H I C L) (settings : Settings
   pub timed : m.link.line client.link ≡ record (m.link.line given) { timeout = settings.timeout }
   pub ends : KeepsEnds m.link given client.link
 
--- Nothing is owed on the link of this client: the connector gave the link for this address, and each call since was answered by its own
--- reply, with no byte left over, or sent nothing. Between the calls its slave, its turns and its timeout were set.
+-- A search whose every reply is under the header that was asked, as one by transactions: what is owed of an earlier request is told from the
+-- reply.
+abbrev pub TellsReplies : {H : Type 0} → Protocol H → Type 0
+TellsReplies P = (asked : HeaderSeen) (bytes cuts held : List ℕ) (seen : HeaderSeen) (pdu : List ℕ) → P.Finds asked bytes cuts (reply held seen pdu) → seen ≡ asked
+
+-- Nothing is owed on the link of this client that could be taken for the reply: the connector gave the link for this address, and each call
+-- since was answered by its own reply, with no byte left over, or sent nothing; or it was late, where replies are told by their headers.
+-- Between the calls its slave, its turns and its timeout were set.
 pub data OwesNothing {H I C L : Type 0} (m : Meaning H I C L) (address : SocketAddr) : ClientState I L → Type 0 where
   made : (old new : C) (settings : Settings) (given : L) (client : ClientState I L)
       → m.connector.connects old address settings.timeout (Ok given) new → IsFresh m settings given client → OwesNothing m address client
   called : (before client : ClientState I L) (asked : Asked) (answer : Answer)
       → OwesNothing m address before → Called m.protocol m.heading m.link before asked answer client
       → IsTrue (leaves_nothing asked answer client.held) → OwesNothing m address client
+  waited : (before client : ClientState I L) (asked : Asked) → TellsReplies m.protocol
+      → OwesNothing m address before → Called m.protocol m.heading m.link before asked (Err (Transport ReadFault)) client
+      → client.held ≡ [] → OwesNothing m address client
   directed : (before client : ClientState I L) (slave turns : ℕ)
       → OwesNothing m address before → client ≡ record before { slave = slave; turns = turns } → OwesNothing m address client
   limited : (before client : ClientState I L) (timeout : Option Duration)
@@ -44,3 +57,13 @@ pub record IsReady {H I C L : Type 0} (m : Meaning H I C L) (address : SocketAdd
 abbrev pub IsReadyIfSome : {H I C L : Type 0} → Meaning H I C L → SocketAddr → Settings → Option (ClientState I L) → Type 0
 IsReadyIfSome m address settings None = Unit {0}
 IsReadyIfSome m address settings (Some client) = IsReady m address settings client
+
+-- a client lets a reply be late only where replies are told by their headers
+pub record MayWait {H : Type 0} (P : Protocol H) (patience left : ℕ) : Type 0 where
+  pub first : 0 < patience → TellsReplies P
+  pub more : 0 < left → TellsReplies P
+
+-- what stands between the calls of a client
+pub record Stands {H I C L : Type 0} (m : Meaning H I C L) (address : SocketAddr) (settings : Settings) (patience left : ℕ) (client : Option (ClientState I L)) : Type 0 where
+  pub ready : IsReadyIfSome m address settings client
+  pub waits : MayWait m.protocol patience left

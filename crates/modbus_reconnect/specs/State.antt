@@ -30,6 +30,9 @@ pub record ReconnectingState (C I L : Type 0) : Type 0 where
   pub resend : Resend
   -- how many tries the last call made
   pub tries : ℕ
+  -- how many time-outs in a row a link is kept through, and how many more that are for the one that is used now
+  pub patience : ℕ
+  pub left : ℕ
 
 -- one that has not connected yet
 abbrev pub unconnected_client : {C I L : Type 0} → C → SocketAddr → ℕ → ReconnectingState C I L
@@ -41,6 +44,8 @@ unconnected_client connector address slave = record {
   retries = 0;
   resend = Never;
   tries = 0;
+  patience = 0;
+  left = 0;
 }
 
 -- what the parts of such a client mean: its protocol, its connector, and the links that this makes

@@ -1,5 +1,5 @@
 -- One try of a call: on the link that is there, or on a new one.
-use Rattle.std.specs.Prelude.{◌≡◌, false, Option, None, Some, Result, Ok, Err, if◌then◌else◌}
+use Rattle.std.specs.Prelude.{◌≡◌, nat_lt, Bool, true, false, Option, None, Some, Result, Ok, Err, if◌then◌else◌}
 use Rattle.std.specs.declared.net.SocketAddr.{SocketAddr}
 use Rattle.modbus_link.specs.Outside.{Rose}
 use Rattle.modbus_link.specs.Line.{LinkMeaning}
@@ -13,7 +13,7 @@ use Rattle.modbus_client.specs.Matches.{Answer}
 use Rattle.modbus_client.specs.State.{ClientState}
 use Rattle.modbus_client.specs.Calls.{Called}
 use Rattle.modbus_client.specs.Ends.{Disconnected}
-use Rattle.modbus_reconnect.specs.Owes.{leaves_nothing}
+use Rattle.modbus_reconnect.specs.Owes.{is_kept, left_after}
 use Rattle.modbus_reconnect.specs.Replies.{fitted}
 use Rattle.modbus_reconnect.specs.State.{Settings, ReconnectingState, Meaning}
 use Rattle.modbus_reconnect.specs.Stands.{IsFresh, IsReady}
@@ -24,15 +24,15 @@ pub record IsGivenUp {I L : Type 0} (M : LinkMeaning L) (client : ClientState I 
   pub gone : ClientState I L
   pub disconnected : Disconnected M client result gone
 
--- A call is made on this client, which is kept after it where what it found leaves nothing owed. Else it is given up. A response that can't
--- be the reply is told as that.
-pub record CallsOn {H I L : Type 0} (P : Protocol H) (N : Heading H I) (M : LinkMeaning L) (on : ClientState I L) (asked : Asked) (answer : Answer) (kept : Option (ClientState I L)) : Type 0 where
+-- A call is made on this client, which is kept after it where what it found leaves nothing owed, or where the reply is late and may be. Else
+-- it is given up. A response that can't be the reply is told as that.
+pub record CallsOn {H I L : Type 0} (P : Protocol H) (N : Heading H I) (M : LinkMeaning L) (on : ClientState I L) (patient : Bool) (asked : Asked) (answer : Answer) (kept : Option (ClientState I L)) : Type 0 where
   pub after : ClientState I L
   pub found : Answer
   pub called : Called P N M on asked found after
   pub told : answer ≡ fitted asked found
-  pub keeps : kept ≡ (if leaves_nothing asked found after.held then Some after else None)
-  pub gives_up : leaves_nothing asked found after.held ≡ false → IsGivenUp M after
+  pub keeps : kept ≡ (if is_kept patient asked found after.held then Some after else None)
+  pub gives_up : is_kept patient asked found after.held ≡ false → IsGivenUp M after
 
 -- One connection to this address is made, within the timeout of these settings: it gives a client of its link, or none, and then the
 -- connector has counted a fault.
@@ -53,11 +53,17 @@ Uses m old None None connector = (failed : Failed) × OpensClient m old.connecto
 abbrev pub TriesOn : {H I C L : Type 0} → Meaning H I C L → ReconnectingState C I L → Option (ClientState I L) → Asked → Answer → Option (ClientState I L) → Type 0
 TriesOn m old None asked answer kept = (answer ≡ Err (Transport NotConnected)) × (kept ≡ None)
 TriesOn m old (Some client) asked answer kept =
-    IsReady m old.address old.settings client × CallsOn m.protocol m.heading m.link client asked answer kept
+    IsReady m old.address old.settings client × CallsOn m.protocol m.heading m.link client (nat_lt 0 old.left) asked answer kept
+
+-- whether there is one
+abbrev pub is_some : {A : Type 0} → Option A → Bool
+is_some None = false
+is_some (Some value) = true
 
 -- One try: all else stays.
 pub record Tried {H I C L : Type 0} (m : Meaning H I C L) (old : ReconnectingState C I L) (asked : Asked) (answer : Answer) (new : ReconnectingState C I L) : Type 0 where
   pub used : Option (ClientState I L)
   pub uses : Uses m old old.client used new.connector
   pub tries : TriesOn m old used asked answer new.client
-  pub rest : new ≡ record old { connector = new.connector; client = new.client }
+  pub left : new.left ≡ left_after (is_some new.client) answer old.patience old.left
+  pub rest : new ≡ record old { connector = new.connector; client = new.client; left = new.left }

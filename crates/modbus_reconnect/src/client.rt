@@ -2,6 +2,7 @@
 ghost use Rattle.std.specs.Prelude.{◌≡◌, ◌↔◌, IsNone, IfSome};
 ghost use Rattle.modbus_link.specs.Line.{meaning_of};
 ghost use Rattle.modbus_client.specs.Connects.{connector_of};
+ghost use Rattle.modbus_reconnect.specs.Owes.{left_after};
 ghost use Rattle.modbus_reconnect.specs.State.{unconnected_client, meaning_by};
 ghost use Rattle.modbus_reconnect.specs.Stands.{IsReadyIfSome};
 ghost use Rattle.modbus_reconnect.specs.Tries.{Uses, Tried};
@@ -9,8 +10,9 @@ ghost use Rattle.modbus_reconnect.specs.Calls.{CallsOnce, Disconnects, Limits, w
 
 use crate::once::{CallOnce, TryOnce};
 use crate::opening::open;
+use crate::owing::is_read_fault;
 use crate::resend::Resend;
-use modbus_client::{Client, LinkClient, Protocol, TURNS};
+use modbus_client::{Client, LinkClient, Protocol, TURNS, tcp};
 use modbus_frame::{
     Error, Request, Response, Result, ShutdownFault, Slave, SlaveContext, TransportError,
 };
@@ -23,7 +25,8 @@ use std::time::Duration;
 /// A client of the devices at an address, which connects at its first call, and again where its link is in doubt.
 ///
 /// A link is in doubt after an answer that is no reply to the request, unless nothing was sent, and after a reply with bytes behind it. It
-/// is then shut down, and the next call, or the next try of this one, connects anew.
+/// is then shut down, and the next call, or the next try of this one, connects anew. Where replies are told by their transactions, a link on
+/// which one is late may be kept.
 #[derive(Drop)]
 pub struct ReconnectingClient<P: Protocol, C: Connector>
 where
@@ -38,11 +41,13 @@ where
     retries: u32,
     resend: Resend,
     tries: u64,
+    patience: u32,
+    left: u32,
     alloc: Global,
 }
 
 /// A contract sees the connector, the address, the client of the link that is used now, what stands through each new connection, and what
-/// is said of tries. Nothing is owed on a link that is used.
+/// is said of tries and of late replies. Nothing is owed on a link that is used that could be taken for a reply.
 impl<P: Protocol, C: Connector> Model for ReconnectingClient<P, C>
 where
     C::Link: Link,
@@ -50,7 +55,7 @@ where
     ghost use Rattle.modbus_link.specs.Line.{meaning_of};
     ghost use Rattle.modbus_client.specs.Connects.{connector_of};
     ghost use Rattle.modbus_reconnect.specs.State.{ReconnectingState, meaning_by};
-    ghost use Rattle.modbus_reconnect.specs.Stands.{IsReadyIfSome};
+    ghost use Rattle.modbus_reconnect.specs.Stands.{Stands};
 
     ghost Value = { ReconnectingState C P.Ids C.Link };
 
@@ -62,12 +67,15 @@ where
       retries = it.retries;
       resend = it.resend;
       tries = it.tries;
+      patience = it.patience;
+      left = it.left;
     } };
 
-    ghost invariant = { λ it. IsReadyIfSome
+    ghost invariant = { λ it. Stands
         (meaning_by P.protocol P.heading (connector_of C.connects C.faults)
         (meaning_of C.Link.input C.Link.output C.Link.line))
-        it.address (record { slave = it.slave.0; turns = it.turns; timeout = it.timeout }) it.client };
+        it.address (record { slave = it.slave.0; turns = it.turns; timeout = it.timeout })
+        it.patience it.left it.client };
 }
 
 impl<P: Protocol, C: Connector> ReconnectingClient<P, C>
@@ -94,6 +102,8 @@ where
             retries: 0,
             resend: Resend::Never,
             tries: 0,
+            patience: 0,
+            left: 0,
             alloc,
         }
     }
@@ -177,6 +187,33 @@ where
     }
 }
 
+impl<C: Connector> ReconnectingClient<tcp::OwnAdus, C>
+where
+    C::Link: Link,
+{
+    /// Through how many time-outs in a row a link is kept from then on; 0 at first.
+    ///
+    /// A late reply is told by its transaction and dropped, so that a device which is slow for a while needs no new connection. A reset that
+    /// a read finds looks like a time-out, so it is found by the next call, whose request can't be written then.
+    pub fn set_patience(&mut self, patience: u32)
+        ensures { self.new ≡ record self.old { patience = patience; left = patience } }
+    {
+        self.patience = patience;
+        self.left = patience;
+    }
+}
+
+/// Through how many more time-outs in a row a link is kept after a call with this answer.
+fn left_after(is_kept: bool, answer: &Result<Response>, patience: u32, left: u32) -> u32
+    ensures { result ≡ left_after is_kept answer.now patience left }
+{
+    if is_kept && is_read_fault(answer) {
+        left.saturating_sub(1)
+    } else {
+        patience
+    }
+}
+
 impl<P: Protocol, C: Connector> TryOnce for ReconnectingClient<P, C>
 where
     P::Ids: Send,
@@ -187,9 +224,11 @@ where
 
     fn try_once(&mut self, request: &Request<'_>) -> Result<Response> {
         let Some(client) = self.take_client() else {
+            self.left = self.patience;
             return Err(Error::Transport(TransportError::NotConnected));
         };
-        let (answer, kept) = client.call_once(request);
+        let (answer, kept) = client.call_once(0 < self.left, request);
+        self.left = left_after(kept.is_some(), &answer, self.patience, self.left);
         self.client = kept;
         answer
     }
@@ -241,6 +280,7 @@ where
     }
 
     fn disconnect(&mut self) -> std::result::Result<(), ShutdownFault> {
+        self.left = self.patience;
         match self.client.take() {
             Some(mut client) => client.disconnect(),
             None => Ok(()),

@@ -1,13 +1,13 @@
 //! One call of the client of one link, and one try of a client that connects anew.
 //!
 //! Both are traits, since what an implementation calls may not ask of a type parameter that it can be sent to a thread, and a `Client` can.
-ghost use Rattle.std.specs.Prelude.{Option};
+ghost use Rattle.std.specs.Prelude.{Bool, Option};
 ghost use Rattle.modbus_link.specs.Line.{meaning_of};
 ghost use Rattle.modbus_frame.specs.Meaning.{Asked, meaning};
 ghost use Rattle.modbus_client.specs.Matches.{Answer};
 ghost use Rattle.modbus_reconnect.specs.Tries.{CallsOn};
 
-use crate::owing::leaves_nothing;
+use crate::owing::is_kept;
 use crate::reply::fitted;
 use modbus_client::{Client, LinkClient, Protocol};
 use modbus_frame::{Request, Response, Result};
@@ -16,12 +16,12 @@ use modbus_link::Link;
 /// A client that is asked once, and kept where its link can be used again.
 pub(crate) trait CallOnce: Sized {
     // what a call may lead to: the answer, and the client that is kept
-    ghost calls_on: { Self → Asked → Answer → Option Self → Type 0 };
+    ghost calls_on: { Self → Bool → Asked → Answer → Option Self → Type 0 };
 
-    /// Makes a call, and keeps the client where what it found leaves nothing owed on its link. Else its link is shut down. A response that
-    /// can't be the reply is told as `PayloadMismatch`.
-    fn call_once(self, request: &Request<'_>) -> (Result<Response>, Option<Self>)
-        ensures { calls_on self (meaning request.now) result.0 result.1 };
+    /// Makes a call, and keeps the client where what it found leaves nothing owed on its link, and a patient one where the reply is late.
+    /// Else its link is shut down. A response that can't be the reply is told as `PayloadMismatch`.
+    fn call_once(self, is_patient: bool, request: &Request<'_>) -> (Result<Response>, Option<Self>)
+        ensures { calls_on self is_patient (meaning request.now) result.0 result.1 };
 }
 
 impl<P: Protocol, L: Link + Send + Drop> CallOnce for LinkClient<P, L>
@@ -30,11 +30,15 @@ where
 {
     ghost calls_on = { CallsOn P.protocol P.heading (meaning_of L.input L.output L.line) };
 
-    fn call_once(mut self, request: &Request<'_>) -> (Result<Response>, Option<Self>) {
+    fn call_once(
+        mut self,
+        is_patient: bool,
+        request: &Request<'_>,
+    ) -> (Result<Response>, Option<Self>) {
         let found = self.call(request.lend());
-        let is_kept = leaves_nothing(request, &found, self.held());
+        let keeps = is_kept(is_patient, request, &found, self.held());
         let answer = fitted(request, found);
-        if is_kept {
+        if keeps {
             return (answer, Some(self));
         }
         // The link is of no more use, whatever its shutdown answers.

@@ -1,7 +1,7 @@
 //! Which answers leave nothing owed on their link.
 ghost use Rattle.std.specs.Prelude.{◌≡◌, ℕ, List, length};
 ghost use Rattle.modbus_frame.specs.Meaning.{meaning};
-ghost use Rattle.modbus_reconnect.specs.Owes.{is_settled, leaves_nothing};
+ghost use Rattle.modbus_reconnect.specs.Owes.{is_settled, leaves_nothing, is_read_fault, is_kept};
 ghost use Rattle.modbus_reconnect.specs.Resends.{is_in_doubt};
 
 use crate::reply::is_reply_to;
@@ -39,4 +39,24 @@ pub fn leaves_nothing(request: &Request<'_>, answer: &Result<Response>, held: us
         → result ≡ leaves_nothing (meaning request.now) answer.now bytes }
 {
     is_settled(request, answer) && held == 0
+}
+
+/// Whether a call ended by a read that failed, as one does that nothing came for in time.
+pub(crate) fn is_read_fault(answer: &Result<Response>) -> bool
+    ensures { result ≡ is_read_fault answer.now }
+{
+    matches!(answer, Err(Error::Transport(TransportError::ReadFault)))
+}
+
+/// Whether the link of a call with this answer is kept: nothing is owed on it, or the reply is late, with no byte of it read, and may be.
+pub(crate) fn is_kept(
+    is_patient: bool,
+    request: &Request<'_>,
+    answer: &Result<Response>,
+    held: usize,
+) -> bool
+    ensures { (bytes : List ℕ) → length bytes ≡ held
+        → result ≡ is_kept is_patient (meaning request.now) answer.now bytes }
+{
+    leaves_nothing(request, answer, held) || (is_patient && held == 0 && is_read_fault(answer))
 }

@@ -1,6 +1,6 @@
 //! Clients that are never one reply behind: over a connector that gives one link after another, and over a line that tells silence.
 
-use crate::clients::{milliseconds, step, steps};
+use crate::clients::{milliseconds, step};
 use crate::left::{push_link, push_written};
 use crate::outside::{read_joined, read_line};
 use crate::text::Text;
@@ -116,9 +116,33 @@ fn over_rtu(text: &mut Text, client: &mut RtuOverTcpClient<Links>, words: &str) 
     is_done
 }
 
+/// What a step does to a TCP client over a connector, which also has `patience=2`.
+fn tcp_step(text: &mut Text, client: &mut TcpClient<Links>, word: &str) -> bool {
+    let Some(patience) = word.strip_prefix("patience=") else {
+        return step(text, client, word);
+    };
+    let Ok(patience) = patience.parse() else {
+        return false;
+    };
+    client.set_patience(patience);
+    text.push_str("()");
+    true
+}
+
+/// The answers of such a client.
+fn tcp_steps(text: &mut Text, client: &mut TcpClient<Links>, words: &str) -> bool {
+    for word in words.split(',') {
+        if !tcp_step(text, client, word) {
+            return false;
+        }
+        text.push_str("; ");
+    }
+    true
+}
+
 /// The answers of a TCP client over a connector, and its link.
 fn over_tcp(text: &mut Text, client: &mut TcpClient<Links>, words: &str) -> bool {
-    let is_done = steps(text, client, words);
+    let is_done = tcp_steps(text, client, words);
     push_link(text, client.link());
     is_done
 }

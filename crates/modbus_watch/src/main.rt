@@ -40,7 +40,7 @@ fn parse_args(rt: &HostRuntime) -> Option<Task> {
 fn main(rt: HostRuntime) -> ExitCode {
     let Some(task) = parse_args(&rt) else {
         let _ = eprintln!(rt;
-            "watch: usage: modbus_watch tcp|rtu|once-tcp|once-rtu ADDRESS COUNT MILLIS [RETRIES [PAUSE]]
+            "watch: usage: modbus_watch tcp|patient|rtu|once-tcp|once-rtu ADDRESS COUNT MILLIS [RETRIES [PAUSE]]
        modbus_watch serial TERMINAL COUNT MILLIS [0 PAUSE]"
         );
         return ExitCode::from(2);

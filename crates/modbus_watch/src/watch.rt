@@ -19,6 +19,9 @@ const SILENCE: u64 = 100;
 
 const NOISE: usize = 4096;
 
+/// Through how many time-outs in a row a patient client keeps its link.
+const PATIENCE: u32 = 8;
+
 /// Prints what a register holds, or why that is not known.
 fn report(
     rt: &HostRuntime,
@@ -69,6 +72,13 @@ fn watch_peer(rt: &HostRuntime, form: Form, address: SocketAddr, task: &Task) ->
             let mut client = TcpClient::new(rt.alloc(), connector, address, UNIT);
             client.set_timeout(limit);
             client.set_retries(task.retries, Resend::Reads);
+            watch(rt, &mut client, task)
+        }
+        Form::Patient => {
+            let mut client = TcpClient::new(rt.alloc(), connector, address, UNIT);
+            client.set_timeout(limit);
+            client.set_retries(task.retries, Resend::Reads);
+            client.set_patience(PATIENCE);
             watch(rt, &mut client, task)
         }
         Form::Rtu => {

@@ -8,7 +8,9 @@ use std::str::FromStr;
 pub enum Form {
     /// Modbus TCP, over a new link where the last one is in doubt.
     Tcp,
-    /// RTU frames over TCP, likewise.
+    /// The same, but a link is kept through some time-outs in a row.
+    Patient,
+    /// RTU frames over TCP, over a new link where the last one is in doubt.
     Rtu,
     /// Modbus TCP, over one link.
     OnceTcp,
@@ -26,6 +28,7 @@ impl FromStr for Form {
     fn from_str(text: &str) -> Result<Form, NoForm> {
         match text {
             "tcp" => Ok(Form::Tcp),
+            "patient" => Ok(Form::Patient),
             "rtu" => Ok(Form::Rtu),
             "once-tcp" => Ok(Form::OnceTcp),
             "once-rtu" => Ok(Form::OnceRtu),

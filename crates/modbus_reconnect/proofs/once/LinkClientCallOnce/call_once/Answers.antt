@@ -2,13 +2,13 @@ use Rattle.std.proofs.Common.{sym, ◌∙◌}
 use Rattle.modbus_reconnect.proofs.Kept.{keeps, gives_up}
 use Rattle.modbus_reconnect.proofs.once.LinkClientCallOnce.call_once.Goals as goal
 
-pub returns-then-is_kept : goal.returns-then-is_kept
-returns-then-is_kept g c =
-    keeps _ _ _ _ _ _ _ _ c.lend.ensures c.call-found.ensures.called _ c.fitted-answer.ensures
-    (sym (c.leaves_nothing-is_kept.ensures c.call-found.new.self.held (sym c.held.ensures)) ∙ c.if-is_kept.true)
+pub returns-then-keeps : goal.returns-then-keeps
+returns-then-keeps g c =
+    keeps _ _ _ _ _ _ _ _ c.lend.ensures c.call-found.ensures.called _ c.fitted-answer.ensures c.args.is_patient
+    (sym (c.is_kept-keeps.ensures c.call-found.new.self.held (sym c.held.ensures)) ∙ c.if-keeps.true)
 
 pub returns : goal.returns
 returns g c =
-    gives_up _ _ _ _ _ _ _ _ _ _ c.lend.ensures c.call-found.ensures.called _ c.fitted-answer.ensures
-    (sym (c.leaves_nothing-is_kept.ensures c.call-found.new.self.held (sym c.held.ensures)) ∙ c.if-is_kept.false)
+    gives_up _ _ _ _ _ _ _ _ _ _ c.lend.ensures c.call-found.ensures.called _ c.fitted-answer.ensures c.args.is_patient
+    (sym (c.is_kept-keeps.ensures c.call-found.new.self.held (sym c.held.ensures)) ∙ c.if-keeps.false)
     c.disconnect.ensures
