@@ -14,4 +14,6 @@ mod piece;
 
 pub use crate::stream::buffer::StreamBuffer;
 pub use crate::stream::default_unit::{DefaultUnit, NON_SIGNIFICANT};
-pub use crate::stream::line::{Connection, ConnectionWorker, PolledProcess, Server, process, process_link};
+pub use crate::stream::line::{
+    Connection, ConnectionWorker, PolledProcess, Server, process, process_link,
+};

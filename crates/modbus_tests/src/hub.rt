@@ -98,11 +98,7 @@ fn server<'a>(
 }
 
 /// Serves both to their ends.
-fn serve<R: Wait + Clock + Abort>(
-    rt: &R,
-    server: &mut TwoLinks<'_>,
-    service: &mut RegisterStore,
-) {
+fn serve<R: Wait + Clock + Abort>(rt: &R, server: &mut TwoLinks<'_>, service: &mut RegisterStore) {
     let ended = server.serve_until(rt, service, None, &mut MemoryStop::new(5));
     check(rt, ended, Ok(Terminated::Aborted));
     check(rt, (server.is_empty(), server.unseated()), (true, 0));

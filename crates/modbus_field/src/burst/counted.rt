@@ -6,7 +6,8 @@ ghost use Rattle.modbus_link.specs.Polled.{at_once, Waited};
 ghost use Rattle.modbus_field.specs.BurstLink.{CountsSilence};
 
 use modbus_link::{
-    Failed, Polled, PolledLink, TerminalLine, TerminalLink, TimedLink, TimedMemoryLink, TimedTcpLink,
+    Failed, Polled, PolledLink, TerminalLine, TerminalLink, TimedLink, TimedMemoryLink,
+    TimedTcpLink,
 };
 use std::io::{Read, Write};
 use std::time::Clock;

@@ -28,14 +28,7 @@ pub const NO_FUNCTION: u8 = 0;
 /// # Errors
 /// `NoMemory` alone, where memory is refused, only for a request that carries a list.
 #[inline(always)]
-#[tactic(
-    auto,
-    using(
-        crate::proofs::Any::of_request,
-        crate::proofs::Any::of_spare_bytes,
-        crate::proofs::Any::of_none
-    )
-)]
+#[tactic(auto, using(crate::proofs::Any::of_request, crate::proofs::Any::of_spare_bytes, crate::proofs::Any::of_none))]
 pub fn decode_any(alloc: Global, pdu: &[u8]) -> Result<Request<'static>, PduError>
     ensures value { Decodes meaning result (Ok (any_request_of pdu.now)) }
     ensures memory { result ≡ Err PduError.NoMemory → CarriesList (any_request_of pdu.now) }
