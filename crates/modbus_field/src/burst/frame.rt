@@ -1,5 +1,5 @@
 //! The frames of a burst, and what each of them is in it (MODBUS over Serial Line V1.02, section 2.5.1).
-ghost use Rattle.std.specs.Prelude.{◌≡◌, ◌∷◌, ◌<◌, ◌≤◌, length, drop, MatchOption};
+ghost use Rattle.std.specs.Prelude.{◌≡◌, ◌∷◌, ◌<◌, ◌≤◌, true, false, length, drop, MatchOption};
 ghost use Rattle.modbus_pdu.specs.Message.{message};
 ghost use Rattle.modbus_rtu.specs.Frame.{judged_by};
 ghost use Rattle.modbus_field.specs.BurstLimits.{shortest_frame};
@@ -82,7 +82,8 @@ fn is_frame(bytes: &[u8]) -> bool
 /// `SHORTEST_FRAME` or more than `MAX_FRAME`, or does not end with the checksum of the others.
 #[tactic(auto, unfolding(crate::specs::Bursts::frame_of))]
 pub fn frame_in(burst: &[u8]) -> Option<(SlaveId, &[u8])>
-    ensures { found (λ frame. message frame.0 frame.1.now) result ≡ frame_of burst.now }
+    ensures exact { found (λ frame. message frame.0 frame.1.now) result ≡ frame_of burst.now }
+    ensures whole { MatchOption result (is_frame burst.now ≡ false) (λ _. is_frame burst.now ≡ true) }
 {
     if is_frame(burst) {
         Some((burst[0], &burst[1..burst.len() - CHECKSUM]))
@@ -118,7 +119,7 @@ fn frame_at(bytes: &[u8]) -> Option<Found>
         (it.length ≡ frame_length bytes.now) × (it.is_reply ≡ is_reply bytes.now)
         × (shortest_frame ≤ it.length) × (it.length ≤ length bytes.now)) }
 {
-    if is_frame(bytes) {
+    if frame_in(bytes).is_some() {
         return Some(Found {
             length: bytes.len(),
             is_reply: false,
