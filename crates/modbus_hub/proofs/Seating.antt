@@ -228,13 +228,14 @@ module _ (F : Framing) {S : Type 0} (A : Answering S) {L : Type 0} (M : PolledMe
   runs_aside earlier (turned key link turn ∷ xs) s none = absurd none
 
   -- what happens without the service leaves it as it is
+  pub seated_aside : (start service : S) (history more : List (Event L)) (old new : Slab (Place L)) → AreSeated F A M start history old service → AsksNone history more
+      → AllStand F M.link (history ++ more) new → AreSeated F A M start (history ++ more) new service
+  seated_aside start service history more old new all none stand =
+      record { run = runs_both F A M [] history more start service service all.run (runs_aside history more service none); each = stand }
+
   pub go_aside : (P : List (Event L) → List (Event L) → Type 0) (a b : Slab (Place L)) (s : S) → SeatsStay F M.link P a b → SeatsGoOn F A M P a b s s
   go_aside P a b s stays start history all =
-      let on = stays history all.each in (
-        on.0,
-        record { run = runs_both F A M [] history on.0 start s s all.run (runs_aside history on.0 s on.1); each = on.2 },
-        on.3,
-      )
+      let on = stays history all.each in (on.0, seated_aside start s history on.0 a b all on.1 on.2, on.3)
 
   pub go_same : (P : List (Event L) → List (Event L) → Type 0) (a : Slab (Place L)) (s : S) → ((history : List (Event L)) → P history []) → SeatsGoOn F A M P a a s s
   go_same P a s tells = go_aside P a a s (stay_same F M.link P a a (λ key. refl) (λ history all. tells history))

@@ -80,8 +80,8 @@ module _ (F : Framing) {L : Type 0} (M : LinkMeaning L) where
 
 module _ (F : Framing) {S : Type 0} (A : Answering S) {L : Type 0} (M : PolledMeaning L) where
   -- Where the connection with this account had a turn that ended so, the service goes from one state to another. It stays, but where the
-  -- connection is over for want of memory, which may leave the service in another state. One that waits asked its link, which was not ready. One whose reads
-  -- were used up read as often as a turn may.
+  -- connection is over for want of memory, or since a response is too long: that was asked last, and is told to nobody. One that waits asked
+  -- its link, which was not ready. One whose reads were used up read as often as a turn may.
   abbrev pub EndsTurn : KeyAccount L → L → S → S → Turn → Type 0
   EndsTurn None last old new turn = ⊥
   EndsTurn (Some account) last old new Waiting = (new ≡ old) × Rose (M.not_ready account.last) (M.not_ready last)

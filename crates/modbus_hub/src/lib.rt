@@ -5,6 +5,7 @@
 //! connection has the contract of `process` over its own messages.
 #![tactic(auto)]
 
+pub mod laws;
 mod rationed;
 mod seat;
 mod seats;
