@@ -1,4 +1,4 @@
-/* Reads registers of a device one after another by libmodbus with its error recovery, as modbus_watch does, and prints the same lines.
+/* Reads registers of a device one after another by libmodbus with its error recovery, as modbus_bench does, and prints the same lines.
  *
  * usage: libmodbus PORT CALLS MILLISECONDS
  */

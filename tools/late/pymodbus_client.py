@@ -1,4 +1,4 @@
-"""Reads registers of a device one after another by pymodbus, as modbus_watch does, and prints the same lines.
+"""Reads registers of a device one after another by pymodbus, as modbus_bench does, and prints the same lines.
 
 usage: pymodbus_client.py tcp|rtu PORT CALLS MILLISECONDS
 """

@@ -1,6 +1,6 @@
 //! Reads of one register after another.
 
-use crate::words::{Device, Form, Task};
+use crate::words::{Device, Form, Watched};
 use modbus_client::{Client, Reader, rtu, tcp};
 use modbus_frame::{Error, ExceptionCode, Slave};
 use modbus_idle::WatchedLine;
@@ -36,7 +36,7 @@ fn report(
 }
 
 /// Reads as many registers as are asked for from 0 on, one a call.
-fn watch<C: Client>(rt: &HostRuntime, client: &mut C, task: &Task) -> io::Result<()> {
+fn watch<C: Client>(rt: &HostRuntime, client: &mut C, task: &Watched) -> io::Result<()> {
     let pause = Duration::from_millis(task.pause);
     for register in 0..task.count {
         report(rt, register, &client.read_holding_registers(register, 1))?;
@@ -50,7 +50,7 @@ fn watch<C: Client>(rt: &HostRuntime, client: &mut C, task: &Task) -> io::Result
 
 /// Reads the registers of a device on the serial line of a terminal that tells silences of a tenth of a second. A line in doubt has to be
 /// silent for as long as a reply is waited for.
-fn watch_line(rt: &HostRuntime, terminal: &str, task: &Task) -> io::Result<()> {
+fn watch_line(rt: &HostRuntime, terminal: &str, task: &Watched) -> io::Result<()> {
     let reader = File::options().read(true).write(true).open(rt, terminal)?;
     let writer = reader.try_clone()?;
     let fd = reader.as_raw_fd();
@@ -64,7 +64,7 @@ fn watch_line(rt: &HostRuntime, terminal: &str, task: &Task) -> io::Result<()> {
 }
 
 /// Reads the registers of a device behind an address, in the form that was asked for.
-fn watch_peer(rt: &HostRuntime, form: Form, address: SocketAddr, task: &Task) -> io::Result<()> {
+fn watch_peer(rt: &HostRuntime, form: Form, address: SocketAddr, task: &Watched) -> io::Result<()> {
     let mut connector = TcpConnector::new(rt);
     let limit = Some(Duration::from_millis(task.millis));
     match form {
@@ -107,7 +107,7 @@ fn watch_peer(rt: &HostRuntime, form: Form, address: SocketAddr, task: &Task) ->
 }
 
 /// Reads the registers of a device where it is. Where one link can't be made nothing is read.
-pub fn watch_device(rt: &HostRuntime, task: Task) -> io::Result<()> {
+pub fn watch_device(rt: &HostRuntime, task: Watched) -> io::Result<()> {
     match &task.device {
         Device::Peer(form, address) => watch_peer(rt, *form, *address, &task),
         Device::Line(terminal) => watch_line(rt, terminal.as_str(), &task),
