@@ -16,7 +16,8 @@ use Rattle.modbus_app.specs.declared.words.Task.TheVariants.{Serve, Make, Listen
 use Rattle.modbus_app.specs.Make.{SumsUp, summary}
 use Rattle.modbus_app.specs.Device.{EndsServing, ServesStreams, messages_of, device_of}
 use Rattle.modbus_app.specs.Ends.{EndsProgram, MakesRequests, TellsResult}
-use Rattle.modbus_app.specs.Status.{ending_of, Reports, line_of}
+use Rattle.modbus_port.specs.Reports.{Reports}
+use Rattle.modbus_app.specs.Status.{ending_of, line_of}
 use Rattle.modbus_server.specs.Moment.{moment}
 
 abbrev count_or : ℕ → Option Task → ℕ

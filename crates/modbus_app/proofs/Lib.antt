@@ -1,7 +1,6 @@
 pub mod Fitting
 pub mod Ending
-pub mod ServingLinks
+pub mod Splitting
 pub mod SingleWrites
 pub mod Making
-pub mod Unspawned
 pub mod Planned

@@ -12,8 +12,8 @@ use Rattle.modbus_store.specs.Tables.{Tables}
 use Rattle.modbus_store.specs.Opening.{zeros_of}
 use Rattle.modbus_store.specs.Step.{device}
 use Rattle.modbus_store.specs.Views.{Opening}
-use Rattle.modbus_app.specs.declared.words.Framing.{Framing}
-use Rattle.modbus_app.specs.declared.words.Framing.TheVariants as framing
+use Rattle.modbus_port.specs.declared.listen.Framing.{Framing}
+use Rattle.modbus_port.specs.declared.listen.Framing.TheVariants as framing
 use Rattle.modbus_app.specs.declared.words.Mode.{Mode}
 use Rattle.modbus_app.specs.declared.words.Mode.TheVariants.{Rtu, Ascii, Tcp}
 use Rattle.modbus_app.specs.declared.words.Form.{Form}

@@ -8,7 +8,8 @@ use Rattle.modbus_app.specs.Device.{ServesStreams}
 use Rattle.modbus_app.specs.Make.{SumsUp}
 use Rattle.modbus_app.specs.Plan.{TellsPlan}
 use Rattle.modbus_poll.specs.declared.item.Item.{Item}
-use Rattle.modbus_app.specs.Status.{ending_of, line_of, usage_line, Reports}
+use Rattle.modbus_port.specs.Reports.{Reports}
+use Rattle.modbus_app.specs.Status.{ending_of, line_of, usage_line}
 
 -- the words are no form: nothing was read or written, and the line was told
 pub record IsUsageFault (from to : Input) (sunk sinks said told : Output) : Type 0 where

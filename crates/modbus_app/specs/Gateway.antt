@@ -11,7 +11,8 @@ use Rattle.modbus_client.specs.State.{attached_client}
 use Rattle.modbus_gateway.specs.Forwards.{LineState}
 use Rattle.modbus_gateway.specs.Forwarded.{Forwarded}
 use Rattle.modbus_app.specs.Ends.{EndsBy}
-use Rattle.modbus_app.specs.Status.{connect_line, Reports}
+use Rattle.modbus_port.specs.Reports.{Reports}
+use Rattle.modbus_app.specs.Status.{connect_line}
 use Rattle.modbus_server.specs.Moment.{moment}
 
 -- What stood on what the connector gave: the requests were forwarded to its link, by a client that was told nothing; or there was none, which

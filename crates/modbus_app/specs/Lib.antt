@@ -7,7 +7,4 @@ pub mod Ends
 pub mod Gateway
 pub mod Listen
 pub mod Memory
-pub mod Watches
-pub mod Patient
-pub mod TurnsAway
 pub mod Port

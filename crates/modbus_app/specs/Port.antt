@@ -1,49 +1,24 @@
 -- How a program that listens on a port ends.
-use Rattle.std.specs.Prelude.{◌≡◌, ◌⊎◌, ℕ, [], ◌∷◌, IfOk}
-use Rattle.std.specs.Net.Addr.{IsV4And, ipv4_octets}
-use Rattle.std.specs.Net.Socket.{socket_ip, IsPlainSocket}
+use Rattle.std.specs.Prelude.{◌≡◌, ◌⊎◌, ℕ, IfOk}
 use Rattle.std.specs.declared.net.SocketAddr.{SocketAddr}
 use Rattle.modbus_link.specs.Line.{LinkMeaning, meaning_of}
-use Rattle.modbus_link.specs.Listens.{Tally, tally_at_start}
 use Rattle.modbus_link.specs.Memory.{faults_after}
 use Rattle.modbus_link.specs.Outside.{Output, Outside, untold_input, untold_output}
 use Rattle.modbus_link.specs.Tcp.{TcpState, tcp_at_start}
 use Rattle.modbus_client.specs.Connects.{ConnectorMeaning, connector_of}
 use Rattle.modbus_server.specs.declared.error.ProcessError.TheVariants.{NoMemory}
 use Rattle.modbus_store.specs.Passes.{Shared, Pass, first_pass}
-use Rattle.modbus_app.specs.declared.words.Framing.{Framing}
+use Rattle.modbus_port.specs.declared.listen.Framing.{Framing}
 use Rattle.modbus_app.specs.Device.{shared_opening}
 use Rattle.modbus_app.specs.Gateway.{ForwardsTo}
-use Rattle.modbus_app.specs.Listen.{Accepting, ListenedOver}
-use Rattle.modbus_app.specs.Patient.{PatientState, IsPatient}
-use Rattle.modbus_app.specs.Status.{line_of, bind_line, Reports}
-use Rattle.modbus_app.specs.Watches.{AcceptsWatched}
-
--- what accepts the links of a port: watched links over TCP, patiently; nothing is said of what keeps it going
-abbrev pub Port : Type 0
-Port = PatientState Tally (Unit {0})
-
-abbrev pub port_accepting : Accepting Port TcpState
-port_accepting = record {
-  accepts = IsPatient (record { accepts = AcceptsWatched; admits = λ _ _ _. Unit {0}; waits = λ _ _. Unit {0} });
-  faults = λ port. port.tally.faults;
-}
-
--- one that has given nothing, and tries again 300 times
-abbrev pub port_at_start : Port
-port_at_start = record {
-  pair = record { acceptor = tally_at_start; keeper = tt };
-  retries = 300;
-  tally = tally_at_start;
-}
+use Rattle.modbus_app.specs.Listen.{own_pass, ListenedOver}
+use Rattle.modbus_app.specs.Status.{line_of, bind_line}
+use Rattle.modbus_port.specs.Port.{Port, port_accepting, port_at_start, IsLoopback}
+use Rattle.modbus_port.specs.Reports.{Reports}
 
 -- such a port, and the first pass of a shared store
 abbrev pub begun : Shared → Port × Pass
 begun store = (port_at_start, first_pass store.table store.opening)
-
--- the services of a shared store are told by their passes
-abbrev pub own_pass : Pass → Pass
-own_pass pass = pass
 
 -- The links of a port were served over one shared store, which began as the device of this framing.
 pub record ServesDevice {H : Type 0} (framing : Framing) (on_error : H) (said told : Output) (status : ℕ)
@@ -68,11 +43,6 @@ ServesPort framing on_error said told status = WantsMemoryForPort said told stat
 -- a program that listens ended: the system refused the listener, or it served
 abbrev pub ListensAt : {H : Type 0} → Framing → H → Output → Output → ℕ → Type 0
 ListensAt framing on_error said told status = RefusesPort said told status ⊎ ServesPort framing on_error said told status
-
--- the address of this port of this machine, which no other reaches (RFC 1122, section 3.2.1.3)
-pub record IsLoopback (port : ℕ) (address : SocketAddr) : Type 0 where
-  pub ip : IsV4And (socket_ip address) (λ ip. ipv4_octets ip ≡ 127 ∷ 0 ∷ 0 ∷ 1 ∷ [])
-  pub port_is : IsPlainSocket address port
 
 -- what connects to a port: a connector over TCP, whose link is new
 abbrev pub tcp_connecting : ConnectorMeaning ℕ TcpState

@@ -1,7 +1,6 @@
 -- The status and the text of each ending of the program.
-use Rattle.std.specs.Prelude.{◌≡◌, ℕ, List, [], ◌++◌, codes, Option, Some, None, IsTrue, Result, Ok, Err}
+use Rattle.std.specs.Prelude.{ℕ, List, [], ◌++◌, codes, Option, Some, None, Result, Ok, Err}
 use Rattle.std.specs.Fmt.{decimal}
-use Rattle.modbus_link.specs.Outside.{Output, Rose, Extends, bytes_appended, IsFront}
 use Rattle.modbus_frame.specs.declared.fault.Reason.{Reason}
 use Rattle.modbus_frame.specs.declared.fault.Reason.TheVariants as reason
 use Rattle.modbus_server.specs.declared.error.ProcessError.{ProcessError}
@@ -77,9 +76,3 @@ bind_line = codes "modbus: bind fault\n"
 -- the line of a gateway that reaches no line
 abbrev pub connect_line : List ℕ
 connect_line = codes "modbus: connect fault\n"
-
--- A line was written, or a front of it where the sink failed. What stood there before stays.
-pub record Reports (said told : Output) (line : List ℕ) : Type 0 where
-  pub grows : Extends said told
-  pub front : IsTrue said.told → IsFront (bytes_appended said told) line
-  pub whole : IsTrue said.told → (Rose said.faults told.faults → ⊥) → bytes_appended said told ≡ line

@@ -2,8 +2,8 @@
 use Rattle.std.specs.Prelude.{ℕ, ◌≤◌, ◌&&◌, Bool, true, false, List, [], ◌∷◌, map, codes, String, string_bytes, Option, Some, None, if◌then◌else◌}
 use Rattle.std.specs.Str.{bytes_eq}
 use Rattle.std.specs.declared.alloc.Global.{Global}
-use Rattle.modbus_app.specs.declared.words.Framing.{Framing}
-use Rattle.modbus_app.specs.declared.words.Framing.TheVariants.{Rtu, Tcp}
+use Rattle.modbus_port.specs.declared.listen.Framing.{Framing}
+use Rattle.modbus_port.specs.declared.listen.Framing.TheVariants.{Rtu, Tcp}
 use Rattle.modbus_app.specs.declared.words.Mode.{Mode}
 use Rattle.modbus_app.specs.declared.words.Mode.TheVariants as mode
 use Rattle.modbus_app.specs.declared.words.Task.{Task}

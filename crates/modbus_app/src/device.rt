@@ -4,8 +4,9 @@ ghost use Rattle.modbus_store.specs.Passes.{first_pass};
 ghost use Rattle.modbus_app.specs.Words.{most_entries};
 ghost use Rattle.modbus_app.specs.Device.{entries_by, third, odd, same, down, seeded_tables, broadcasts_of, device_of, mode_of, shared_opening};
 
-use crate::words::{DEFAULT_SIZE, Form, Framing, Mode};
+use crate::words::{DEFAULT_SIZE, Form, Mode};
 use modbus_frame::{Coil, Word};
+use modbus_port::Framing;
 use modbus_store::{RegisterStore, Sizes, StoreError, StorePass, StoreTable};
 use std::alloc::{AllocError, Global};
 

@@ -10,10 +10,11 @@ ghost use Rattle.modbus_app.specs.Ends.{EndsBy};
 ghost use Rattle.modbus_app.specs.Gateway.{ForwardsTo, ForwardsLent};
 ghost use Rattle.modbus_server.specs.Moment.{moment};
 
-use crate::status::{CONNECT_FAULT, CONNECT_LINE, report, report_fault, status};
+use crate::status::{CONNECT_FAULT, CONNECT_LINE, report_fault, status};
 use modbus_client::rtu;
 use modbus_gateway::process;
 use modbus_link::{Connector, Failed, Link, Sink, Source};
+use modbus_port::report;
 use std::alloc::Global;
 use std::net::SocketAddr;
 

@@ -1,33 +1,15 @@
 //! The services of many connections over one shared store.
-ghost use Rattle.std.specs.Prelude.{◌≡◌, ◌^◌, IfOk, IfErr};
-ghost use Rattle.modbus_store.specs.Passes.{Pass, IsPassOf, SplitsOff};
+ghost use Rattle.std.specs.Prelude.{◌≡◌};
+ghost use Rattle.modbus_store.specs.Passes.{Pass, IsPassOf};
+ghost use Rattle.modbus_app.specs.Listen.{OpensPass, own_pass};
+ghost use Rattle.modbus_app.specs.Status.{listener_status_of, listener_line_of};
 
-use modbus_server::Answerer;
+use crate::status::{PROGRAM, listener_line, listener_status};
+use modbus_port::Services;
+use modbus_server::ServeError;
 use modbus_store::{PassesOut, SharedStore, StorePass, StoreTable};
 use std::marker::Model;
 use std::sync::Wait;
-
-/// What gives a service for each connection, all over one shared store.
-pub trait Services {
-    /// The service of a connection.
-    type Service: Answerer;
-
-    // the pass of which those of the services are split off
-    ghost pass: { Self → Pass };
-
-    // the pass that a service has
-    ghost pass_of: { Self.Service → Pass };
-
-    /// A service for one more connection. Its pass has seen what this one has seen. It takes no memory.
-    ///
-    /// # Errors
-    /// `PassesOut` exactly where all 2^32 numbers of passes were drawn, as this pass then knows.
-    fn open(&mut self) -> Result<Self::Service, PassesOut>
-        ensures rest { pass self.new ≡ record (pass self.old) { drawn = (pass self.new).drawn } }
-        ensures ok { IfOk result (λ service.
-            SplitsOff (pass self.old) (pass self.new).drawn (pass_of service)) }
-        ensures err { IfErr result (λ _. (pass self.new).drawn ≡ 2 ^ 32) };
-}
 
 /// The services over a shared store: its table, a pass of it, and the handle that calls wait under.
 #[derive(Drop)]
@@ -65,15 +47,35 @@ impl<'t, R> StoreServices<'t, R> {
     }
 }
 
+/// They end with the statuses of the program.
 impl<'t, R: Wait> Services for StoreServices<'t, R> {
     type Service = SharedStore<'t, R>;
 
-    ghost pass = { λ services. services };
+    type Refusal = PassesOut;
 
-    ghost pass_of = { λ service. service };
+    ghost opens = { OpensPass own_pass };
 
+    ghost status_of = { listener_status_of };
+
+    ghost line_of = { listener_line_of };
+
+    /// A service for one more connection. Its pass has seen what this one has seen.
+    ///
+    /// # Errors
+    /// `PassesOut` exactly where all 2^32 numbers of passes were drawn, as this pass then knows.
     fn open(&mut self) -> Result<SharedStore<'t, R>, PassesOut> {
         let own = self.table.split(self.rt, &mut self.pass)?;
         Ok(SharedStore::new(self.rt, self.table, own))
+    }
+
+    fn ending(error: ServeError<PassesOut>) -> (u8, &'static str)
+        ensures status { result.0 ≡ listener_status_of error }
+        ensures line { result.1.now ≡ listener_line_of error }
+    {
+        (listener_status(error), listener_line(error))
+    }
+
+    fn program() -> &'static str {
+        PROGRAM
     }
 }

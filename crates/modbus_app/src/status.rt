@@ -2,14 +2,19 @@
 ghost use Rattle.std.specs.Prelude.{◌≡◌, ◌≢◌, ℕ, ◌+◌, ◌≤◌, ◌++◌, length, Some};
 ghost use Rattle.arrayvec.specs.ArrayString.{array_string_len};
 ghost use Rattle.modbus_server.specs.declared.error.ProcessError.TheVariants.{ResponseTooLong, InvalidProtocol};
-ghost use Rattle.modbus_app.specs.Status.{status_of, line_of, listener_status_of, listener_line_of, Reports};
+ghost use Rattle.modbus_port.specs.Reports.{Reports};
+ghost use Rattle.modbus_app.specs.Status.{status_of, line_of, listener_status_of, listener_line_of};
 
 use arrayvec::ArrayString;
 use itoa::Buffer;
 use modbus_frame::Reason;
-use modbus_link::{Sink, write_all};
+use modbus_link::Sink;
+use modbus_port::report;
 use modbus_server::{ProcessError, ServeError};
 use modbus_store::PassesOut;
+
+/// The name of the program.
+pub const PROGRAM: &str = "modbus";
 
 /// The status of a usage fault.
 pub const USAGE: u8 = 2;
@@ -150,19 +155,6 @@ pub fn listener_line(error: ServeError<PassesOut>) -> &'static str
         ServeError::Connect(_) => "modbus: passes out\n",
         ServeError::NoMemory => line(ProcessError::NoMemory),
     }
-}
-
-/// Writes a line, as far as the sink takes it.
-pub fn report<E: Sink>(errors: &mut E, line: &str)
-    ensures { Reports (E.output errors.old) (E.output errors.new) line.now }
-{
-    let _ = write_all(errors, line.as_bytes());
-}
-
-/// Writes a line that begins with the program's name, as far as the sink takes it.
-pub(crate) fn note<N: Sink>(notes: &mut N, program: &str, text: &str) {
-    report(notes, program);
-    report(notes, text);
 }
 
 /// Writes the line of a fault, as far as the sink takes it.

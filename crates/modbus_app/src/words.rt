@@ -5,6 +5,7 @@ ghost use Rattle.modbus_app.specs.Words.{size_named, count_named, port_named, se
 
 use crate::plan::item_of_word;
 use modbus_poll::number_within;
+use modbus_port::Framing;
 
 /// The size of a table that a word shows: one to five digits, of a value from 1 to 65536.
 fn table_size(word: &str) -> Option<u32>
@@ -30,15 +31,6 @@ fn port_number(word: &str) -> Option<u16>
         Some(port) if port <= 0xFFFF => Some(port as u16),
         _ => None,
     }
-}
-
-/// What frames the requests of the connections to a listener.
-#[derive(Clone, Copy, Debug, PartialEq, Eq)]
-pub enum Framing {
-    /// RTU frames.
-    Rtu,
-    /// ADUs with an MBAP header.
-    Tcp,
 }
 
 /// What frames the requests that come over the standard streams.

@@ -3,3 +3,6 @@ pub mod Behind
 pub mod Fitting
 pub mod Recording
 pub mod Forwarding
+pub mod Exchanging
+pub mod Leading
+pub mod Owing

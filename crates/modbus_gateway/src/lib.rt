@@ -2,13 +2,23 @@
 //!
 //! Each request of a TCP connection goes to the line once, as an RTU frame for the slave that its unit identifier names, and what the
 //! line answers goes back under the transaction and the unit of the request.
+//!
+//! Many masters share one line under a lock, so there is one exchange on it at a time, and none within another. Each connection has a
+//! service of its own, which takes the lock for one exchange. A line that may still bring a late reply is left to fall silent before its
+//! next exchange, so no master gets the reply of another's request.
 #![tactic(auto)]
 
 mod answer;
 mod gateway;
 pub mod laws;
+mod serial;
+mod service;
 mod serving;
+mod turns;
 
 pub use crate::answer::{answer_broadcast, answer_call};
 pub use crate::gateway::{Forwarder, Gateway};
+pub use crate::serial::SerialLine;
+pub use crate::service::{LineService, LineServices, Services, ServicesOut};
 pub use crate::serving::process;
+pub use crate::turns::{CONNECTIONS, Opening, SharedLine};

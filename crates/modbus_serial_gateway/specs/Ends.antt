@@ -3,8 +3,8 @@ use Rattle.std.specs.Prelude.{◌≡◌, ◌⊎◌, ℕ, List, codes}
 use Rattle.modbus_link.specs.Outside.{Output}
 use Rattle.modbus_server.specs.declared.error.ServeError.{ServeError}
 use Rattle.modbus_server.specs.declared.error.ServeError.TheVariants.{AcceptFault, Connect, SpawnFault, NoMemory}
-use Rattle.modbus_app.specs.Status.{Reports}
-use Rattle.modbus_line.specs.declared.service.ServicesOut.{ServicesOut}
+use Rattle.modbus_port.specs.Reports.{Reports}
+use Rattle.modbus_gateway.specs.declared.service.ServicesOut.{ServicesOut}
 
 abbrev pub no_memory_line : List ℕ
 no_memory_line = codes "modbus_serial_gateway: no memory\n"

@@ -2,7 +2,7 @@
 ghost use Rattle.std.specs.Prelude.{◌≡◌};
 ghost use Rattle.modbus_serial_gateway.specs.Ends.{line_of};
 
-use modbus_line::ServicesOut;
+use modbus_gateway::ServicesOut;
 use modbus_server::ServeError;
 
 /// The line where memory is refused.

@@ -1,30 +1,22 @@
 //! Listening on a port, with a thread of a scope for each connection, all over one line.
-ghost use Rattle.std.specs.Prelude.{◌≡◌, ◌≢◌, ◌^◌, ◌-◌, None, Ok, Err};
-ghost use Rattle.modbus_link.specs.Outside.{Rose};
-ghost use Rattle.modbus_server.specs.declared.error.ServeError.TheVariants.{AcceptFault};
-ghost use Rattle.modbus_server.specs.Listener.{Exact, Balances};
-ghost use Rattle.modbus_serial_gateway.specs.Ends.{HasEnded, IsRefused, IsRefusedOrEnded};
+ghost use Rattle.std.specs.Prelude.{◌≡◌, ◌+◌, ◌^◌, IfOk, IfErr};
+ghost use Rattle.modbus_serial_gateway.specs.Ends.{line_of, HasEnded, IsRefused, IsRefusedOrEnded};
 
 use crate::PROGRAM;
 use crate::ending::{BIND_LINE, NO_MEMORY_LINE, line};
 use itoa::Buffer;
 use modbus_about::FAILED;
-use modbus_app::port::{PortKeeper, RETRIES, bind};
-use modbus_app::{PatientAcceptor, TurningSpawner, WatchedAcceptor, report};
-use modbus_gateway::Forwarder;
-use modbus_line::{LineServices, Opening, Services, ServicesOut, SharedLine};
-use modbus_link::{Acceptor, FlagStop, Link, ScopeSpawner, Sink, Spawner, TcpAcceptor, Worker};
-use modbus_server::tcp::{AduBuffer, ConnectionWorker};
-use modbus_server::{Answerer, ProcessError, ServeError, serve_acceptor};
+use modbus_gateway::{Forwarder, LineServices, Opening, ServicesOut, SharedLine};
+use modbus_link::Sink;
+use modbus_port::{Framing, Services, bind, report, serve_listener};
+use modbus_server::{ProcessError, ServeError};
 use std::alloc::Global;
 use std::io::{Error, ErrorKind};
 use std::marker::Brand;
-use std::net::{Net, SocketAddr, TcpListener, TcpStream};
+use std::net::{Net, TcpListener, TcpStream};
 use std::sync::Wait;
-use std::sync::atomic::{AtomicBool, Ordering};
 use std::sync::ledger::Blank;
-use std::thread;
-use std::thread::{Scope, Threads};
+use std::thread::Threads;
 use std::time::Clock;
 
 /// Into how many parts the ledger of a line is cut: one for each connection that it may have, and one more.
@@ -51,195 +43,37 @@ fn refused<E: Sink>(error: Error, errors: &mut E) -> u8
     FAILED
 }
 
-/// Starts a worker in a thread of the scope, which ends with it; `false` where the system refuses the thread, and the worker is dropped.
-fn start<'s, Env, L, V, H>(
-    scope: &Scope<'s, Env>,
-    worker: ConnectionWorker<L, V, H, FlagStop>,
-) -> bool
-where
-    L: Link + Send + Drop + 's,
-    V: Answerer + Send + Drop + 's,
-    H: Fn(ProcessError) + Copy + Send + 's,
-    requires { H.IsAlwaysCallable worker.on_process_error }
-{
-    scope.spawn(move || worker.run()).is_ok()
-}
+/// The services of all masters over one line, in a program that tells its own lines.
+#[derive(Drop)]
+struct Masters<S>(S);
 
-/// Serves each link that the acceptor gives, by a service of its own, and answers why it does not go on. It rejects none: a worker was
-/// started for each, or for each but the last one.
-fn serve_links<R, A, S, H, P>(
-    rt: &R,
-    alloc: Global,
-    acceptor: &mut A,
-    services: &mut S,
-    on_process_error: H,
-    spawner: &mut P,
-) -> ServeError<ServicesOut>
-where
-    R: Wait,
-    A: Acceptor,
-    A::Link: Link + Send + Drop,
-    S: Services,
-    S::Service: Send + Drop,
-    H: Fn(ProcessError) + Copy + Send,
-    P: Spawner<ConnectionWorker<A::Link, S::Service, H, FlagStop>>,
-    requires error_hook { H.IsAlwaysCallable on_process_error }
-    requires can { P.can_start spawner.old }
-    ensures accept_fault { result ≡ AcceptFault
-        → Rose (A.faults acceptor.old) (A.faults acceptor.new) }
-    ensures balance { Exact (A.given acceptor.new) → Exact (P.started spawner.new)
-        → Balances {T = Unit {0}} (Err result) (A.given acceptor.new - A.given acceptor.old)
-        (P.started spawner.new - P.started spawner.old) }
-{
-    let mut hook = |link: A::Link, _address: SocketAddr| -> Result<
-        Option<(S::Service, A::Link)>,
-        ServicesOut,
-    >
-        ensures { result ≢ Ok None }
-    {
-        let service = services.open()?;
-        Ok(Some((service, link)))
-    };
-    let outcome = serve_acceptor::<AduBuffer, R, A, S::Service, A::Link, ServicesOut, _, H, P>(
-        rt,
-        alloc,
-        acceptor,
-        &mut hook,
-        on_process_error,
-        spawner,
-    );
-    match outcome {
-        Err(error) => error,
-        Ok(()) => unreachable!(),
+impl<S: modbus_gateway::Services> Services for Masters<S> {
+    type Service = S::Service;
+
+    type Refusal = ServicesOut;
+
+    ghost opens = { λ old result new.
+        IfOk result (λ service. (S.made service ≡ 0) × (S.left old.0 ≡ S.left new.0 + 1))
+        × IfErr result (λ _. (S.left old.0 ≡ 0) × (S.left new.0 ≡ 0)) };
+
+    ghost status_of = { λ _. 1 };
+
+    ghost line_of = { line_of };
+
+    fn open(&mut self) -> Result<S::Service, ServicesOut> {
+        self.0.open()
     }
-}
 
-/// Serves as `serve_links` does, with a thread of `scope` for each connection, and tells on `errors` why it does not go on. A peer that no
-/// thread can be had for is turned away.
-fn serve_in_scope<'s, Env, R, A, S, H, E, N>(
-    rt: &R,
-    alloc: Global,
-    acceptor: &mut A,
-    services: &mut S,
-    on_process_error: H,
-    errors: &mut E,
-    notes: N,
-    scope: &Scope<'s, Env>,
-) -> u8
-where
-    R: Wait,
-    A: Acceptor,
-    A::Link: Link + Send + Drop + 's,
-    S: Services,
-    S::Service: Send + Drop + 's,
-    H: Fn(ProcessError) + Copy + Send + 's,
-    E: Sink,
-    N: Sink + Drop,
-    requires error_hook { H.IsAlwaysCallable on_process_error }
-    ensures { HasEnded (E.output errors.old) (E.output errors.new) result }
-{
-    let workers = ScopeSpawner::new(
-        |worker: ConnectionWorker<A::Link, S::Service, H, FlagStop>| -> bool
-            requires { H.IsAlwaysCallable worker.on_process_error }
-        { start(scope, worker) },
-    );
-    let mut spawner = TurningSpawner::new(workers, notes, PROGRAM);
-    let error = serve_links(
-        rt,
-        alloc,
-        acceptor,
-        services,
-        on_process_error,
-        &mut spawner,
-    );
-    report(errors, line(error));
-    FAILED
-}
+    fn ending(error: ServeError<ServicesOut>) -> (u8, &'static str)
+        ensures status { result.0 ≡ 1 }
+        ensures line { result.1.now ≡ line_of error }
+    {
+        (FAILED, line(error))
+    }
 
-/// Serves as `serve_in_scope` does, in a scope of its own, and gives `errors` back. `ended` is set once it does not go on; then it waits
-/// for its threads.
-fn serve_in_threads<R, A, S, H, E, N>(
-    rt: &R,
-    alloc: Global,
-    acceptor: A,
-    services: S,
-    on_process_error: H,
-    errors: E,
-    notes: N,
-    ended: &AtomicBool,
-) -> (E, u8)
-where
-    R: Threads + Wait,
-    A: Acceptor + Drop,
-    A::Link: Link + Send + Drop,
-    S: Services + Drop,
-    S::Service: Send + Drop,
-    H: Fn(ProcessError) + Copy + Send,
-    E: Sink + Drop,
-    N: Sink + Drop,
-    requires error_hook { H.IsAlwaysCallable on_process_error }
-    ensures { HasEnded (E.output errors) (E.output result.0) result.1 }
-{
-    thread::scope(
-        thread::scope_env(),
-        rt,
-        |scope| -> (E, u8)
-            requires { H.IsAlwaysCallable on_process_error }
-            ensures { HasEnded (E.output errors) (E.output result.0) result.1 }
-        {
-            let mut acceptor = acceptor;
-            let mut services = services;
-            let mut errors = errors;
-            let status = serve_in_scope(
-                rt,
-                alloc,
-                &mut acceptor,
-                &mut services,
-                on_process_error,
-                &mut errors,
-                notes,
-                scope,
-            );
-            ended.store(true, Ordering::Release);
-            (errors, status)
-        },
-    )
-}
-
-/// Serves all links of this listener, in threads, by these services.
-fn serve_listener<R, S, H, E, N>(
-    rt: &R,
-    alloc: Global,
-    listener: (TcpListener, TcpListener),
-    services: S,
-    on_process_error: H,
-    errors: E,
-    notes: (N, N),
-) -> (E, u8)
-where
-    R: Threads + Wait + Clock + Sync,
-    S: Services + Drop,
-    S::Service: Send + Drop,
-    H: Fn(ProcessError) + Copy + Send,
-    E: Sink + Drop,
-    N: Sink + Drop,
-    requires error_hook { H.IsAlwaysCallable on_process_error }
-    ensures { HasEnded (E.output errors) (E.output result.0) result.1 }
-{
-    let ended = AtomicBool::new(false);
-    let (listener, share) = listener;
-    let accepting = WatchedAcceptor::new(TcpAcceptor::new(listener), &ended);
-    let keeper = PortKeeper::new(rt, share, notes.0, PROGRAM);
-    serve_in_threads(
-        rt,
-        alloc,
-        PatientAcceptor::new(accepting, keeper, RETRIES),
-        services,
-        on_process_error,
-        errors,
-        notes.1,
-        &ended,
-    )
+    fn program() -> &'static str {
+        PROGRAM
+    }
 }
 
 /// Serves all links of this listener over a line that was opened, whose exchanges are counted in this ledger.
@@ -269,16 +103,18 @@ where
 {
     let (turns, shares) = ledger.open::<J>();
     let shared = SharedLine::new(line, turns);
-    let services = LineServices::new(rt, &shared, shares);
-    serve_listener(
+    let masters = Masters(LineServices::new(rt, &shared, shares));
+    let (_masters, errors, status) = serve_listener(
         rt,
         alloc,
+        Framing::Tcp,
         listener,
-        services,
+        masters,
         on_process_error,
         errors,
         notes,
-    )
+    );
+    (errors, status)
 }
 
 /// Serves all connections to a port of this machine (127.0.0.1) over one line, each in a thread, by ADUs with an MBAP header. The error of

@@ -1,0 +1,55 @@
+//! A serial line that tells silence, as what reaches devices by their slave addresses.
+ghost use Rattle.std.specs.Prelude.{◌≡◌};
+ghost use Rattle.modbus_link.specs.Line.{meaning_of};
+ghost use Rattle.modbus_client.specs.Rtu.{rtu_protocol, rtu_heading};
+ghost use Rattle.modbus_reconnect.specs.SettleState.{line_by};
+ghost use Rattle.modbus_gateway.specs.Serial.{forwards_settled};
+
+use crate::answer::{answer_broadcast, answer_call};
+use crate::gateway::Forwarder;
+use modbus_client::Client;
+use modbus_frame::{Response, Slave, SlaveContext, SlaveRequest};
+use modbus_reconnect::{IdleLink, SerialClient};
+use modbus_service::ServiceError;
+use std::marker::Model;
+
+/// The devices of a serial line, by a client that lets the line fall silent where it is in doubt.
+#[derive(Drop)]
+pub struct SerialLine<L> {
+    client: SerialClient<L>,
+}
+
+/// A contract sees the client.
+impl<L> Model for SerialLine<L> {
+    ghost use Rattle.modbus_gateway.specs.Serial.{SerialState};
+
+    ghost Value = { SerialState L };
+
+    ghost view = { λ it. it.client };
+}
+
+impl<L> SerialLine<L> {
+    /// The devices that this client reaches.
+    pub fn new(client: SerialClient<L>) -> SerialLine<L>
+        ensures { result ≡ client }
+    {
+        SerialLine { client }
+    }
+}
+
+/// Each request is one exchange on the line: a call of the slave, or for unit 0 a request that is sent to all slaves. A line that does not
+/// settle, or has ended, is told by the exception 0A, and then nothing is sent.
+impl<L: IdleLink + Send + Drop> Forwarder for SerialLine<L> {
+    ghost forwarding = { forwards_settled
+        (line_by rtu_protocol rtu_heading (meaning_of L.input L.output L.line) L.not_ready L.looks) };
+
+    fn forward(&mut self, request: SlaveRequest<'_>) -> Result<Option<Response>, ServiceError> {
+        let unit = Slave(request.slave);
+        self.client.set_slave(unit);
+        if unit.is_broadcast() {
+            answer_broadcast(self.client.send(request.request))
+        } else {
+            answer_call(self.client.call(request.request))
+        }
+    }
+}

@@ -1,3 +1,0 @@
-pub mod Serving
-pub mod Leading
-pub mod Owing

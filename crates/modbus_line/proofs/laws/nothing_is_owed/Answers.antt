@@ -1,5 +1,0 @@
-use Rattle.modbus_line.proofs.Owing.{owes_nothing}
-use Rattle.modbus_line.proofs.laws.nothing_is_owed.Goals as goal
-
-pub returns : goal.returns
-returns g c = owes_nothing _

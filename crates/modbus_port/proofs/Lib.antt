@@ -1,0 +1,2 @@
+pub mod ServingLinks
+pub mod Unspawned
