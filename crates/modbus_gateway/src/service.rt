@@ -2,9 +2,9 @@
 ghost use Rattle.std.specs.Prelude.{◌≡◌, ℕ, ◌+◌, ◌-◌, ◌^◌, IfOk, IfErr};
 ghost use Rattle.modbus_gateway.specs.Turns.{served_in_turn};
 
+use crate::gateway::Forwarder;
 use crate::turns::{CONNECTIONS, Opening, SharedLine};
 use modbus_frame::{Response, SlaveRequest};
-use crate::gateway::Forwarder;
 use modbus_service::{Answerer, ServiceError};
 use std::alloc::Global;
 use std::marker::Model;

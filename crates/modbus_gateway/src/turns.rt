@@ -4,8 +4,8 @@ ghost use Rattle.modbus_frame.specs.Meaning.{meaning};
 ghost use Rattle.modbus_service.specs.Answering.{Keeps};
 ghost use Rattle.modbus_gateway.specs.Turns.{IsLed, TakesTurn};
 
-use modbus_frame::{Response, SlaveRequest};
 use crate::gateway::Forwarder;
+use modbus_frame::{Response, SlaveRequest};
 use modbus_service::ServiceError;
 use std::marker::{Brand, Model};
 use std::sync::ledger::{Book, Ledger, Share};
