@@ -2,7 +2,7 @@
 #![tactic(auto)]
 
 use modbus_about::{asked, tell};
-use modbus_app::{USAGE_LINE, forwarding, listening, port, run};
+use modbus_app::{Task, USAGE_LINE, port, read_words, run_task};
 use modbus_link::{ReadSource, WriteSink};
 use modbus_server::ProcessError;
 use std::alloc::{AllocError, Global};
@@ -49,36 +49,36 @@ fn main(rt: HostRuntime) -> ExitCode {
             return ExitCode::from(tell(&rt, PROGRAM, USAGE_LINE, about));
         }
     }
-    if let Some((framing, port)) = listening(&words) {
-        let notes = (WriteSink::new(rt.stderr()), WriteSink::new(rt.stderr()));
-        let (_errors, status) = port::serve(
-            &rt,
-            rt.alloc(),
-            framing,
-            port,
-            |_error: ProcessError| {},
-            errors,
-            notes,
-        );
-        return ExitCode::from(status);
-    }
-    if let Some(port) = forwarding(&words) {
-        let status = port::forward(
+    let status = match read_words(&words) {
+        Some(Task::Listen(framing, port)) => {
+            let notes = (WriteSink::new(rt.stderr()), WriteSink::new(rt.stderr()));
+            let (_errors, status) = port::serve(
+                &rt,
+                rt.alloc(),
+                framing,
+                port,
+                |_error: ProcessError| {},
+                errors,
+                notes,
+            );
+            status
+        }
+        Some(Task::Forward(port)) => port::forward(
             &rt,
             rt.alloc(),
             port,
             &mut ReadSource::new(rt.stdin()),
             &mut WriteSink::new(rt.stdout()),
             &mut errors,
-        );
-        return ExitCode::from(status);
-    }
-    let status = run(
-        rt.alloc(),
-        &words,
-        &mut ReadSource::new(rt.stdin()),
-        &mut WriteSink::new(rt.stdout()),
-        &mut errors,
-    );
+        ),
+        task => run_task(
+            rt.alloc(),
+            task,
+            &words,
+            &mut ReadSource::new(rt.stdin()),
+            &mut WriteSink::new(rt.stdout()),
+            &mut errors,
+        ),
+    };
     ExitCode::from(status)
 }

@@ -15,7 +15,7 @@ mod words;
 
 pub use crate::device::{open, open_shared};
 pub use crate::gateway::{forward_client, run_gateway};
-pub use crate::program::run;
+pub use crate::program::{run, run_task};
 pub use crate::services::StoreServices;
 pub use crate::status::{NO_MEMORY, USAGE_LINE, report_fault};
 pub use crate::words::{Form, Mode, Task, forwarding, listening, read_words};

@@ -1,12 +1,12 @@
 //! The top call.
-ghost use Rattle.std.specs.Prelude.{◌≡◌, ◌≢◌, ◌↔◌, ◌⊎◌, ◌<◌, ◌≤◌, ◌-◌, ◌^◌, ℕ, [], Ok, Err, Some, None, IsTrue, length, map, string_bytes};
+ghost use Rattle.std.specs.Prelude.{◌≡◌, ◌≢◌, ◌↔◌, ◌⊎◌, ◌<◌, ◌≤◌, ◌-◌, ◌^◌, ℕ, [], Ok, Err, Some, None, IfSome, IsTrue, length, map, string_bytes};
 ghost use Rattle.modbus_link.specs.Outside.{Input, Rose, bytes_appended, cuts_made};
 ghost use Rattle.modbus_link.specs.Reads.{totals};
 ghost use Rattle.modbus_server.specs.declared.error.ProcessError.TheVariants.{ResponseTooLong};
 ghost use Rattle.modbus_server.specs.Complete.{IsCleanLine};
 ghost use Rattle.modbus_server.specs.Step.{Ran};
 ghost use Rattle.modbus_store.specs.Step.{device};
-ghost use Rattle.modbus_app.specs.Words.{task_asked, most_entries, most_requests, IsUsage};
+ghost use Rattle.modbus_app.specs.Words.{task_asked, most_entries, most_requests, IsUsage, IsWithinLimits};
 ghost use Rattle.modbus_app.specs.declared.words.Form.{Form};
 ghost use Rattle.modbus_app.specs.declared.words.Task.TheVariants.{Serve, Make, Plan};
 ghost use Rattle.modbus_app.specs.Device.{EndsServing, messages_of};
@@ -122,6 +122,60 @@ fn plan<K: Sink, E: Sink>(alloc: Global, words: &[String], sink: &mut K, errors:
     }
 }
 
+/// Does what was asked for, and answers the status, as `run` does. The words are those that name the items of a plan.
+pub fn run_task<S: Source, K: Sink, E: Sink>(
+    alloc: Global,
+    task: Option<Task>,
+    words: &[String],
+    source: &mut S,
+    sink: &mut K,
+    errors: &mut E,
+) -> u8
+    requires limits { IfSome task IsWithinLimits }
+    ensures usage { (result ≡ 2) ↔ IsUsage task }
+    ensures refused { IsUsage task
+        → IsUsageFault (S.input source.old) (S.input source.new) (K.output sink.old)
+        (K.output sink.new) (E.output errors.old) (E.output errors.new) }
+    ensures ok { (form : Form) → task ≡ Some (Serve form) → result ≡ 0
+        → IsTrue (S.input source.old).told → IsTrue (K.output sink.old).told
+        → EndsServing form (S.input source.old).left
+        (totals (cuts_made (S.input source.old) (S.input source.new)))
+        (bytes_appended (K.output sink.old) (K.output sink.new)) (Ok tt)
+        × ((S.input source.new).left ≡ []) }
+    ensures ends { (form : Form) → task ≡ Some (Serve form)
+        → EndsProgram form (S.input source.old) (S.input source.new) (K.output sink.old)
+        (K.output sink.new) (E.output errors.old) (E.output errors.new) result }
+    ensures complete { (form : Form) → task ≡ Some (Serve form)
+        → IsTrue (S.input source.old).told
+        → IsCleanLine (messages_of form.mode) (S.input source.old).left
+        → length (S.input source.old).left < 2 ^ 64 - 1
+        → (Rose (S.input source.old).faults (S.input source.new).faults → ⊥)
+        → (Rose (K.output sink.old).faults (K.output sink.new).faults → ⊥)
+        → (result ≡ 0) ⊎ (result ≡ 11) }
+    ensures made { (count : ℕ) → task ≡ Some (Make count) → result ≡ 0
+        → IsTrue (K.output sink.old).told
+        → bytes_appended (K.output sink.old) (K.output sink.new) ≡ summary count }
+    ensures makes { (count : ℕ) → task ≡ Some (Make count)
+        → MakesRequests count (S.input source.old) (S.input source.new) (K.output sink.old)
+        (K.output sink.new) (E.output errors.old) (E.output errors.new) result }
+    ensures made_unless { (count : ℕ) → task ≡ Some (Make count)
+        → (Rose (K.output sink.old).faults (K.output sink.new).faults → ⊥)
+        → (result ≡ 0) ⊎ (result ≡ 11) }
+    ensures plans { task ≡ Some Plan
+        → PlansReads (items_named (map string_bytes words.now)) (S.input source.old) (S.input source.new)
+        (K.output sink.old) (K.output sink.new) (E.output errors.old) (E.output errors.new) result }
+{
+    match task {
+        Some(Task::Serve(form)) => serve_form(alloc, form, source, sink, errors),
+        Some(Task::Make(count)) => sum_up(alloc, count, sink, errors),
+        Some(Task::Plan) => plan(alloc, words, sink, errors),
+        Some(Task::Listen(_, _) | Task::Forward(_)) | None => {
+            report(errors, USAGE_LINE);
+            USAGE
+        }
+    }
+}
+
 /// Runs the program with the words after its name, and answers its status.
 ///
 /// With the words `rtu`, `rtu size` or `rtu size seeded` it serves RTU frames, with a device of four tables of so many entries (1024
@@ -203,13 +257,5 @@ pub fn run<S: Source, K: Sink, E: Sink>(
         → PlansReads (items_named (map string_bytes words.now)) (S.input source.old) (S.input source.new)
         (K.output sink.old) (K.output sink.new) (E.output errors.old) (E.output errors.new) result }
 {
-    match read_words(words) {
-        Some(Task::Serve(form)) => serve_form(alloc, form, source, sink, errors),
-        Some(Task::Make(count)) => sum_up(alloc, count, sink, errors),
-        Some(Task::Plan) => plan(alloc, words, sink, errors),
-        Some(Task::Listen(_, _) | Task::Forward(_)) | None => {
-            report(errors, USAGE_LINE);
-            USAGE
-        }
-    }
+    run_task(alloc, read_words(words), words, source, sink, errors)
 }

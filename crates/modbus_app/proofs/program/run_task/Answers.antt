@@ -1,14 +1,13 @@
-use Rattle.std.proofs.Common.{◌≡◌, ℕ, subst, Some}
+use Rattle.std.proofs.Common.{◌≡◌, ℕ, rules, subst, Some}
 use Rattle.modbus_link.specs.Outside.{bytes_appended}
 use Rattle.modbus_app.specs.declared.words.Task.TheVariants.{Make}
 use Rattle.modbus_app.specs.Make.{summary}
-use Rattle.modbus_app.specs.Words.{task_asked}
 use Rattle.modbus_app.proofs.Ending.{same_count, made_whole, made_unless}
-use Rattle.modbus_app.proofs.program.run.Goals as goal
+use Rattle.modbus_app.proofs.program.run_task.Goals as goal
 
 pub returns-in-Some-Make-clause-made : goal.returns-in-Some-Make-clause-made
 returns-in-Some-Make-clause-made g c = λ count named done told.
-    let found : Some (Make c.in-Some-Make.count) ≡ task_asked c.args.words.now = cc in
+    let found : Some (Make c.in-Some-Make.count) ≡ c.args.task = search rules in
     let same : c.in-Some-Make.count ≡ count = same_count c.in-Some-Make.count count _ found named in
     let sunk = g.K.Ends.output c.args.sink.now in
     let sinks = g.K.Ends.output c.sum_up.new.sink in
