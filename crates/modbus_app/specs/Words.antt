@@ -89,11 +89,6 @@ abbrev pub listener_asked : Option Task → Option (Framing × ℕ)
 listener_asked (Some (Listen framing port)) = Some (framing, port)
 listener_asked _ = None
 
--- the port of the line that is forwarded to
-abbrev pub port_forwarded : Option Task → Option ℕ
-port_forwarded (Some (Forward port)) = Some port
-port_forwarded _ = None
-
 -- the words ask for nothing that is done over the standard streams
 abbrev pub IsUsage : Option Task → Type 0
 IsUsage None = Unit {0}

@@ -18,5 +18,5 @@ pub use crate::gateway::{forward_client, run_gateway};
 pub use crate::program::{run, run_task};
 pub use crate::services::StoreServices;
 pub use crate::status::{NO_MEMORY, USAGE_LINE, report_fault};
-pub use crate::words::{Form, Mode, Task, forwarding, listening, read_words};
+pub use crate::words::{Form, Mode, Task, listening, read_words};
 pub use modbus_port::{Framing, run_listen};

@@ -1,7 +1,7 @@
 //! The words of the command line.
 ghost use Rattle.std.specs.Prelude.{◌≡◌, ◌≤◌, ◌∷◌, [], map, IfSome, string_bytes};
 ghost use Rattle.modbus_app.specs.Plan.{are_items};
-ghost use Rattle.modbus_app.specs.Words.{size_named, count_named, port_named, serve_task, make_task, listened_to, forwarded_to, plan_task, form_of, task_asked, listener_asked, port_forwarded, most_entries, most_requests, IsWithinLimits};
+ghost use Rattle.modbus_app.specs.Words.{size_named, count_named, port_named, serve_task, make_task, listened_to, forwarded_to, plan_task, form_of, task_asked, listener_asked, most_entries, most_requests, IsWithinLimits};
 
 use crate::plan::item_of_word;
 use modbus_poll::number_within;
@@ -229,16 +229,6 @@ pub fn listening(words: &[String]) -> Option<(Framing, u16)>
 {
     match read_words(words) {
         Some(Task::Listen(framing, port)) => Some((framing, port)),
-        _ => None,
-    }
-}
-
-/// What the words ask to forward to: the port of `gateway port`; `None` where they are no such form. It takes no memory.
-pub fn forwarding(words: &[String]) -> Option<u16>
-    ensures { result ≡ port_forwarded (task_asked words.now) }
-{
-    match read_words(words) {
-        Some(Task::Forward(port)) => Some(port),
         _ => None,
     }
 }
