@@ -49,11 +49,10 @@ fn answer_line<R: Wait + Sync>(
         return println!(rt; "{}", text.whole()?);
     };
     push_call(waits, &mut text, call);
-    let found = text.whole()?;
     tally.rows = tally.rows.saturating_add(1);
-    if found != wanted {
+    if text.whole()? != wanted {
         tally.others = tally.others.saturating_add(1);
-        println!(rt; "{call} => {found}, where {wanted} is wanted")?;
+        println!(rt; "{call} => {}, where {wanted} is wanted", text.whole()?)?;
     }
     Ok(())
 }
