@@ -82,7 +82,7 @@ def main():
     with tempfile.TemporaryDirectory() as folder, line(folder) as end:
         load, peer = built(folder, "listen/load"), built(folder, "gateway/peer", "-lmodbus")
         port = free_port()
-        subprocess.run(["stty", "-F", end, "raw", "min", "0", "time", "1"], check=True)
+        subprocess.run(["stty", "-F", end, "raw", "-echo"], check=True)
         terminal = os.open(end, os.O_RDWR | os.O_NOCTTY)
         with started([PROGRAM, str(port), "500"], stdin=terminal, stdout=terminal, stderr=subprocess.DEVNULL):
             ours = list(measure(load, port))

@@ -3,8 +3,8 @@
 use crate::words::{Device, Form, Watched};
 use modbus_client::{Client, Reader, rtu, tcp};
 use modbus_frame::{Error, ExceptionCode, Slave};
-use modbus_idle::WatchedLine;
-use modbus_link::{Connector, Failed, ReadSource, TcpConnector, TerminalLink, WriteSink};
+use modbus_idle::PortLine;
+use modbus_link::{Connector, Failed, ReadSource, TcpConnector, WriteSink};
 use modbus_reconnect::{Resend, RtuOverTcpClient, SerialClient, TcpClient};
 use std::fs::File;
 use std::net::SocketAddr;
@@ -14,9 +14,10 @@ use std::{io, thread};
 
 const UNIT: Slave = Slave(1);
 
-/// How long a silence of a terminal is, in milliseconds, and how many bytes of a line are dropped until it is silent.
-const SILENCE: u64 = 100;
+/// How long a silence of a line is, in milliseconds.
+const SILENCE: u64 = 50;
 
+/// How many bytes of a line are dropped until it is silent.
 const NOISE: usize = 4096;
 
 /// Through how many time-outs in a row a patient client keeps its link.
@@ -48,16 +49,16 @@ fn watch<C: Client>(rt: &HostRuntime, client: &mut C, task: &Watched) -> io::Res
     Ok(())
 }
 
-/// Reads the registers of a device on the serial line of a terminal that tells silences of a tenth of a second. A line in doubt has to be
-/// silent for as long as a reply is waited for.
+/// Reads the registers of a device on the serial line of a terminal. A line in doubt has to be silent for as long as a reply is waited for.
 fn watch_line(rt: &HostRuntime, terminal: &str, task: &Watched) -> io::Result<()> {
     let reader = File::options().read(true).write(true).open(rt, terminal)?;
     let writer = reader.try_clone()?;
     let fd = reader.as_raw_fd();
-    let streams = TerminalLink::new(ReadSource::new(reader), WriteSink::new(writer));
-    let link = WatchedLine::new(rt, streams, fd);
+    let silence = Duration::from_millis(SILENCE);
+    let (source, sink) = (ReadSource::new(reader), WriteSink::new(writer));
+    let link = PortLine::new(rt, source, sink, fd, silence);
     let limit = Duration::from_millis(task.millis);
-    let mut client = SerialClient::new(rt.alloc(), link, UNIT, Duration::from_millis(SILENCE));
+    let mut client = SerialClient::new(rt.alloc(), link, UNIT, silence);
     client.set_timeout(Some(limit));
     client.set_quiet(limit, NOISE);
     watch(rt, &mut client, task)

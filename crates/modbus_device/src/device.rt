@@ -1,5 +1,6 @@
 //! The units of the device.
 
+use crate::setting::Setting;
 use modbus_command::{FAILED, USAGE};
 use modbus_diagnostics::identity::{Identified, Identity, IdentityError};
 use modbus_diagnostics::{Port, PortError};
@@ -34,6 +35,9 @@ pub enum OpenError {
     /// A table would not have 1 to 65536 entries.
     #[error("a table has 1 to 65536 entries")]
     Entries,
+    /// What is set is no input of a unit that is there.
+    #[error("--set names a unit that is not there, or an address past the end of its table")]
+    Setting,
     /// A text of the identity does not fit a response.
     #[error("a text of the device has at most 244 bytes")]
     Text,
@@ -92,6 +96,8 @@ pub struct Plan<'w> {
     pub units: &'w [SlaveId],
     /// How many entries each table of a unit has.
     pub entries: u32,
+    /// What their inputs are at first, where they are not 0.
+    pub settings: &'w [Setting],
     /// What the device says of itself.
     pub texts: Texts<'w>,
 }
@@ -154,23 +160,49 @@ fn open_store(alloc: Global, entries: u32) -> Result<RegisterStore, OpenError> {
     }
 }
 
-/// A unit of the device.
-fn open_unit(alloc: Global, plan: &Plan<'_>) -> Result<Unit, OpenError> {
+/// Sets the inputs of the unit at this address.
+fn set_inputs(
+    store: &mut RegisterStore,
+    unit: SlaveId,
+    settings: &[Setting],
+) -> Result<(), OpenError> {
+    for setting in settings {
+        if setting.unit == unit && setting.apply(store).is_err() {
+            return Err(OpenError::Setting);
+        }
+    }
+    Ok(())
+}
+
+/// The unit of the device at this address.
+fn open_unit(alloc: Global, plan: &Plan<'_>, address: SlaveId) -> Result<Unit, OpenError> {
+    let mut store = open_store(alloc, plan.entries)?;
+    set_inputs(&mut store, address, plan.settings)?;
     Ok(StandardAnswers {
         service: Identified {
             identity: identity_of(alloc, &plan.texts)?,
-            service: open_store(alloc, plan.entries)?,
+            service: store,
         },
     })
 }
 
-/// The units of a device, each with four tables of zeros.
+/// Whether each setting is of a unit that is there.
+fn have_units(plan: &Plan<'_>) -> bool {
+    plan.settings
+        .iter()
+        .all(|setting| plan.units.contains(&setting.unit))
+}
+
+/// The units of a device, each with four tables of zeros, but for the inputs that are set.
 fn open_units(alloc: Global, plan: &Plan<'_>) -> Result<Vec<OnlyUnit<Unit>>, OpenError> {
+    if !have_units(plan) {
+        return Err(OpenError::Setting);
+    }
     let mut units = Vec::new(alloc);
     for address in plan.units {
         units.push(OnlyUnit {
             unit: *address,
-            service: open_unit(alloc, plan)?,
+            service: open_unit(alloc, plan, *address)?,
         })?;
     }
     Ok(units)
@@ -197,7 +229,7 @@ impl Addressing {
     }
 }
 
-/// The units of a device behind a port of Modbus TCP, each with four tables of zeros. They tell that a unit is not there by the exception
+/// The units of a device behind a port of Modbus TCP, each with four tables. They tell that a unit is not there by the exception
 /// 0B, or are silent to a request for it.
 ///
 /// # Errors

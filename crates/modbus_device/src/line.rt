@@ -3,65 +3,100 @@ ghost use Rattle.std.specs.Prelude.{IfErr};
 ghost use Rattle.modbus_field.specs.BurstLine.{IsOfNoBurst};
 
 use crate::device::LineDevice;
-use modbus_field::burst::{BurstLink, CountedLink, process_link};
-use modbus_link::{
-    Connector, Link, ReadSource, TcpConnector, TerminalLine, TerminalLink, TimedTcpLink, WriteSink,
-};
+use crate::words::LinePlace;
+use modbus_field::burst::{BurstLink, process_link};
+use modbus_idle::{PortLine, keep_alive};
+use modbus_link::{ReadSource, WriteSink};
 use modbus_server::ProcessError;
-use std::alloc::Global;
-use std::io::{Stdin, Stdout};
-use std::net::SocketAddr;
-use std::sync::Wait;
-use std::thread;
-use std::time::{Clock, Duration};
+use std::fs::{File, OpenOptions};
+use std::io;
+use std::io::{Read, Write};
+use std::net::{SocketAddr, TcpStream};
+use std::os::fd::{AsRawFd, RawFd};
+use std::time::Duration;
 
 /// How long a connection to a line may take, in milliseconds.
 const CONNECTING: u64 = 10_000;
 
-/// How many milliseconds lie between two tries to reach a line that is gone.
-const PAUSE: u64 = 1_000;
-
-/// The serial line on the standard streams, which was set by `stty raw min 0 time 1`: a tenth of a second without a byte ends a frame.
-pub fn terminal(rt: &HostRuntime) -> TerminalLine<'_, HostRuntime, Stdin, Stdout> {
-    let streams = TerminalLink::new(ReadSource::new(rt.stdin()), WriteSink::new(rt.stdout()));
-    TerminalLine::new(rt, streams)
+/// Where a line that was opened reads and writes.
+#[derive(Drop)]
+pub enum OpenLine {
+    /// At the file of a serial port.
+    File(File),
+    /// Over a connection to what carries its bytes.
+    Stream(TcpStream),
+    /// On the standard streams.
+    Streams,
 }
 
-/// The serial line behind an address, where so many milliseconds without a byte end a frame; none where there is no connection.
-pub fn connect(rt: &HostRuntime, address: SocketAddr, silence: u64) -> Option<TimedTcpLink> {
-    let limit = Duration::from_millis(CONNECTING);
-    let mut link = TcpConnector::new(rt).connect(address, Some(limit)).ok()?;
-    link.set_timeout(Some(Duration::from_millis(silence)));
-    Some(TimedTcpLink::new(link))
-}
-
-/// The line behind an address that was gone, once it is reached again.
-pub fn connect_again<R: Wait + Clock>(
-    rt: &HostRuntime,
-    waits: &R,
-    address: SocketAddr,
-    silence: u64,
-) -> TimedTcpLink {
-    for _ in waits.forever() {
-        thread::sleep(waits, Duration::from_millis(PAUSE));
-        if let Some(link) = connect(rt, address, silence) {
-            return link;
-        }
-    }
-    unreachable!()
-}
-
-/// Serves a line until it ends.
+/// The file of a serial port, to be read and written.
 ///
 /// # Errors
-/// Those of `modbus_field::burst::process_link`: a fault of the line, refused memory.
-pub fn serve<L: CountedLink + Drop>(
-    alloc: Global,
-    line: L,
+/// Those of the system.
+fn open_file(rt: &HostRuntime, path: &str) -> io::Result<File> {
+    OpenOptions::new().read(true).write(true).open(rt, path)
+}
+
+/// A connection to what carries the bytes of a line.
+///
+/// # Errors
+/// Those of the system.
+fn connect(rt: &HostRuntime, address: SocketAddr) -> io::Result<TcpStream> {
+    let stream = TcpStream::connect_timeout(rt, &address, Duration::from_millis(CONNECTING))?;
+    // What the system refuses of these costs time, and nothing else.
+    let _ = stream.set_nodelay(true);
+    let _ = keep_alive(&stream);
+    Ok(stream)
+}
+
+/// Opens the line at this place.
+///
+/// # Errors
+/// Those of the system.
+pub fn open(rt: &HostRuntime, place: LinePlace<'_>) -> io::Result<OpenLine> {
+    match place {
+        LinePlace::File(path) => Ok(OpenLine::File(open_file(rt, path)?)),
+        LinePlace::Address(address) => Ok(OpenLine::Stream(connect(rt, address)?)),
+        LinePlace::Streams => Ok(OpenLine::Streams),
+    }
+}
+
+/// Serves the line over these ends, which stand behind this descriptor, until it ends.
+fn serve_ends<I: Read + Drop, O: Write + Drop>(
+    rt: &HostRuntime,
+    ends: (I, O),
+    fd: RawFd,
+    silence: Duration,
     device: &mut LineDevice,
 ) -> Result<(), ProcessError>
     ensures { IfErr result (λ error. IsOfNoBurst error → ⊥) }
 {
-    let mut bursts = BurstLink::new(line);
-    process_link(alloc, &mut bursts, device, u64::MAX)
+    let (source, sink) = (ReadSource::new(ends.0), WriteSink::new(ends.1));
+    let mut bursts = BurstLink::new(PortLine::new(rt, source, sink, fd, silence));
+    process_link(rt.alloc(), &mut bursts, device, u64::MAX)
+}
+
+/// Serves a line until it ends. So many milliseconds without a byte end a frame.
+///
+/// # Errors
+/// Those of `modbus_field::burst::process_link`: a fault of the line, refused memory.
+pub fn serve(
+    rt: &HostRuntime,
+    line: &OpenLine,
+    silence: u64,
+    device: &mut LineDevice,
+) -> Result<(), ProcessError>
+    ensures { IfErr result (λ error. IsOfNoBurst error → ⊥) }
+{
+    let silence = Duration::from_millis(silence);
+    match line {
+        OpenLine::File(file) => serve_ends(rt, (file, file), file.as_raw_fd(), silence, device),
+        OpenLine::Stream(stream) => {
+            serve_ends(rt, (stream, stream), stream.as_raw_fd(), silence, device)
+        }
+        OpenLine::Streams => {
+            let ends = (rt.stdin(), rt.stdout());
+            serve_ends(rt, ends, rt.stdin().as_raw_fd(), silence, device)
+        }
+    }
 }

@@ -7,10 +7,12 @@
 mod device;
 mod line;
 mod listen;
+mod setting;
 mod words;
 
 use clap::ArgMatches;
 use device::{Device, LineDevice, OpenError, Plan, open, open_line};
+use line::OpenLine;
 use mio::net::TcpListener;
 use modbus_command::{FAILED, say, words_of};
 use modbus_server::ProcessError;
@@ -19,57 +21,77 @@ use std::io::ErrorKind;
 use std::net::SocketAddr;
 use std::process::ExitCode;
 use std::sync::Wait;
-use std::time::Clock;
-use words::{Place, Task};
+use std::thread;
+use std::time::{Clock, Duration};
+use words::{LinePlace, Place, Task};
 
 /// What its messages begin with.
 const PROGRAM: &str = "modbus_device";
 
-/// The status of the line on the standard streams that ended so, which is told.
-fn ended(rt: &HostRuntime, end: Result<(), ProcessError>) -> u8 {
+/// How many milliseconds lie between two tries to open a line that is gone.
+const PAUSE: u64 = 1_000;
+
+/// The status of a line that ended so for good, which is told.
+fn ended(rt: &HostRuntime, place: LinePlace<'_>, end: Result<(), ProcessError>) -> u8 {
     match end {
         Ok(()) => {
-            let _ = eprintln!(rt;
-                "modbus_device: the line has ended; a serial port wants stty raw -echo min 0 time 1"
-            );
+            let _ = eprintln!(rt; "modbus_device: {place} has ended");
             0
         }
         Err(error) => {
-            let _ = eprintln!(rt; "modbus_device: {error}");
+            let _ = eprintln!(rt; "modbus_device: {place}: {error}");
             FAILED
         }
     }
 }
 
-/// Tells that the line behind this address is gone, and why.
-fn tell_gone(rt: &HostRuntime, address: SocketAddr, end: Result<(), ProcessError>) {
+/// Whether a line that ended so at this place is to be opened anew.
+fn is_opened_again(place: LinePlace<'_>, end: Result<(), ProcessError>) -> bool {
+    place != LinePlace::Streams && end != Err(ProcessError::NoMemory)
+}
+
+/// Tells that the line at this place is gone, and why.
+fn tell_gone(rt: &HostRuntime, place: LinePlace<'_>, end: Result<(), ProcessError>) {
     let _ = match end {
-        Ok(()) => eprintln!(rt; "modbus_device: {address} is gone: its input has ended"),
-        Err(error) => eprintln!(rt; "modbus_device: {address} is gone: {error}"),
+        Ok(()) => eprintln!(rt; "modbus_device: {place} is gone: its input has ended"),
+        Err(error) => eprintln!(rt; "modbus_device: {place} is gone: {error}"),
     };
 }
 
-/// Serves the line behind this address, and connects anew where it is gone, which is told. The status, where it wasn't there at first, or memory
-/// is refused.
-fn serve_stream<R: Wait + Clock>(
+/// The line at this place that was gone, once it can be opened again.
+fn open_again<R: Wait + Clock>(rt: &HostRuntime, waits: &R, place: LinePlace<'_>) -> OpenLine {
+    for _ in waits.forever() {
+        thread::sleep(waits, Duration::from_millis(PAUSE));
+        if let Ok(line) = line::open(rt, place) {
+            return line;
+        }
+    }
+    unreachable!()
+}
+
+/// Serves the line at this place, and opens it anew where it is gone, which is told. The status, where it isn't opened anew.
+fn serve_line<R: Wait + Clock>(
     rt: &HostRuntime,
     waits: &R,
-    address: SocketAddr,
+    place: LinePlace<'_>,
     silence: u64,
     device: &mut LineDevice,
 ) -> u8 {
-    let Some(mut link) = line::connect(rt, address, silence) else {
-        let _ = eprintln!(rt; "modbus_device: no connection to {address}");
-        return FAILED;
+    let mut line = match line::open(rt, place) {
+        Ok(line) => line,
+        Err(error) => {
+            let _ = eprintln!(rt; "modbus_device: {place} can't be opened: {error}");
+            return FAILED;
+        }
     };
     for _ in waits.forever() {
-        let end = line::serve(rt.alloc(), link, device);
-        if end == Err(ProcessError::NoMemory) {
-            return ended(rt, end);
+        let end = line::serve(rt, &line, silence, device);
+        if !is_opened_again(place, end) {
+            return ended(rt, place, end);
         }
-        tell_gone(rt, address, end);
-        link = line::connect_again(rt, waits, address, silence);
-        let _ = eprintln!(rt; "modbus_device: {address} is back");
+        tell_gone(rt, place, end);
+        line = open_again(rt, waits, place);
+        let _ = eprintln!(rt; "modbus_device: {place} is back");
     }
     unreachable!()
 }
@@ -87,11 +109,12 @@ fn refuse(rt: &HostRuntime, address: SocketAddr, why: ErrorKind) {
     };
 }
 
-/// The listener at an address, which is told; none where the system refuses it, which is told too.
+/// The listener at an address, which is told with the port that it has; none where the system refuses it, which is told too.
 fn bind(rt: &HostRuntime, address: SocketAddr) -> Option<TcpListener> {
     match TcpListener::bind(rt, address) {
         Ok(listener) => {
-            let _ = eprintln!(rt; "modbus_device: listening on {address}");
+            let bound = listener.local_addr().unwrap_or(address);
+            let _ = eprintln!(rt; "modbus_device: listening on {bound}");
             Some(listener)
         }
         Err(error) => {
@@ -102,7 +125,7 @@ fn bind(rt: &HostRuntime, address: SocketAddr) -> Option<TcpListener> {
 }
 
 /// What the words ask for; or the status of words that ask for nothing, which is told.
-fn read_task(rt: &HostRuntime, matches: &ArgMatches<'_>) -> Result<Task, u8> {
+fn read_task<'w>(rt: &HostRuntime, matches: &ArgMatches<'w>) -> Result<Task<'w>, u8> {
     match words::task_of(rt.alloc(), matches) {
         Ok(task) => Ok(task),
         Err(wrong) => {
@@ -112,30 +135,35 @@ fn read_task(rt: &HostRuntime, matches: &ArgMatches<'_>) -> Result<Task, u8> {
     }
 }
 
-/// What was opened to be served.
-enum Opened {
-    /// The units behind a port of Modbus TCP at this address.
+/// The units that a task asks for, where they are reached.
+enum Opened<'w> {
+    /// Behind a port of Modbus TCP at this address.
     Port(SocketAddr, Device),
-    /// The units on the serial line at this place.
-    Line(Place, LineDevice),
+    /// On the serial line at this place, which falls silent for so many milliseconds.
+    Line(LinePlace<'w>, u64, LineDevice),
 }
 
-/// The units that a task asks for, where they are reached.
-fn open_place(alloc: Global, place: Place, plan: &Plan<'_>) -> Result<Opened, OpenError> {
+/// Opens the units that a task asks for.
+fn open_place<'w>(
+    alloc: Global,
+    place: Place<'w>,
+    plan: &Plan<'_>,
+) -> Result<Opened<'w>, OpenError> {
     Ok(match place {
         Place::Port(address, addressing) => {
             Opened::Port(address, open(alloc, plan, addressing)?)
         }
-        _ => Opened::Line(place, open_line(alloc, plan)?),
+        Place::Line(line, silence) => Opened::Line(line, silence, open_line(alloc, plan)?),
     })
 }
 
 /// The units that the words ask for; or the status where there are none, which is told.
-fn open_matched(rt: &HostRuntime, matches: &ArgMatches<'_>) -> Result<Opened, u8> {
+fn open_matched<'w>(rt: &HostRuntime, matches: &ArgMatches<'w>) -> Result<Opened<'w>, u8> {
     let task = read_task(rt, matches)?;
     let plan = Plan {
         units: task.units.as_slice(),
         entries: task.entries,
+        settings: task.settings.as_slice(),
         texts: words::texts_of(matches),
     };
     match open_place(rt.alloc(), task.place, &plan) {
@@ -148,25 +176,10 @@ fn open_matched(rt: &HostRuntime, matches: &ArgMatches<'_>) -> Result<Opened, u8
 }
 
 /// What the words ask for; or the status, which is told.
-fn open_task(rt: &HostRuntime, words: &[String]) -> Result<Opened, u8> {
+fn open_task<'w>(rt: &HostRuntime, words: &'w [String]) -> Result<Opened<'w>, u8> {
     match words::parse(rt.alloc(), words) {
         Ok(matches) => open_matched(rt, &matches),
         Err(error) => Err(say(rt, PROGRAM, &error)),
-    }
-}
-
-/// Serves the serial line at this place; the status.
-fn serve_line<R: Wait + Clock>(
-    rt: &HostRuntime,
-    waits: &R,
-    place: Place,
-    mut device: LineDevice,
-) -> u8 {
-    match place {
-        Place::Stream(address, silence) => {
-            serve_stream(rt, waits, address, silence, &mut device)
-        }
-        _ => ended(rt, line::serve(rt.alloc(), line::terminal(rt), &mut device)),
     }
 }
 
@@ -177,8 +190,8 @@ fn main(rt: HostRuntime) -> ExitCode {
     };
     let (address, device) = match open_task(&rt, words.as_slice()) {
         Ok(Opened::Port(address, device)) => (address, device),
-        Ok(Opened::Line(place, device)) => {
-            return ExitCode::from(serve_line(&rt, &rt, place, device));
+        Ok(Opened::Line(place, silence, mut device)) => {
+            return ExitCode::from(serve_line(&rt, &rt, place, silence, &mut device));
         }
         Err(status) => return ExitCode::from(status),
     };

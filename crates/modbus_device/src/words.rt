@@ -1,31 +1,61 @@
 //! The words of the command line.
 
 use crate::device::{Addressing, Texts};
+use crate::setting::Setting;
 use clap::parser::ValueSource;
-use clap::{Arg, ArgMatches, Command, Error, value_parser};
+use clap::{Arg, ArgAction, ArgMatches, Command, Error, value_parser};
 use modbus_command::{FAILED, USAGE, VERSION, command, flag, option, positional};
 use modbus_frame::SlaveId;
 use std::alloc::{AllocError, AllocFailed, Global};
+use std::fmt;
+use std::fmt::{Display, Formatter, Write};
 use std::net::SocketAddr;
+
+/// How many milliseconds without a byte end a frame of a serial port, unless told: more than the 16 after which a USB converter delivers.
+const PORT_SILENCE: u64 = 20;
+
+/// How many milliseconds without a byte end a frame of a line behind an address, unless told.
+const STREAM_SILENCE: u64 = 5;
+
+/// Where a serial line is.
+#[derive(Clone, Copy, Debug, PartialEq, Eq)]
+pub enum LinePlace<'w> {
+    /// On the standard streams.
+    Streams,
+    /// At this file of a serial port.
+    File(&'w str),
+    /// Behind this address, which carries its bytes.
+    Address(SocketAddr),
+}
+
+impl Display for LinePlace<'_> {
+    fn fmt<W: Write>(&self, f: &mut Formatter<W>) -> fmt::Result {
+        match self {
+            LinePlace::Streams => f.write_str("the line"),
+            LinePlace::File(path) => f.write_str(path),
+            LinePlace::Address(address) => write!(f, "{address}"),
+        }
+    }
+}
 
 /// Where the units are reached.
 #[derive(Clone, Copy, Debug, PartialEq, Eq)]
-pub enum Place {
-    /// A serial line on the standard streams.
-    Terminal,
-    /// A serial line behind this address, which carries its bytes, and falls silent for so many milliseconds between two frames.
-    Stream(SocketAddr, u64),
+pub enum Place<'w> {
+    /// A serial line, which falls silent for so many milliseconds between two frames.
+    Line(LinePlace<'w>, u64),
     /// A port of Modbus TCP at this address, and what its requests are for.
     Port(SocketAddr, Addressing),
 }
 
 /// What the program is to do.
 #[derive(Drop)]
-pub struct Task {
+pub struct Task<'w> {
     /// Where the units are reached.
-    pub place: Place,
+    pub place: Place<'w>,
     /// The addresses of the units.
     pub units: Vec<SlaveId>,
+    /// What their inputs are at first, where they are not 0.
+    pub settings: Vec<Setting>,
     /// How many entries each table of a unit has.
     pub entries: u32,
 }
@@ -36,15 +66,21 @@ pub enum Wrong {
     /// A word is no unit.
     #[error("a unit is a number from 1 to 247")]
     Unit,
-    /// There is a port and a line.
-    #[error("--line and --listen name two places")]
+    /// Two words name a place.
+    #[error("--listen, --line and --serial name a place each, and one is wanted")]
     Places,
+    /// The silence of a line is told where there is none.
+    #[error("--silence is of a line, and --listen has none")]
+    NoLine,
     /// This word is of use beside the other alone, which is not there.
     #[error("--{0} needs --{1}")]
     Lacks(&'static str, &'static str),
     /// A word is no address.
     #[error("an address is an IP address and a port, as 192.0.2.1:502")]
     Address,
+    /// A word sets no input.
+    #[error("--set wants UNIT:iADDRESS=VALUE for an input register, or UNIT:dADDRESS=0 or 1 for a discrete input")]
+    Setting,
     /// Memory was refused.
     #[error("no memory")]
     NoMemory,
@@ -105,15 +141,33 @@ fn line<'a>(alloc: Global) -> Arg<'a> {
     )
 }
 
+fn serial<'a>(alloc: Global) -> Arg<'a> {
+    option(
+        alloc,
+        "serial",
+        "FILE",
+        "The file of a serial port, as /dev/ttyUSB0, set by stty raw -echo clocal",
+    )
+}
+
 fn silence<'a>(alloc: Global) -> Arg<'a> {
     option(
         alloc,
         "silence",
         "MS",
-        "How many milliseconds without a byte end a frame of such a line",
+        "How many milliseconds without a byte end a frame of a line [default: 20, behind --line 5]",
     )
     .value_parser(value_parser!(u64).range(1..=60_000))
-    .default_value("5")
+}
+
+fn set<'a>(alloc: Global) -> Arg<'a> {
+    option(
+        alloc,
+        "set",
+        "UNIT:iADDRESS=VALUE",
+        "What an input register is at first, or with d for i a discrete input; may stand more than once",
+    )
+    .action(ArgAction::Append)
 }
 
 fn default_unit<'a>(alloc: Global) -> Arg<'a> {
@@ -179,7 +233,9 @@ fn words<'a>(alloc: Global) -> Result<Vec<Arg<'a>>, AllocError> {
         broadcast_zero(alloc),
         silent(alloc),
         line(alloc),
+        serial(alloc),
         silence(alloc),
+        set(alloc),
         vendor(alloc),
         product(alloc),
         revision(alloc),
@@ -218,8 +274,7 @@ fn address(word: &str) -> Result<SocketAddr, Wrong> {
 }
 
 /// Words that are of use beside another alone.
-const BESIDE: [(&str, &str); 4] = [
-    ("silence", "line"),
+const BESIDE: [(&str, &str); 3] = [
     ("default-unit", "listen"),
     ("broadcast-0", "listen"),
     ("silent", "listen"),
@@ -232,8 +287,12 @@ fn is_given(matches: &ArgMatches<'_>, word: &str) -> bool {
 
 /// Refuses words that do not go together.
 fn check_together(matches: &ArgMatches<'_>) -> Result<(), Wrong> {
-    if is_given(matches, "listen") && is_given(matches, "line") {
+    let places = ["listen", "line", "serial"];
+    if places.iter().filter(|word| is_given(matches, word)).count() > 1 {
         return Err(Wrong::Places);
+    }
+    if is_given(matches, "silence") && is_given(matches, "listen") {
+        return Err(Wrong::NoLine);
     }
     for (word, other) in BESIDE {
         if is_given(matches, word) && !is_given(matches, other) {
@@ -264,18 +323,45 @@ fn addressing_of(matches: &ArgMatches<'_>) -> Result<Addressing, Wrong> {
     })
 }
 
+/// Where the words want a line.
+fn line_of<'w>(matches: &ArgMatches<'w>) -> Result<LinePlace<'w>, Wrong> {
+    if let Some(file) = matches.get_str("serial") {
+        return Ok(LinePlace::File(file));
+    }
+    match matches.get_str("line") {
+        Some(word) => Ok(LinePlace::Address(address(word)?)),
+        None => Ok(LinePlace::Streams),
+    }
+}
+
+/// How long a silence is of a line there, in milliseconds.
+fn silence_of(matches: &ArgMatches<'_>, line: LinePlace<'_>) -> u64 {
+    let usual = match line {
+        LinePlace::Address(_) => STREAM_SILENCE,
+        _ => PORT_SILENCE,
+    };
+    matches.get_one("silence").unwrap_or(usual)
+}
+
 /// Where the words want the units.
-fn place_of(matches: &ArgMatches<'_>) -> Result<Place, Wrong> {
+fn place_of<'w>(matches: &ArgMatches<'w>) -> Result<Place<'w>, Wrong> {
     if let Some(word) = matches.get_str("listen") {
         return Ok(Place::Port(address(word)?, addressing_of(matches)?));
     }
-    match matches.get_str("line") {
-        Some(word) => {
-            let silence = matches.get_one("silence").unwrap_or(5);
-            Ok(Place::Stream(address(word)?, silence))
+    let line = line_of(matches)?;
+    Ok(Place::Line(line, silence_of(matches, line)))
+}
+
+/// The settings that the words name.
+fn settings_of(alloc: Global, words: &[&str]) -> Result<Vec<Setting>, Wrong> {
+    let mut settings = Vec::new(alloc);
+    for word in words {
+        match word.parse() {
+            Ok(setting) => settings.push(setting)?,
+            Err(_) => return Err(Wrong::Setting),
         }
-        None => Ok(Place::Terminal),
     }
+    Ok(settings)
 }
 
 /// The addresses that the words name.
@@ -290,12 +376,13 @@ fn units_of(alloc: Global, words: &[&str]) -> Result<Vec<SlaveId>, Wrong> {
 /// What the words ask for.
 ///
 /// # Errors
-/// `Places`, `Lacks`: words do not go together; `Unit`, `Address`: a word is none; `NoMemory`: memory was refused.
-pub fn task_of(alloc: Global, matches: &ArgMatches<'_>) -> Result<Task, Wrong> {
+/// `Places`, `NoLine`, `Lacks`: words do not go together; `Unit`, `Address`, `Setting`: a word is none; `NoMemory`: memory was refused.
+pub fn task_of<'w>(alloc: Global, matches: &ArgMatches<'w>) -> Result<Task<'w>, Wrong> {
     check_together(matches)?;
     Ok(Task {
         place: place_of(matches)?,
         units: units_of(alloc, matches.get_strs("units").unwrap_or(&[]))?,
+        settings: settings_of(alloc, matches.get_strs("set").unwrap_or(&[]))?,
         entries: matches.get_one("entries").unwrap_or(1024),
     })
 }

@@ -1,5 +1,5 @@
 //! A gateway that makes the devices of one serial line reachable over Modbus TCP, for any number of masters:
-//! `modbus_serial_gateway PORT MILLISECONDS`. Its standard streams are the line, which was set by `stty raw min 0 time 1`.
+//! `modbus_serial_gateway PORT MILLISECONDS`. Its standard streams are the line, which was set by `stty raw -echo`.
 #![tactic(auto)]
 
 mod ending;
@@ -12,8 +12,8 @@ use modbus_about::{About, FAILED, USAGE, asked, tell};
 use modbus_client::Client;
 use modbus_frame::Slave;
 use modbus_gateway::SerialLine;
-use modbus_idle::WatchedLine;
-use modbus_link::{ReadSource, TerminalLine, TerminalLink, WriteSink};
+use modbus_idle::PortLine;
+use modbus_link::{ReadSource, WriteSink};
 use modbus_reconnect::SerialClient;
 use std::env;
 use std::io::{ErrorKind, Result, Stdin, Stdout};
@@ -25,8 +25,8 @@ use words::{HELP, Task, read_words};
 /// What its messages begin with.
 pub(crate) const PROGRAM: &str = "modbus_serial_gateway";
 
-/// How long a silence of the line is, in milliseconds.
-const SILENCE: u64 = 100;
+/// How long a silence of the line is, in milliseconds: more than the 16 after which a USB converter delivers.
+const SILENCE: u64 = 20;
 
 /// How many bytes of a line in doubt are dropped until it is silent.
 const NOISE: usize = 4096;
@@ -51,15 +51,16 @@ fn wish_of(rt: &HostRuntime) -> Result<Option<Wish>> {
     }
 }
 
+/// The line over the standard streams.
+type Port = PortLine<ReadSource<Stdin>, WriteSink<Stdout>>;
+
 /// The line over the standard streams. Where it is in doubt it has to be silent for as long as a reply is waited for.
-fn open_line(
-    rt: &HostRuntime,
-    millis: u32,
-) -> SerialLine<WatchedLine<TerminalLine<'_, HostRuntime, Stdin, Stdout>>> {
-    let streams = TerminalLink::new(ReadSource::new(rt.stdin()), WriteSink::new(rt.stdout()));
-    let link = WatchedLine::new(rt, TerminalLine::new(rt, streams), rt.stdin().as_raw_fd());
+fn open_line(rt: &HostRuntime, millis: u32) -> SerialLine<Port> {
+    let silence = Duration::from_millis(SILENCE);
+    let (source, sink) = (ReadSource::new(rt.stdin()), WriteSink::new(rt.stdout()));
+    let link = PortLine::new(rt, source, sink, rt.stdin().as_raw_fd(), silence);
     let limit = Duration::from_millis(u64::from(millis));
-    let mut client = SerialClient::new(rt.alloc(), link, Slave(0), Duration::from_millis(SILENCE));
+    let mut client = SerialClient::new(rt.alloc(), link, Slave(0), silence);
     client.set_timeout(Some(limit));
     client.set_quiet(limit, NOISE);
     SerialLine::new(client)
