@@ -5,8 +5,8 @@
 use crate::text::Text;
 use crate::word::Word;
 use crate::{
-    clients, codecs, connecting, context, faults, gateway, listeners, one_call, passes, pdus,
-    polls, program, reconnect, servers, store, typed, units, values,
+    clients, codecs, connecting, context, diagnosing, faults, gateway, listeners, one_call, passes,
+    pdus, polls, program, reconnect, servers, store, typed, units, values,
 };
 use std::sync::Wait;
 
@@ -41,6 +41,7 @@ fn answer_over_links(text: &mut Text, call: &str, words: &[Word]) -> bool {
 fn answer_clients(text: &mut Text, call: &str, words: &[Word]) -> bool {
     match call {
         "typed" => typed::answer(text, words),
+        "only_reads" => diagnosing::answer_only_reads(text, words),
         "context" | "context_poll" => context::answer(text, call, words),
         _ if call.starts_with("gateway") => gateway::answer(text, call, words),
         _ if call.starts_with("reconnect") => reconnect::answer(text, call, words),

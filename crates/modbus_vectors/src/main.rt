@@ -23,6 +23,7 @@ mod values;
 mod clients;
 mod connecting;
 mod context;
+mod diagnosing;
 mod gateway;
 mod left;
 mod one_call;

@@ -1,5 +1,6 @@
 //! Typed calls of any client, and through a box over a caller's client that gives one answer.
 
+use crate::diagnosing;
 use crate::text::Text;
 use crate::word::Word;
 use bytes::Bytes;
@@ -95,7 +96,7 @@ impl Client for Prompted {
 }
 
 /// Appends the answer of a typed call. The check of a caller then knows of `T` alone.
-fn push_answer<T: Debug + Drop>(text: &mut Text, answer: Answer<T>) {
+pub fn push_answer<T: Debug + Drop>(text: &mut Text, answer: Answer<T>) {
     text.push_shown(answer);
 }
 
@@ -164,6 +165,7 @@ fn write<C: SyncWriter>(client: &mut C, request: &Request<'_>) -> Answer<()> {
 /// The answer of the typed call of a request. False where it has none.
 pub fn ask<C: SyncClient>(text: &mut Text, client: &mut C, request: &Request<'_>) -> bool {
     match request.function_code().value() {
+        0x07 | 0x08 | 0x0B | 0x0C | 0x11 => diagnosing::ask(text, client, request),
         0x05 | 0x06 | 0x0F | 0x10 | 0x16 => {
             push_answer(text, write(client, request));
             true
