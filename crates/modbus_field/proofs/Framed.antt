@@ -12,6 +12,7 @@ use Rattle.modbus_rtu.specs.Frame.{frame}
 use Rattle.modbus_rtu.specs.Frame.{head}
 use Rattle.modbus_rtu.specs.ResponseHead.{response_head}
 use Rattle.modbus_field.specs.declared.burst.frame.Part.TheVariants.{Last}
+use Rattle.modbus_field.specs.BurstLength.{own_head, request_head, reply_head}
 use Rattle.modbus_field.specs.Bursts.{Heard, heard, is_frame, slave_and_pdu, frame_of, frame_length, request_length, reply_length, is_reply, part_at, message_at, said}
 use Rattle.modbus_field.proofs.Said.{said_nothing, said_one}
 
@@ -122,7 +123,7 @@ frames_are burst message bytes = (forth, back)
 
 -- no frame stands where nothing does
 pub no_frame : frame_length [] ≡ 0
-unfolding frame_length request_length reply_length head response_head
+unfolding frame_length request_length reply_length request_head reply_head own_head head response_head
 no_frame = refl
 
 -- a burst that is a frame says that frame alone

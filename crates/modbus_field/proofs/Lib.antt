@@ -4,6 +4,7 @@ pub mod BurstPieces
 pub mod Framed
 pub mod Never
 pub mod OneReading
+pub mod OwnLength
 pub mod Read
 pub mod Reading
 pub mod Said

@@ -12,6 +12,7 @@ use Rattle.modbus_rtu.specs.Checksum.{crc}
 use Rattle.modbus_rtu.specs.Frame.{Head, head, rule, unknown, verdict_by}
 use Rattle.modbus_rtu.specs.ResponseHead.{held_len, response_head, response_rule, unknown as open_end}
 use Rattle.modbus_rtu.specs.Limits.{overhead}
+use Rattle.modbus_field.specs.BurstLength.{own_head, request_head, reply_head}
 use Rattle.modbus_field.specs.BurstLimits.{most_read}
 use Rattle.modbus_field.specs.Bursts.{Heard, frame_length, request_length, reply_length, length_told, is_frame, slave_and_pdu, message_at, said, said_from, frames_in_message, is_answered, is_reply, noise}
 use Rattle.modbus_field.specs.BurstReading.{StandInRow, IsRead, IsFrame, noise_of, messages_of}
@@ -80,8 +81,8 @@ first_told bytes = by_kind (is_frame bytes) (nat_lt 0 (request_length bytes)) re
   where
     by_kind : (whole request : Bool) → is_frame bytes ≡ whole → nat_lt 0 (request_length bytes) ≡ request → Tells bytes (frame_length bytes)
     by_kind true request e f = rw e (record { within = omega arith; framed = λ some. subst (λ xs. is_frame xs ≡ true) (sym (take_all (length bytes) bytes (omega arith))) e })
-    by_kind false true e f = rw e (rw f (told_by bytes (head bytes)))
-    by_kind false false e f = rw e (rw f (told_by bytes (response_head bytes)))
+    by_kind false true e f = rw e (rw f (told_by bytes (request_head bytes)))
+    by_kind false false e f = rw e (rw f (told_by bytes (reply_head bytes)))
 
 -- a frame that stands first in bytes is one
 pub piece_framed : (p behind : List ℕ) → 0 < length p → frame_length (p ++ behind) ≡ length p → is_frame p ≡ true
@@ -205,17 +206,17 @@ told_size bytes n = by_size (nat_lt (length bytes) (n + overhead)) (crc (take (n
     by_size false true true e f g = rw e (rw f (rw g (λ some. refl)))
 
 -- a frame of an unknown function has all bytes that are left
-module _ (slave code : ℕ) (rest : List ℕ) (unasked : rule code ≡ unknown) (untold : response_rule code ≡ open_end) where
+module _ (slave code : ℕ) (rest : List ℕ) (own : own_head (slave ∷ code ∷ rest) ≡ None) (unasked : rule code ≡ unknown) (untold : response_rule code ≡ open_end) where
   abbrev bytes : List ℕ
   bytes = slave ∷ code ∷ rest
 
   no_request : request_length bytes ≡ 0
-  unfolding request_length head
-  no_request = rw unasked refl
+  unfolding request_length request_head head
+  no_request = rw own (rw unasked refl)
 
   all_held : reply_length bytes ≡ length_told (verdict_by bytes (held_len code bytes))
-  unfolding reply_length response_head
-  all_held = rw untold refl
+  unfolding reply_length reply_head response_head
+  all_held = rw own (rw untold refl)
 
   held_told : (short : Bool) → nat_lt (length bytes) overhead ≡ short → 0 < length_told (verdict_by bytes (held_len code bytes))
       → length_told (verdict_by bytes (held_len code bytes)) ≡ length bytes

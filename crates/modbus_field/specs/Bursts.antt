@@ -7,12 +7,12 @@ use Rattle.modbus_pdu.specs.Message.{Message, message}
 use Rattle.modbus_rtu.specs.declared.verdict.Verdict.{Verdict}
 use Rattle.modbus_rtu.specs.declared.verdict.Verdict.TheVariants.{Good}
 use Rattle.modbus_rtu.specs.Checksum.{crc}
-use Rattle.modbus_rtu.specs.Frame.{frame, head, judged_by}
-use Rattle.modbus_rtu.specs.ResponseHead.{response_head}
+use Rattle.modbus_rtu.specs.Frame.{frame, judged_by}
 use Rattle.modbus_rtu.specs.Limits.{overhead, checksum, max_frame}
 use Rattle.modbus_field.specs.declared.burst.frame.Part.{Part}
 use Rattle.modbus_field.specs.declared.burst.frame.Part.TheVariants.{Last, Earlier, Unasked}
 use Rattle.modbus_field.specs.declared.burst.frame.FrameHeader.{FrameHeader}
+use Rattle.modbus_field.specs.BurstLength.{request_head, reply_head}
 use Rattle.modbus_field.specs.BurstLimits.{shortest_frame, most_read, noise_address}
 
 -- The bursts of bytes: what lies between two cuts, the first of them from a total on. Behind the last cut lies none.
@@ -41,10 +41,10 @@ length_told _ = 0
 
 -- the length of the frame at the front of bytes that is as long as a request of its function, or as a reply; 0 where there is none
 unfoldable pub request_length : List ℕ → ℕ
-request_length bytes = length_told (judged_by head bytes)
+request_length bytes = length_told (judged_by request_head bytes)
 
 unfoldable pub reply_length : List ℕ → ℕ
-reply_length bytes = length_told (judged_by response_head bytes)
+reply_length bytes = length_told (judged_by reply_head bytes)
 
 -- The length of the frame at the front of bytes of a burst: of all of them, where they are a frame; else that of a request, where its
 -- checksum is right; else that of a reply; 0 where none stands there.

@@ -1,4 +1,5 @@
 pub mod BurstFraming
+pub mod BurstLength
 pub mod BurstLimits
 pub mod BurstLine
 pub mod BurstLink

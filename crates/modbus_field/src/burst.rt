@@ -11,6 +11,7 @@ mod bursts;
 mod counted;
 mod frame;
 pub mod laws;
+mod length;
 mod line;
 mod link;
 

@@ -6,9 +6,10 @@ ghost use Rattle.modbus_field.specs.BurstLimits.{shortest_frame};
 ghost use Rattle.modbus_field.specs.Bursts.{frame_of, found, length_told, frame_length, is_reply, is_frame, part_before, said, slave_asked, is_answered};
 
 use crate::burst::bursts::MOST_READ;
+use crate::burst::length::{BurstReplyRule, BurstRequestRule};
 use modbus_frame::SlaveId;
 use modbus_pdu::MAX_PDU;
-use modbus_rtu::{LengthRule, MAX_FRAME, RequestRule, ResponseRule, Verdict, calc_crc, judge_by};
+use modbus_rtu::{LengthRule, MAX_FRAME, Verdict, calc_crc, judge_by};
 
 /// The bytes of a checksum, which stands at the end of a frame.
 const CHECKSUM: usize = 2;
@@ -125,13 +126,13 @@ fn frame_at(bytes: &[u8]) -> Option<Found>
             is_reply: false,
         });
     }
-    match length_by(&RequestRule, bytes) {
+    match length_by(&BurstRequestRule, bytes) {
         Some(length) => Some(Found {
             length,
             is_reply: false,
         }),
         None => {
-            let length = length_by(&ResponseRule, bytes)?;
+            let length = length_by(&BurstReplyRule, bytes)?;
             Some(Found {
                 length,
                 is_reply: true,

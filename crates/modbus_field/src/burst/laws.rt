@@ -1,5 +1,5 @@
 //! Laws on the bursts of a line, about definitions alone. Each is proved by its contract, and its body is empty.
-ghost use Rattle.std.specs.Prelude.{◌≡◌, ◌↔◌, ℕ, ◌<◌, ◌≤◌, All, true, List, [], ◌∷◌, ◌++◌, length, map};
+ghost use Rattle.std.specs.Prelude.{◌≡◌, ◌≢◌, ◌↔◌, ℕ, ◌+◌, ◌<◌, ◌≤◌, All, true, Ok, Some, None, List, [], ◌∷◌, ◌++◌, length, map};
 ghost use Rattle.std.specs.List.{AllByRecursion, flat_map};
 ghost use Rattle.modbus_pdu.specs.SlavePdu.{SlavePdu, IsFramed};
 ghost use Rattle.modbus_link.specs.Reads.{AreCuts};
@@ -8,6 +8,9 @@ ghost use Rattle.modbus_rtu.specs.Frame.{frame};
 ghost use Rattle.modbus_field.specs.declared.burst.frame.Part.TheVariants.{Last};
 ghost use Rattle.modbus_rtu.specs.Frame.{rule, unknown};
 ghost use Rattle.modbus_rtu.specs.ResponseHead.{response_rule, unknown as open_end};
+ghost use Rattle.modbus_frame.specs.FunctionCodes.{diagnostics, read_file_record, write_file_record};
+ghost use Rattle.modbus_pdu.specs.Limits.{max_pdu, two_words_pdu};
+ghost use Rattle.modbus_field.specs.BurstLength.{own_head};
 ghost use Rattle.modbus_field.specs.BurstLimits.{most_read};
 ghost use Rattle.modbus_field.specs.Bursts.{Heard, is_answered, heard, frame_of, frame_length, messages, noise, said, slave_and_pdu, frames, frames_in_message};
 ghost use Rattle.modbus_field.specs.BurstReading.{IsFrame, IsRead, messages_of};
@@ -52,11 +55,28 @@ pub fn frames_among_messages()
         → flat_map frames_in_message (messages_of pieces rest) ≡ map slave_and_pdu pieces }
 {}
 
-/// No length is known for a function that is not of the standard, so a frame of one has all that is left of its burst.
+/// No length is known for a function that is not of the standard, nor for Diagnostics of sub-function 00, which echoes data of any length:
+/// a frame of one has all that is left of its burst.
 pub fn unknown_functions_fill()
-    ensures { (slave code : ℕ) (rest : List ℕ) → rule code ≡ unknown
-        → response_rule code ≡ open_end → 0 < frame_length (slave ∷ code ∷ rest)
+    ensures { (slave code : ℕ) (rest : List ℕ) → own_head (slave ∷ code ∷ rest) ≡ None
+        → rule code ≡ unknown → response_rule code ≡ open_end
+        → 0 < frame_length (slave ∷ code ∷ rest)
         → frame_length (slave ∷ code ∷ rest) ≡ length (slave ∷ code ∷ rest) }
+{}
+
+/// Which functions have a length in a burst beside those of RTU: none but Diagnostics, of another sub-function than 00, and those of file
+/// records. These have one as requests and as replies.
+pub fn functions_with_own_lengths()
+    ensures records { (slave count : ℕ) (rest : List ℕ) → count + 2 ≤ max_pdu
+        → (own_head (slave ∷ read_file_record ∷ count ∷ rest) ≡ Some (Ok (Some (2 + count))))
+        × (own_head (slave ∷ write_file_record ∷ count ∷ rest) ≡ Some (Ok (Some (2 + count)))) }
+    ensures diagnostics { (slave sub : ℕ) (rest : List ℕ) → 0 < sub
+        → own_head (slave ∷ diagnostics ∷ 0 ∷ sub ∷ rest) ≡ Some (Ok (Some two_words_pdu)) }
+    ensures echo { (slave : ℕ) (rest : List ℕ)
+        → own_head (slave ∷ diagnostics ∷ 0 ∷ 0 ∷ rest) ≡ None }
+    ensures others { (slave code : ℕ) (rest : List ℕ) → code ≢ read_file_record
+        → code ≢ write_file_record → code ≢ diagnostics
+        → own_head (slave ∷ code ∷ rest) ≡ None }
 {}
 
 /// One answer is written for a burst at most: behind a message that is answered no frame stands.

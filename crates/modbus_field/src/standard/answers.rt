@@ -74,10 +74,15 @@ pub fn unread_request(request: &Request<'_>) -> Option<Unread>
     }
 }
 
+/// The exception for a request for which memory was refused: the server failed while it worked on it (section 7).
+const FAILURE: ExceptionCode = ExceptionCode::ServerDeviceFailure;
+
 /// A service that is asked for what could be read alone. What could not be read has the exception of the standard's state diagrams
 /// (Modbus Application Protocol V1.1b3, section 6): 01 for function code 0 or a MEI type that is not known, 03 for a value, a count or a
 /// length that doesn't fit. What is no PDU, or has the function code of an exception, is not answered. A function code without a layout of
 /// its own is the service's to answer, with 01 where it doesn't know it.
+///
+/// Where memory is refused to the service, it is as it was, and the answer is exception 04: the device goes on.
 ///
 /// On a line that is shared it stands behind the address of its unit, as `OnlyUnit { unit, service: StandardAnswers { .. } }`: over one it
 /// would tell the exceptions of what is for other devices. `OnlyUnit` is no `Service`, so that order has no type. What says what the device
@@ -89,9 +94,9 @@ pub struct StandardAnswers<S> {
 }
 
 impl<S: Service> Service for StandardAnswers<S> {
-    ghost answers = { standard_answers S.answers };
+    ghost answers = { standard_answers S.answers S.takes_memory };
 
-    ghost takes_memory = { standard_takes S.takes_memory };
+    ghost takes_memory = { standard_takes };
 
     fn call(
         &mut self,
@@ -101,7 +106,11 @@ impl<S: Service> Service for StandardAnswers<S> {
         match unread_request(&request.request) {
             Some(Unread::Refused(exception)) => Err(ServiceError::Exception(exception)),
             Some(Unread::Silent) => Ok(None),
-            None => self.service.call(alloc, request),
+            None => match self.service.call(alloc, request) {
+                Ok(answer) => Ok(answer),
+                Err(ServiceError::Exception(exception)) => Err(ServiceError::Exception(exception)),
+                Err(ServiceError::NoMemory) => Err(ServiceError::Exception(FAILURE)),
+            },
         }
     }
 }
