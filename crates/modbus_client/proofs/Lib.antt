@@ -6,6 +6,11 @@ pub mod Searching
 pub mod Looking
 pub mod OneSearch
 pub mod OneFrame
+pub mod LineLength
+pub mod LineVerdict
+pub mod LineReads
+pub mod LineAlone
+pub mod LineLooks
 pub mod FrameAlone
 pub mod OneAdu
 pub mod OwnAdu

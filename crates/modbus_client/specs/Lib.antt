@@ -6,9 +6,11 @@ pub mod Sends
 pub mod State
 pub mod Calls
 pub mod Polled
+pub mod Silenced
 pub mod Ends
 pub mod Search
 pub mod Rtu
+pub mod LineReading
 pub mod Tcp
 pub mod Exactly
 pub mod Typed

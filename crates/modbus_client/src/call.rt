@@ -6,9 +6,10 @@ ghost use Rattle.modbus_link.specs.Polled.{Flushes};
 ghost use Rattle.modbus_frame.specs.Meaning.{meaning};
 ghost use Rattle.modbus_client.specs.Limits.{read_room};
 ghost use Rattle.modbus_client.specs.Call.{holding, opened_with, OpensCall, CallFed, TellsEnd};
+ghost use Rattle.modbus_client.specs.Silenced.{CallSilenced};
 
 use crate::matching::judge;
-use crate::protocol::{LookError, Protocol};
+use crate::protocol::{LineProtocol, LookError, Protocol};
 use bytes::BytesMut;
 use modbus_frame::{
     EncodeError, Error, FunctionCode, HeaderSeen, Request, Response, Result, TransportError,
@@ -181,6 +182,32 @@ impl<P: Protocol> Call<P> {
             TransportError::BrokenPipe
         } else {
             TransportError::BytesRemaining
+        }
+    }
+}
+
+impl<P: LineProtocol> Call<P> {
+    /// Takes note that the line is silent, so that no more comes of the held bytes, and looks for the reply in them. `None` where there is
+    /// none: the bytes are noise then and are dropped, and the reads that gave them are of those that it may make.
+    pub fn fall_silent(&mut self, alloc: Global, held: &mut BytesMut) -> Option<Result<Response>>
+        ensures { CallSilenced P.protocol P.silent (holding self.old held.old)
+            (holding self.new held.new) result }
+    {
+        P::laws();
+        match self.protocol.look_silent(alloc, self.asked, held) {
+            Ok(None) => {
+                held.truncate(0);
+                self.protocol = P::new();
+                self.turns = self.turns.saturating_sub(self.reads);
+                self.reads = 0;
+                None
+            }
+            Ok(Some(reply)) => Some(judge(self.asked, self.function, reply)),
+            Err(LookError::Broken(fault)) => Some(Err(Error::Transport(fault))),
+            Err(LookError::Refused(reason)) => {
+                Some(Err(Error::Transport(TransportError::InvalidResponse(reason))))
+            }
+            Err(LookError::NoMemory) => Some(Err(Error::NoMemory)),
         }
     }
 }

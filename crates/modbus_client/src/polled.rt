@@ -1,13 +1,14 @@
 //! One call over a link that may not be ready, which goes on where it stopped.
-ghost use Rattle.std.specs.Prelude.{◌≡◌, length, IsTrue};
+ghost use Rattle.std.specs.Prelude.{◌≡◌, length, IsTrue, not, is_some};
 ghost use Rattle.modbus_link.specs.Polled.{is_pending};
 ghost use Rattle.modbus_frame.specs.Meaning.{meaning};
 ghost use Rattle.modbus_client.specs.Polled.{CallPolled, AsksWhole, OpensPolled};
+ghost use Rattle.modbus_client.specs.Silenced.{CallSilenced};
 ghost use Rattle.modbus_link.specs.Outside.{outside};
 
 use crate::call::Call;
 use crate::drive::{open, poll};
-use crate::protocol::Protocol;
+use crate::protocol::{LineProtocol, Protocol};
 use bytes::BytesMut;
 use modbus_frame::{Error, Request, Response, Result};
 use modbus_link::{Polled, PolledLink};
@@ -100,6 +101,24 @@ impl<P: Protocol> PolledCall<P> {
     {
         let answer = poll(&mut self.call, &mut self.held, self.alloc, link);
         self.is_open = answer.is_pending();
+        answer
+    }
+}
+
+impl<P: LineProtocol> PolledCall<P> {
+    /// Takes note that the line is silent, which ends every frame, and looks for the reply in what is held. `None` where there is none: what
+    /// is held is noise then and is dropped, and the call waits on, with the reads that are left of those that may give bytes. Messages
+    /// that were dropped are counted anew from then on.
+    ///
+    /// # Errors
+    /// Those of `call` that the bytes of a reply give.
+    pub fn fall_silent(&mut self) -> Option<Result<Response>>
+        requires { IsTrue self.old.is_open }
+        ensures silent { CallSilenced P.protocol P.silent self.old.call self.new.call result }
+        ensures open { self.new.is_open ≡ not (is_some result) }
+    {
+        let answer = self.call.fall_silent(self.alloc, &mut self.held);
+        self.is_open = answer.is_none();
         answer
     }
 }

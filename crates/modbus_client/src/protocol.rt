@@ -122,3 +122,24 @@ pub trait Protocol: Drop {
             → protocol.Finds (protocol.seen header) bytes cuts found
             → IsOfMessage (protocol.seen header) pdu rest found };
 }
+
+/// A protocol of a line that tells silence, which ends every message.
+pub trait LineProtocol: Protocol {
+    // how the reply stands in the bytes that came until the line was silent
+    ghost silent: { Finding Self.Header };
+
+    /// Looks for the reply in the held bytes once the line is silent, so that no more comes of them. `None` where there is none.
+    ///
+    /// # Errors
+    /// Those of `LookError`.
+    fn look_silent(
+        &mut self,
+        alloc: Global,
+        asked: HeaderSeen,
+        held: &mut BytesMut,
+    ) -> Result<Option<Reply>, LookError>
+        ensures own { IsOwn result }
+        ensures looks { (bytes cuts : List ℕ)
+            → Self.protocol.Finds asked bytes cuts (waiting held.old.items)
+            → LooksAs silent asked bytes cuts held.new.items result };
+}
