@@ -1,0 +1,4 @@
+pub mod Deadline
+pub mod Echo
+pub mod Paced
+pub mod Taking

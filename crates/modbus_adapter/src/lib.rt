@@ -1,0 +1,18 @@
+//! Links for real lines: an adapter that gives back what is written, a pause between frames, a deadline for a call.
+//!
+//! Each is a link over another one, which does what that does and no more than its contract says beside it. `EchoedLink` drops the echo of
+//! what was written. `PacedLink` keeps a pause between what is read and what is written behind it. `DeadlineLink` bounds the time of all
+//! reads and writes of a call, and `DeadlineConnector` makes such links.
+#![tactic(auto)]
+
+mod deadline;
+mod echo;
+mod moment;
+mod nap;
+mod owed;
+mod paced;
+
+pub use crate::deadline::{DeadlineConnector, DeadlineLink};
+pub use crate::echo::{COLLISION_ROOM, EchoedLink};
+pub use crate::owed::ECHO_ROOM;
+pub use crate::paced::{PacedLink, pause_of};
