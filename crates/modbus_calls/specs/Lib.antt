@@ -3,3 +3,5 @@ pub mod Diagnostics
 pub mod Events
 pub mod OnlyReads
 pub mod Picks
+pub mod FileLimits
+pub mod Files

@@ -24,6 +24,7 @@ mod clients;
 mod connecting;
 mod context;
 mod diagnosing;
+mod filing;
 mod gateway;
 mod left;
 mod one_call;

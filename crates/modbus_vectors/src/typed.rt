@@ -1,8 +1,8 @@
 //! Typed calls of any client, and through a box over a caller's client that gives one answer.
 
-use crate::diagnosing;
 use crate::text::Text;
 use crate::word::Word;
+use crate::{diagnosing, filing};
 use bytes::Bytes;
 use modbus_client::Context;
 use modbus_client::prelude::*;
@@ -166,6 +166,7 @@ fn write<C: SyncWriter>(client: &mut C, request: &Request<'_>) -> Answer<()> {
 pub fn ask<C: SyncClient>(text: &mut Text, client: &mut C, request: &Request<'_>) -> bool {
     match request.function_code().value() {
         0x07 | 0x08 | 0x0B | 0x0C | 0x11 => diagnosing::ask(text, client, request),
+        0x14 | 0x15 => filing::ask(text, client, request),
         0x05 | 0x06 | 0x0F | 0x10 | 0x16 => {
             push_answer(text, write(client, request));
             true
