@@ -3,11 +3,13 @@ ghost use Rattle.std.specs.Prelude.{IfErr};
 ghost use Rattle.modbus_field.specs.BurstLine.{IsOfNoBurst};
 
 use crate::device::LineDevice;
-use crate::words::LinePlace;
-use modbus_field::burst::{BurstLink, process_link};
+use crate::words::{LinePlace, SerialLine};
+use modbus_adapter::EchoedLink;
+use modbus_field::burst::{BurstLink, CountedLink, process_link};
 use modbus_idle::{PortLine, keep_alive};
 use modbus_link::{ReadSource, WriteSink};
 use modbus_server::ProcessError;
+use std::alloc::Global;
 use std::fs::{File, OpenOptions};
 use std::io;
 use std::io::{Read, Write};
@@ -61,42 +63,63 @@ pub fn open(rt: &HostRuntime, place: LinePlace<'_>) -> io::Result<OpenLine> {
     }
 }
 
+/// Serves bursts until their line ends. Where other bytes came in place of an echo, the burst that they are of is lost, and no other.
+///
+/// # Errors
+/// Those of `serve`.
+fn serve_bursts<L: CountedLink + Drop>(
+    alloc: Global,
+    bursts: &mut BurstLink<EchoedLink<L>>,
+    device: &mut LineDevice,
+) -> Result<(), ProcessError>
+    ensures { IfErr result (λ error. IsOfNoBurst error → ⊥) }
+{
+    for _ in 0..u64::MAX {
+        let end = process_link(alloc, bursts, device, u64::MAX);
+        if bursts.link().collision().is_empty() {
+            return end;
+        }
+    }
+    Ok(())
+}
+
 /// Serves the line over these ends, which stand behind this descriptor, until it ends.
 fn serve_ends<I: Read + Drop, O: Write + Drop>(
     rt: &HostRuntime,
     ends: (I, O),
     fd: RawFd,
-    silence: Duration,
+    line: SerialLine<'_>,
     device: &mut LineDevice,
 ) -> Result<(), ProcessError>
     ensures { IfErr result (λ error. IsOfNoBurst error → ⊥) }
 {
     let (source, sink) = (ReadSource::new(ends.0), WriteSink::new(ends.1));
-    let mut bursts = BurstLink::new(PortLine::new(rt, source, sink, fd, silence));
-    process_link(rt.alloc(), &mut bursts, device, u64::MAX)
+    let silence = Duration::from_millis(line.silence);
+    let mut echoed = EchoedLink::new(PortLine::new(rt, source, sink, fd, silence));
+    echoed.set_echo(line.has_echo);
+    serve_bursts(rt.alloc(), &mut BurstLink::new(echoed), device)
 }
 
-/// Serves a line until it ends. So many milliseconds without a byte end a frame.
+/// Serves a line that was opened until it ends.
 ///
 /// # Errors
 /// Those of `modbus_field::burst::process_link`: a fault of the line, refused memory.
 pub fn serve(
     rt: &HostRuntime,
-    line: &OpenLine,
-    silence: u64,
+    open: &OpenLine,
+    line: SerialLine<'_>,
     device: &mut LineDevice,
 ) -> Result<(), ProcessError>
     ensures { IfErr result (λ error. IsOfNoBurst error → ⊥) }
 {
-    let silence = Duration::from_millis(silence);
-    match line {
-        OpenLine::File(file) => serve_ends(rt, (file, file), file.as_raw_fd(), silence, device),
+    match open {
+        OpenLine::File(file) => serve_ends(rt, (file, file), file.as_raw_fd(), line, device),
         OpenLine::Stream(stream) => {
-            serve_ends(rt, (stream, stream), stream.as_raw_fd(), silence, device)
+            serve_ends(rt, (stream, stream), stream.as_raw_fd(), line, device)
         }
         OpenLine::Streams => {
             let ends = (rt.stdin(), rt.stdout());
-            serve_ends(rt, ends, rt.stdin().as_raw_fd(), silence, device)
+            serve_ends(rt, ends, rt.stdin().as_raw_fd(), line, device)
         }
     }
 }

@@ -23,7 +23,7 @@ use std::process::ExitCode;
 use std::sync::Wait;
 use std::thread;
 use std::time::{Clock, Duration};
-use words::{LinePlace, Place, Task};
+use words::{LinePlace, Place, SerialLine, Task};
 
 /// What its messages begin with.
 const PROGRAM: &str = "modbus_device";
@@ -62,35 +62,35 @@ fn tell_gone(rt: &HostRuntime, place: LinePlace<'_>, end: Result<(), ProcessErro
 fn open_again<R: Wait + Clock>(rt: &HostRuntime, waits: &R, place: LinePlace<'_>) -> OpenLine {
     for _ in waits.forever() {
         thread::sleep(waits, Duration::from_millis(PAUSE));
-        if let Ok(line) = line::open(rt, place) {
-            return line;
+        if let Ok(open) = line::open(rt, place) {
+            return open;
         }
     }
     unreachable!()
 }
 
-/// Serves the line at this place, and opens it anew where it is gone, which is told. The status, where it isn't opened anew.
+/// Serves a line, and opens it anew where it is gone, which is told. The status, where it isn't opened anew.
 fn serve_line<R: Wait + Clock>(
     rt: &HostRuntime,
     waits: &R,
-    place: LinePlace<'_>,
-    silence: u64,
+    line: SerialLine<'_>,
     device: &mut LineDevice,
 ) -> u8 {
-    let mut line = match line::open(rt, place) {
-        Ok(line) => line,
+    let place = line.place;
+    let mut open = match line::open(rt, place) {
+        Ok(open) => open,
         Err(error) => {
             let _ = eprintln!(rt; "modbus_device: {place} can't be opened: {error}");
             return FAILED;
         }
     };
     for _ in waits.forever() {
-        let end = line::serve(rt, &line, silence, device);
+        let end = line::serve(rt, &open, line, device);
         if !is_opened_again(place, end) {
             return ended(rt, place, end);
         }
         tell_gone(rt, place, end);
-        line = open_again(rt, waits, place);
+        open = open_again(rt, waits, place);
         let _ = eprintln!(rt; "modbus_device: {place} is back");
     }
     unreachable!()
@@ -139,8 +139,8 @@ fn read_task<'w>(rt: &HostRuntime, matches: &ArgMatches<'w>) -> Result<Task<'w>,
 enum Opened<'w> {
     /// Behind a port of Modbus TCP at this address.
     Port(SocketAddr, Device),
-    /// On the serial line at this place, which falls silent for so many milliseconds.
-    Line(LinePlace<'w>, u64, LineDevice),
+    /// On this serial line.
+    Line(SerialLine<'w>, LineDevice),
 }
 
 /// Opens the units that a task asks for.
@@ -153,7 +153,7 @@ fn open_place<'w>(
         Place::Port(address, addressing) => {
             Opened::Port(address, open(alloc, plan, addressing)?)
         }
-        Place::Line(line, silence) => Opened::Line(line, silence, open_line(alloc, plan)?),
+        Place::Line(line) => Opened::Line(line, open_line(alloc, plan)?),
     })
 }
 
@@ -190,8 +190,8 @@ fn main(rt: HostRuntime) -> ExitCode {
     };
     let (address, device) = match open_task(&rt, words.as_slice()) {
         Ok(Opened::Port(address, device)) => (address, device),
-        Ok(Opened::Line(place, silence, mut device)) => {
-            return ExitCode::from(serve_line(&rt, &rt, place, silence, &mut device));
+        Ok(Opened::Line(line, mut device)) => {
+            return ExitCode::from(serve_line(&rt, &rt, line, &mut device));
         }
         Err(status) => return ExitCode::from(status),
     };

@@ -38,11 +38,22 @@ impl Display for LinePlace<'_> {
     }
 }
 
+/// A serial line.
+#[derive(Clone, Copy, Debug, PartialEq, Eq)]
+pub struct SerialLine<'w> {
+    /// Where it is.
+    pub place: LinePlace<'w>,
+    /// How many milliseconds without a byte end a frame.
+    pub silence: u64,
+    /// Whether it gives back what is sent.
+    pub has_echo: bool,
+}
+
 /// Where the units are reached.
 #[derive(Clone, Copy, Debug, PartialEq, Eq)]
 pub enum Place<'w> {
-    /// A serial line, which falls silent for so many milliseconds between two frames.
-    Line(LinePlace<'w>, u64),
+    /// A serial line.
+    Line(SerialLine<'w>),
     /// A port of Modbus TCP at this address, and what its requests are for.
     Port(SocketAddr, Addressing),
 }
@@ -69,9 +80,9 @@ pub enum Wrong {
     /// Two words name a place.
     #[error("--listen, --line and --serial name a place each, and one is wanted")]
     Places,
-    /// The silence of a line is told where there is none.
-    #[error("--silence is of a line, and --listen has none")]
-    NoLine,
+    /// This word is of a line, and there is none.
+    #[error("--{0} is of a line, and --listen has none")]
+    NoLine(&'static str),
     /// This word is of use beside the other alone, which is not there.
     #[error("--{0} needs --{1}")]
     Lacks(&'static str, &'static str),
@@ -160,6 +171,14 @@ fn silence<'a>(alloc: Global) -> Arg<'a> {
     .value_parser(value_parser!(u64).range(1..=60_000))
 }
 
+fn echo<'a>(alloc: Global) -> Arg<'a> {
+    flag(
+        alloc,
+        "echo",
+        "The adapter of the line gives back what is sent, which is then no request",
+    )
+}
+
 fn set<'a>(alloc: Global) -> Arg<'a> {
     option(
         alloc,
@@ -235,6 +254,7 @@ fn words<'a>(alloc: Global) -> Result<Vec<Arg<'a>>, AllocError> {
         line(alloc),
         serial(alloc),
         silence(alloc),
+        echo(alloc),
         set(alloc),
         vendor(alloc),
         product(alloc),
@@ -291,8 +311,10 @@ fn check_together(matches: &ArgMatches<'_>) -> Result<(), Wrong> {
     if places.iter().filter(|word| is_given(matches, word)).count() > 1 {
         return Err(Wrong::Places);
     }
-    if is_given(matches, "silence") && is_given(matches, "listen") {
-        return Err(Wrong::NoLine);
+    for word in ["silence", "echo"] {
+        if is_given(matches, word) && is_given(matches, "listen") {
+            return Err(Wrong::NoLine(word));
+        }
     }
     for (word, other) in BESIDE {
         if is_given(matches, word) && !is_given(matches, other) {
@@ -324,7 +346,7 @@ fn addressing_of(matches: &ArgMatches<'_>) -> Result<Addressing, Wrong> {
 }
 
 /// Where the words want a line.
-fn line_of<'w>(matches: &ArgMatches<'w>) -> Result<LinePlace<'w>, Wrong> {
+fn line_place_of<'w>(matches: &ArgMatches<'w>) -> Result<LinePlace<'w>, Wrong> {
     if let Some(file) = matches.get_str("serial") {
         return Ok(LinePlace::File(file));
     }
@@ -334,13 +356,18 @@ fn line_of<'w>(matches: &ArgMatches<'w>) -> Result<LinePlace<'w>, Wrong> {
     }
 }
 
-/// How long a silence is of a line there, in milliseconds.
-fn silence_of(matches: &ArgMatches<'_>, line: LinePlace<'_>) -> u64 {
-    let usual = match line {
+/// The line that the words want.
+fn line_of<'w>(matches: &ArgMatches<'w>) -> Result<SerialLine<'w>, Wrong> {
+    let place = line_place_of(matches)?;
+    let usual = match place {
         LinePlace::Address(_) => STREAM_SILENCE,
         _ => PORT_SILENCE,
     };
-    matches.get_one("silence").unwrap_or(usual)
+    Ok(SerialLine {
+        place,
+        silence: matches.get_one("silence").unwrap_or(usual),
+        has_echo: matches.get_flag("echo"),
+    })
 }
 
 /// Where the words want the units.
@@ -348,8 +375,7 @@ fn place_of<'w>(matches: &ArgMatches<'w>) -> Result<Place<'w>, Wrong> {
     if let Some(word) = matches.get_str("listen") {
         return Ok(Place::Port(address(word)?, addressing_of(matches)?));
     }
-    let line = line_of(matches)?;
-    Ok(Place::Line(line, silence_of(matches, line)))
+    Ok(Place::Line(line_of(matches)?))
 }
 
 /// The settings that the words name.
