@@ -37,7 +37,7 @@ fn timeout<'a>(alloc: Global) -> Arg<'a> {
     millis(
         alloc,
         "timeout",
-        "How long a connection, a read or a write may take, in milliseconds",
+        "How long a connection, and then each call, may take, in milliseconds",
     )
     .default_value("1000")
 }

@@ -2,13 +2,14 @@
 
 use crate::connector::DeviceConnector;
 use crate::fault::Circumstances;
+use modbus_adapter::DeadlineConnector;
 use modbus_client::Client;
 use modbus_frame::Slave;
 use modbus_reconnect::TcpClient;
 use std::net::SocketAddr;
 use std::time::{Duration, Instant};
 
-/// Which device, and how many milliseconds a connection, a read or a write may take.
+/// Which device, and how many milliseconds a connection, and then a call, may take.
 #[derive(Clone, Copy)]
 pub struct Device {
     pub address: SocketAddr,
@@ -16,14 +17,15 @@ pub struct Device {
     pub limit: u64,
 }
 
-/// A client of a device, which connects anew where its link is in doubt.
-pub type DeviceClient<'r> = TcpClient<DeviceConnector<'r>>;
+/// A client of a device, which connects anew where its link is in doubt. The reads and writes of a call have a deadline.
+pub type DeviceClient<'r> = TcpClient<DeadlineConnector<'r, HostRuntime, DeviceConnector<'r>>>;
 
 /// A client of a device that is not connected yet.
 pub fn client_of<'r>(rt: &'r HostRuntime, device: Device) -> DeviceClient<'r> {
-    let connector = DeviceConnector::new(rt);
+    let limit = Some(Duration::from_millis(device.limit));
+    let connector = DeadlineConnector::new(rt, DeviceConnector::new(rt), limit);
     let mut client = TcpClient::new(rt.alloc(), connector, device.address, device.unit);
-    client.set_timeout(Some(Duration::from_millis(device.limit)));
+    client.set_timeout(limit);
     client
 }
 
@@ -36,7 +38,7 @@ pub fn circumstances(
 ) -> Circumstances {
     let took = began.elapsed(rt).unwrap_or(Duration::ZERO);
     Circumstances {
-        refusal: client.connector().refusal(),
+        refusal: client.connector().connector().refusal(),
         limit: device.limit,
         is_late: took >= Duration::from_millis(device.limit),
     }

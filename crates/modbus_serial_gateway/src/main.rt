@@ -1,5 +1,6 @@
 //! A gateway that makes the devices of one serial line reachable over Modbus TCP, for any number of masters:
-//! `modbus_serial_gateway PORT MILLISECONDS`. Its standard streams are the line, which was set by `stty raw -echo`.
+//! `modbus_serial_gateway PORT MILLISECONDS`. Its standard streams are the line, which was set by `stty raw -echo`. `--echo` is for an adapter
+//! that gives back what is sent, and `--baud N` tells the line's speed, by which a pause is kept between a reply and the next request.
 #![tactic(auto)]
 
 mod ending;
@@ -9,18 +10,20 @@ mod words;
 use ending::NO_MEMORY_LINE;
 use listen::serve;
 use modbus_about::{About, FAILED, USAGE, asked, tell};
+use modbus_adapter::{EchoedLink, PacedLink, pause_of};
 use modbus_client::Client;
 use modbus_frame::Slave;
 use modbus_gateway::SerialLine;
 use modbus_idle::PortLine;
 use modbus_link::{ReadSource, WriteSink};
 use modbus_reconnect::SerialClient;
-use std::env;
+use std::env::{self, Args};
 use std::io::{ErrorKind, Result, Stdin, Stdout};
+use std::iter::Skip;
 use std::os::fd::AsRawFd;
 use std::process::ExitCode;
 use std::time::Duration;
-use words::{HELP, Task, read_words};
+use words::{HELP, LineKind, LineWords, Task, read_words};
 
 /// What its messages begin with.
 pub(crate) const PROGRAM: &str = "modbus_serial_gateway";
@@ -33,32 +36,52 @@ const NOISE: usize = 4096;
 
 /// What the words ask for.
 enum Wish {
-    /// To serve.
-    Serve(Task),
+    /// To serve, over such a line.
+    Serve(Task, LineKind),
     /// To say something of itself.
     Say(About),
+}
+
+/// How the line is by these words; `None` where they are no such words.
+fn read_kind(words: Skip<Args>) -> Option<LineKind> {
+    let mut line = LineWords::new();
+    for word in words {
+        line = line.read(word.as_str())?;
+    }
+    line.kind()
 }
 
 /// What the words after the program's name ask for; `None` where they are no such words.
 fn wish_of(rt: &HostRuntime) -> Result<Option<Wish>> {
     let mut words = env::args(rt)?.skip(1);
-    match (words.next(), words.next(), words.next()) {
-        (Some(word), None, None) => Ok(asked(word.as_str()).map(Wish::Say)),
-        (Some(port), Some(millis), None) => {
-            Ok(read_words(port.as_str(), millis.as_str()).map(Wish::Serve))
+    match (words.next(), words.next()) {
+        (Some(word), None) => Ok(asked(word.as_str()).map(Wish::Say)),
+        (Some(port), Some(millis)) => {
+            let task = read_words(port.as_str(), millis.as_str());
+            match (task, read_kind(words)) {
+                (Some(task), Some(kind)) => Ok(Some(Wish::Serve(task, kind))),
+                _ => Ok(None),
+            }
         }
         _ => Ok(None),
     }
 }
 
-/// The line over the standard streams.
-type Port = PortLine<ReadSource<Stdin>, WriteSink<Stdout>>;
+/// The line over the standard streams, without what it gives back of what is sent.
+type Port = EchoedLink<PortLine<ReadSource<Stdin>, WriteSink<Stdout>>>;
 
 /// The line over the standard streams. Where it is in doubt it has to be silent for as long as a reply is waited for.
-fn open_line(rt: &HostRuntime, millis: u32) -> SerialLine<Port> {
+fn open_line(
+    rt: &HostRuntime,
+    millis: u32,
+    kind: LineKind,
+) -> SerialLine<PacedLink<'_, HostRuntime, Port>> {
     let silence = Duration::from_millis(SILENCE);
     let (source, sink) = (ReadSource::new(rt.stdin()), WriteSink::new(rt.stdout()));
-    let link = PortLine::new(rt, source, sink, rt.stdin().as_raw_fd(), silence);
+    let fd = rt.stdin().as_raw_fd();
+    let mut echoed = EchoedLink::new(PortLine::new(rt, source, sink, fd, silence));
+    echoed.set_echo(kind.has_echo);
+    let link = PacedLink::new(rt, echoed, pause_of(kind.baud));
     let limit = Duration::from_millis(u64::from(millis));
     let mut client = SerialClient::new(rt.alloc(), link, Slave(0), silence);
     client.set_timeout(Some(limit));
@@ -76,8 +99,8 @@ fn main(rt: HostRuntime) -> ExitCode {
         Err(_) => None,
     };
     match wish {
-        Some(Wish::Serve(task)) => {
-            let line = open_line(&rt, task.millis);
+        Some(Wish::Serve(task, kind)) => {
+            let line = open_line(&rt, task.millis, kind);
             let errors = WriteSink::new(rt.stderr());
             let notes = (WriteSink::new(rt.stderr()), WriteSink::new(rt.stderr()));
             let (_errors, status) = serve(&rt, rt.alloc(), task.port, line, errors, notes);
