@@ -16,11 +16,11 @@ use Rattle.modbus_ascii.specs.declared.decoder.Phase.TheVariants.{Digits}
 use Rattle.modbus_ascii.specs.Encoder.{digit, text_of, body, frame}
 use Rattle.modbus_ascii.specs.WholeReading.{stream_of}
 use Rattle.modbus_ascii.specs.Stands.{kept_of}
-use Rattle.modbus_ascii.proofs.Ends.{opened, given, open_end-more, frames-more}
+use Rattle.modbus_ascii.proofs.Ends.{but_last, opened, given, open_end-more, frames-more}
 use Rattle.modbus_ascii.proofs.Digits.{frame_of-digits}
-use Rattle.modbus_ascii.proofs.Decoding.{opened-ended, given-ended, given-quiet, no-feed, on-quiet}
+use Rattle.modbus_ascii.proofs.Decoding.{but_last-push, opened-ended, given-ended, given-quiet, no-feed, on-quiet}
 use Rattle.modbus_ascii.proofs.Going.{length-kept, frames-closed}
-use Rattle.modbus_ascii.proofs.Holding.{open_end-colon, all-open-quiet}
+use Rattle.modbus_ascii.proofs.Holding.{open_end-colon, all-open-quiet, front-quiet}
 
 digit-is : (n : ℕ) → n < 16 → is_hex_digit (digit n) ≡ true
 digit-is n h = grind arith
@@ -98,9 +98,14 @@ text-of-frame slave pdu f =
     let inner : take (length bytes - 2) (drop 1 bytes) ≡ pdu = take_at pdu (lrc (slave ∷ pdu) ∷ []) (length bytes - 2) (omega (arith, size)) in
     made ∙ ap (λ m. ended m (reading_of bytes)) yes' ∙ ap (λ p. message slave p ∷ []) inner
 
-alone : (slave : ℕ) (pdu : List ℕ) → IsFramed (message slave pdu) → (frames (frame slave pdu) ≡ message slave pdu ∷ []) × (open_end (frame slave pdu) ≡ [])
-unfolding frame
-alone slave pdu f =
+-- the bytes of a frame but the last
+abbrev before_feed : ℕ → List ℕ → List ℕ
+before_feed slave pdu = colon ∷ text_of (body slave pdu) ++ carriage_return ∷ []
+
+-- they are all open, and deliver nothing
+before-feed-open : (slave : ℕ) (pdu : List ℕ) → IsFramed (message slave pdu)
+    → (open_end (before_feed slave pdu) ≡ before_feed slave pdu) × (frames (before_feed slave pdu) ≡ [])
+before-feed-open slave pdu f =
     let text = text_of (body slave pdu) in
     let begun = colon ∷ text in
     let digits = text-digits (body slave pdu) (body-bytes slave pdu f.slave f.bytes) in
@@ -113,12 +118,37 @@ alone slave pdu f =
     let nothing : frames returned ≡ [] =
     frames-more begun carriage_return ∙ ap (λ g. frames begun ++ g) (given-quiet (open_end begun) carriage_return (no-feed (open_end begun) carriage_return same))
     ∙ append-nil (frames begun) ∙ quiet in
-    let whole : begun ++ carriage_return ∷ line_feed ∷ [] ≡ returned ++ line_feed ∷ [] = sym (append_assoc begun (carriage_return ∷ []) (line_feed ∷ [])) in
+    (after, nothing)
+
+frame-ends : (slave : ℕ) (pdu : List ℕ) → frame slave pdu ≡ before_feed slave pdu ++ line_feed ∷ []
+unfolding frame
+frame-ends slave pdu = sym (append_assoc (colon ∷ text_of (body slave pdu)) (carriage_return ∷ []) (line_feed ∷ []))
+
+alone : (slave : ℕ) (pdu : List ℕ) → IsFramed (message slave pdu) → (frames (frame slave pdu) ≡ message slave pdu ∷ []) × (open_end (frame slave pdu) ≡ [])
+alone slave pdu f =
+    let text = text_of (body slave pdu) in
+    let returned = before_feed slave pdu in
+    let (after, nothing) = before-feed-open slave pdu f in
+    let whole = frame-ends slave pdu in
     let delivers : frames (returned ++ line_feed ∷ []) ≡ message slave pdu ∷ [] =
     frames-more returned line_feed ∙ ap (λ f. f ++ given (open_end returned) line_feed) nothing ∙ ap (λ p. given p line_feed) after ∙ given-ended text
     ∙ text-of-frame slave pdu f in
     let closes : open_end (returned ++ line_feed ∷ []) ≡ [] = open_end-more returned line_feed ∙ ap (λ p. opened p line_feed) after ∙ opened-ended text in
     (ap frames whole ∙ delivers, ap open_end whole ∙ closes)
+
+but_last-append : (bytes : List ℕ) (x : ℕ) (rest : List ℕ) → but_last (bytes ++ x ∷ rest) ≡ bytes ++ but_last (x ∷ rest)
+but_last-append [] x rest = refl
+but_last-append (b ∷ []) x rest = refl
+but_last-append (b ∷ c ∷ bytes) x rest = ap (λ l. b ∷ l) (but_last-append (c ∷ bytes) x rest)
+
+-- a front of a frame that is not the whole of it delivers nothing
+pub front-alone : (slave : ℕ) (pdu bytes rest : List ℕ) → IsFramed (message slave pdu) → frame slave pdu ≡ bytes ++ rest → rest ≢ [] → frames bytes ≡ []
+front-alone slave pdu bytes [] f is some = absurd (some refl)
+front-alone slave pdu bytes (x ∷ rest) f is some =
+    let returned = before_feed slave pdu in
+    let parts : returned ≡ bytes ++ but_last (x ∷ rest) =
+    sym (but_last-push returned line_feed) ∙ ap but_last (sym (frame-ends slave pdu) ∙ is) ∙ but_last-append bytes x rest in
+    front-quiet bytes (but_last (x ∷ rest)) (ap frames (sym parts) ∙ (before-feed-open slave pdu f).1)
 
 none-held : (now : List ℕ) → kept_of now ≡ [] → now ≡ []
 none-held [] e = refl

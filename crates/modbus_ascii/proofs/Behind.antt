@@ -9,7 +9,7 @@ use Rattle.modbus_ascii.proofs.Ends.{but_last, opened, given, open_end-more, fra
 use Rattle.modbus_ascii.proofs.Going.{long-text, going}
 use Rattle.modbus_ascii.proofs.Holding.{OpenKind, open_end-kind, open_end-colon, all-open-quiet}
 
-nothing-open : open_end [] ≡ []
+pub nothing-open : open_end [] ≡ []
 unfolding open_end
 nothing-open = refl
 
@@ -18,7 +18,7 @@ unfolding frames
 nothing-quiet = refl
 
 -- what is open is open alone
-again : (bytes : List ℕ) → open_end (open_end bytes) ≡ open_end bytes
+pub again : (bytes : List ℕ) → open_end (open_end bytes) ≡ open_end bytes
 again bytes = by_kind (open_end-kind bytes)
   where
     by_kind : OpenKind (open_end bytes) → open_end (open_end bytes) ≡ open_end bytes

@@ -20,7 +20,7 @@ last-push [] b = refl
 last-push (x ∷ []) b = refl
 last-push (x ∷ y ∷ ys) b = last-push (y ∷ ys) b
 
-but_last-push : (xs : List ℕ) (b : ℕ) → but_last (xs ++ b ∷ []) ≡ xs
+pub but_last-push : (xs : List ℕ) (b : ℕ) → but_last (xs ++ b ∷ []) ≡ xs
 but_last-push [] b = refl
 but_last-push (x ∷ []) b = refl
 but_last-push (x ∷ y ∷ ys) b = ap (λ t. x ∷ t) (but_last-push (y ∷ ys) b)

@@ -5,6 +5,7 @@ pub mod Framing
 pub mod Going
 pub mod Holding
 pub mod Behind
+pub mod OpenFrames
 pub mod Scanning
 pub mod Buffering
 pub mod Alone

@@ -9,3 +9,4 @@ pub mod Frames
 pub mod Decoder
 pub mod Encoder
 pub mod Stands
+pub mod OpenFrames

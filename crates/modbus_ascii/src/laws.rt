@@ -3,7 +3,9 @@ ghost use Rattle.std.specs.Prelude.{◌≡◌, ◌≢◌, ℕ, ◌<◌, List, []
 ghost use Rattle.std.specs.List.{AllByRecursion};
 ghost use Rattle.modbus_pdu.specs.SlavePdu.{SlavePdu, IsFramed, message_of};
 ghost use Rattle.modbus_frame.specs.Meaning.{Asked};
+ghost use Rattle.modbus_ascii.specs.Encoder.{frame};
 ghost use Rattle.modbus_ascii.specs.Frames.{frames};
+ghost use Rattle.modbus_ascii.specs.OpenFrames.{open_frame};
 ghost use Rattle.modbus_ascii.specs.WholeReading.{IsFramedRequest, stream_of};
 ghost use Rattle.modbus_ascii.specs.Limits.{colon, max_frame};
 ghost use Rattle.modbus_ascii.specs.Stands.{AreOnlyFrames};
@@ -35,6 +37,21 @@ pub fn frames_behind_open_ends()
         → frames (bytes ++ more) ≡ frames bytes ++ frames (open_end bytes ++ more) }
     ensures long { (bytes more : List ℕ) → max_frame < length (open_end bytes)
         → frames (bytes ++ more) ≡ frames bytes ++ frames more }
+{}
+
+/// Bytes go on as the front of a frame that they end with: what follows them delivers the same frames behind it, and the same front is
+/// left.
+pub fn open_frames_go_on()
+    ensures delivers { (bytes more : List ℕ)
+        → frames (bytes ++ more) ≡ frames bytes ++ frames (open_frame bytes ++ more) }
+    ensures left { (bytes more : List ℕ)
+        → open_frame (bytes ++ more) ≡ open_frame (open_frame bytes ++ more) }
+{}
+
+/// A front of a frame of a slave address and of a PDU of 1 to 253 bytes delivers nothing, where it is not the whole frame.
+pub fn fronts_deliver_nothing()
+    ensures { (message : SlavePdu) (bytes rest : List ℕ) → IsFramed message
+        → frame message.header message.pdu ≡ bytes ++ rest → rest ≢ [] → frames bytes ≡ [] }
 {}
 
 /// Frames one after another, each of a slave address and of a PDU of 1 to 253 bytes, deliver exactly these, with no `:` open at their end.

@@ -5,8 +5,8 @@
 use crate::text::Text;
 use crate::word::Word;
 use crate::{
-    clients, codecs, connecting, context, diagnosing, faults, gateway, listeners, one_call, passes,
-    pdus, polls, program, reconnect, servers, store, typed, units, values,
+    ascii, clients, codecs, connecting, context, diagnosing, faults, gateway, listeners, one_call,
+    passes, pdus, polls, program, reconnect, servers, store, typed, units, values,
 };
 use std::sync::Wait;
 
@@ -29,6 +29,7 @@ fn answer_over_links(text: &mut Text, call: &str, words: &[Word]) -> bool {
         "rtu_call" | "rtu_lent" | "tcp_call" | "matching_call" => {
             clients::answer(text, call, words)
         }
+        "ascii_call" => ascii::answer(text, words),
         "tcp_attach" => clients::answer_attached(text, words),
         "tcp_connect" | "matching_connect" => connecting::answer(text, call, words),
         "rtu_polled" | "tcp_polled" | "matching_polled" => one_call::answer(text, call, words),

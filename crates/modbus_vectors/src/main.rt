@@ -20,6 +20,7 @@ mod pdus;
 mod values;
 
 // clients over links in memory, and what stands on them
+mod ascii;
 mod clients;
 mod connecting;
 mod context;

@@ -1,0 +1,4 @@
+pub mod Frames
+pub mod Laws
+pub mod Reads
+pub mod Search
