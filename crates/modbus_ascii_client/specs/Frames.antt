@@ -46,3 +46,16 @@ ascii_protocol = record {
   Counts = CountsOthers;
   IsWhole = λ header pdu. IsFramed (message header.slave_id pdu);
 }
+
+-- At a silence there is no reply, and what is held of a frame that was begun is dropped.
+abbrev pub FindsNone : HeaderSeen → List ℕ → List ℕ → Found → Type 0
+FindsNone asked bytes cuts found = found ≡ waiting []
+
+abbrev pub silent_ascii : Protocol Header
+silent_ascii = record {
+  seen = λ header. slave_seen header.slave_id;
+  adu = λ header pdu. frame header.slave_id pdu;
+  Finds = FindsNone;
+  Counts = CountsOthers;
+  IsWhole = λ header pdu. IsFramed (message header.slave_id pdu);
+}

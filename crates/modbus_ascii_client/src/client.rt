@@ -4,13 +4,13 @@ ghost use Rattle.modbus_frame.specs.Meaning.{meaning};
 ghost use Rattle.modbus_client.specs.Polled.{OpensPolled};
 ghost use Rattle.modbus_client.specs.Rtu.{rtu_heading};
 ghost use Rattle.modbus_client.specs.State.{attached_client};
-ghost use Rattle.modbus_ascii_client.specs.Frames.{ascii_protocol};
+ghost use Rattle.modbus_ascii_client.specs.Frames.{ascii_protocol, silent_ascii};
 ghost use Rattle.modbus_ascii_client.specs.Reads.{ReadsReply};
 
 use crate::search::first_reply;
 use bytes::BytesMut;
 use modbus_ascii::{AsciiFrame, encode_request_frame};
-use modbus_client::{LinkClient, LookError, Protocol, Reply};
+use modbus_client::{LineProtocol, LinkClient, LookError, Protocol, Reply};
 use modbus_frame::rtu::Header;
 use modbus_frame::{EncodeError, Error, HeaderSeen, PduError, Request, Slave};
 use modbus_link::Link;
@@ -122,6 +122,21 @@ impl Protocol for Frames {
     fn laws() {
         modbus_ascii::laws::frames_alone();
         modbus_ascii::laws::fronts_deliver_nothing();
+    }
+}
+
+/// A silence ends a frame that was begun: what is held of it is dropped.
+impl LineProtocol for Frames {
+    ghost silent = { silent_ascii };
+
+    fn look_silent(
+        &mut self,
+        _alloc: Global,
+        _asked: HeaderSeen,
+        held: &mut BytesMut,
+    ) -> std::result::Result<Option<Reply>, LookError> {
+        held.clear();
+        Ok(None)
     }
 }
 
