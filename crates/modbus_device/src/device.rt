@@ -17,8 +17,8 @@ type Unit = StandardAnswers<Identified<RegisterStore>>;
 /// The units behind a port of Modbus TCP, one of which is the device itself.
 pub type Device = DefaultUnit<Units<Unit>>;
 
-/// The units on a serial line, behind a port that counts what it hears and answers for its counters.
-pub type LineDevice = Port<Units<Unit>>;
+/// The units on a serial line, behind a port that counts and logs what it hears and answers for that.
+pub type LineDevice = Port<Unit>;
 
 /// Why there are no such units.
 #[derive(Clone, Copy, Debug, PartialEq, Eq, thiserror::Error)]
@@ -145,7 +145,8 @@ fn identity_of(alloc: Global, texts: &Texts<'_>) -> Result<Identity, IdentityErr
     Ok(identity)
 }
 
-/// Tables that hold zeros, as many entries each.
+/// Tables that hold zeros, as many entries each. They answer what is for all as what is for one: the units keep that answer from the line,
+/// and a port counts by it how the message ended.
 fn open_store(alloc: Global, entries: u32) -> Result<RegisterStore, OpenError> {
     let sizes = Sizes {
         coils: entries,
@@ -153,7 +154,7 @@ fn open_store(alloc: Global, entries: u32) -> Result<RegisterStore, OpenError> {
         holding_registers: entries,
         input_registers: entries,
     };
-    match RegisterStore::new(alloc, sizes, true) {
+    match RegisterStore::new(alloc, sizes, false) {
         Ok(store) => Ok(store),
         Err(StoreError::BadSize) => Err(OpenError::Entries),
         Err(StoreError::NoMemory) => Err(OpenError::NoMemory),

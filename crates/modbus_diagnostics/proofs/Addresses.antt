@@ -8,10 +8,9 @@ use Rattle.modbus_service.specs.Exchange.{Exchange, Run}
 use Rattle.modbus_service.specs.Outcome.{Outcome}
 use Rattle.modbus_service.specs.Units.{LineUnits, unit_at, Did, OneAsked, units_give, units_answering}
 use Rattle.modbus_service.specs.declared.only_unit.OnlyUnit.{OnlyUnit}
-use Rattle.modbus_diagnostics.specs.declared.counters.Counters.{Counters}
 use Rattle.modbus_diagnostics.specs.declared.heard.Heard.{Heard}
-use Rattle.modbus_diagnostics.specs.declared.heard.Heard.TheVariants.{Noise, Another, Own, Asks}
-use Rattle.modbus_diagnostics.specs.Heard.{heard_as}
+use Rattle.modbus_diagnostics.specs.declared.heard.Heard.TheVariants.{Noise, Another, Broadcast, Own, Asks, Monitored, MonitoredBroadcast, MonitoredAnother}
+use Rattle.modbus_diagnostics.specs.Journal.{JournalState}
 use Rattle.modbus_diagnostics.specs.Port.{PortState, addresses_of, Answers, port_answering}
 
 module _ {S : Type 0} (A : Answering S) where
@@ -33,16 +32,20 @@ module _ {S : Type 0} (A : Answering S) where
   given old new slave request outcome (absent, inr (inl (some, asked))) = one (λ it next. A.gives it slave request outcome next) slave old.units new.units asked
   given old new slave request outcome (absent, inr (inr (some, none, told, same))) = ap addresses_of same
 
-  answered : (c : Counters) (h : Heard) (old new : LineUnits S) (slave : ℕ) (request : Asked) (outcome : Outcome)
-      → Answers (units_answering A) c h old slave request outcome new → addresses_of new.units ≡ addresses_of old.units
-  answered c Noise old new slave request outcome (silent, same) = ap (λ s. addresses_of s.units) same
-  answered c (Asks query) old new slave request outcome (told, same) = ap (λ s. addresses_of s.units) same
-  answered c Own old new slave request outcome gives = given old new slave request outcome gives
-  answered c Another old new slave request outcome gives = given old new slave request outcome gives
+  answered : (j : JournalState) (h : Heard) (old new : LineUnits S) (slave : ℕ) (request : Asked) (outcome : Outcome)
+      → Answers (units_answering A) j h old slave request outcome new → addresses_of new.units ≡ addresses_of old.units
+  answered j Noise old new slave request outcome (silent, same) = ap (λ s. addresses_of s.units) same
+  answered j Monitored old new slave request outcome (silent, same) = ap (λ s. addresses_of s.units) same
+  answered j MonitoredBroadcast old new slave request outcome (silent, same) = ap (λ s. addresses_of s.units) same
+  answered j MonitoredAnother old new slave request outcome (silent, same) = ap (λ s. addresses_of s.units) same
+  answered j (Asks query) old new slave request outcome (told, same) = ap (λ s. addresses_of s.units) same
+  answered j Broadcast old new slave request outcome gives = given old new 0 request outcome gives
+  answered j Own old new slave request outcome gives = given old new slave request outcome gives
+  answered j Another old new slave request outcome gives = given old new slave request outcome gives
 
-  pub stay_true : {Header : Type 0} (slave : Header → ℕ) (start last : PortState (LineUnits S)) (xs : List (Exchange Header))
-      → Run slave (port_answering (units_answering A)) start xs last → start.units ≡ addresses_of start.service.units → last.units ≡ addresses_of last.service.units
-  stay_true slave start last [] same true = ap (λ p. p.units) same ∙ true ∙ sym (ap (λ p. addresses_of p.service.units) same)
-  stay_true slave start last (x ∷ xs) (next, step, rest) true =
-      let behind = answered start.counters (heard_as start.units (slave x.header) x.request) start.service next.service (slave x.header) x.request x.outcome step.2 in
+  pub stay_true : {Header : Type 0} (slave : Header → ℕ) (start last : PortState S) (xs : List (Exchange Header))
+      → Run slave (port_answering A) start xs last → start.units ≡ addresses_of start.line.units → last.units ≡ addresses_of last.line.units
+  stay_true slave start last [] same true = ap (λ p. p.units) same ∙ true ∙ sym (ap (λ p. addresses_of p.line.units) same)
+  stay_true slave start last (x ∷ xs) (next, (note, step), rest) true =
+      let behind = answered start.journal note.heard start.line next.line (slave x.header) x.request x.outcome step.3 in
       stay_true slave next last xs rest (step.0 ∙ true ∙ sym behind)

@@ -1,12 +1,11 @@
--- Counters that go on from a number, and stay at the last one.
-use Rattle.std.proofs.Common.{◌≡◌, ◌≤◌, ℕ, ◌+◌, true, false, Bool, cond, List, [], ◌∷◌, length, refl, ap, arith}
+-- Counters that go on over what was heard.
+use Rattle.std.proofs.Common.{◌≡◌, ℕ, ◌+◌, ◌≤◌, true, false, Bool, cond, List, [], ◌∷◌, length, refl, ap, arith}
 use Rattle.std.specs.Prelude.{min, filter, not}
-use Rattle.modbus_service.specs.Exchange.{Exchange}
 use Rattle.modbus_diagnostics.specs.declared.counters.Counters.{Counters}
 use Rattle.modbus_diagnostics.specs.declared.counters.Ended.{Ended}
 use Rattle.modbus_diagnostics.specs.declared.heard.Heard.{Heard}
-use Rattle.modbus_diagnostics.specs.Heard.{heard_of, is_message, is_own, clears}
-use Rattle.modbus_diagnostics.specs.Counters.{greatest_count, next_if, zeros, outcome_counted, is_refused, is_silent, is_event, counters_after, tally, counters_of}
+use Rattle.modbus_diagnostics.specs.Heard.{is_message, is_own, clears}
+use Rattle.modbus_diagnostics.specs.Counters.{Note, greatest_count, negative_acknowledge, busy as busy_code, next_if, zeros, is_refused, is_refused_by, is_unanswered, is_event, counters_after, tally, counters_of}
 
 -- a counter that goes on from a number
 pub on : {A : Type 0} → ℕ → (A → Bool) → List A → ℕ
@@ -25,7 +24,7 @@ on_nil : {A : Type 0} (k : ℕ) (is : A → Bool) → k ≤ greatest_count → o
 unfolding on
 on_nil k is within = omega arith
 
-on_zero : {A : Type 0} (is : A → Bool) (xs : List A) → on 0 is xs ≡ tally is xs
+on_zero : (is : Note → Bool) (xs : List Note) → on 0 is xs ≡ tally is xs
 unfolding on
 on_zero is xs = omega arith
 
@@ -40,6 +39,8 @@ pub record Within (c : Counters) : Type 0 where
   pub exceptions : c.exceptions ≤ greatest_count
   pub own_messages : c.own_messages ≤ greatest_count
   pub no_responses : c.no_responses ≤ greatest_count
+  pub negative_acknowledges : c.negative_acknowledges ≤ greatest_count
+  pub busy : c.busy ≤ greatest_count
   pub events : c.events ≤ greatest_count
 
 pub zeros_within : Within zeros
@@ -49,6 +50,8 @@ zeros_within = record {
   exceptions = omega arith;
   own_messages = omega arith;
   no_responses = omega arith;
+  negative_acknowledges = omega arith;
+  busy = omega arith;
   events = omega arith;
 }
 
@@ -59,7 +62,9 @@ stepped c h end = record {
   checksum_errors = next_if (not (is_message h)) c.checksum_errors;
   exceptions = next_if (is_refused h end) c.exceptions;
   own_messages = next_if (is_own h) c.own_messages;
-  no_responses = next_if (is_silent h end) c.no_responses;
+  no_responses = next_if (is_unanswered h end) c.no_responses;
+  negative_acknowledges = next_if (is_refused_by negative_acknowledge h end) c.negative_acknowledges;
+  busy = next_if (is_refused_by busy_code h end) c.busy;
   events = next_if (is_event h end) c.events;
 }
 
@@ -75,59 +80,67 @@ stepped_within c h end within = record {
   checksum_errors = next_within greatest_count (not (is_message h)) c.checksum_errors within.checksum_errors;
   exceptions = next_within greatest_count (is_refused h end) c.exceptions within.exceptions;
   own_messages = next_within greatest_count (is_own h) c.own_messages within.own_messages;
-  no_responses = next_within greatest_count (is_silent h end) c.no_responses within.no_responses;
+  no_responses = next_within greatest_count (is_unanswered h end) c.no_responses within.no_responses;
+  negative_acknowledges = next_within greatest_count (is_refused_by negative_acknowledge h end) c.negative_acknowledges within.negative_acknowledges;
+  busy = next_within greatest_count (is_refused_by busy_code h end) c.busy within.busy;
   events = next_within greatest_count (is_event h end) c.events within.events;
 }
 
-abbrev made : ℕ → ℕ → ℕ → ℕ → ℕ → ℕ → Counters
-made a b d e f h = record { bus_messages = a; checksum_errors = b; exceptions = d; own_messages = e; no_responses = f; events = h }
+abbrev made : ℕ → ℕ → ℕ → ℕ → ℕ → ℕ → ℕ → ℕ → Counters
+made a b d e f g i j = record { bus_messages = a; checksum_errors = b; exceptions = d; own_messages = e; no_responses = f; negative_acknowledges = g; busy = i; events = j }
 
-made_of : (a a2 b b2 d d2 e e2 f f2 h h2 : ℕ) → a ≡ a2 → b ≡ b2 → d ≡ d2 → e ≡ e2 → f ≡ f2 → h ≡ h2
-    → made a b d e f h ≡ made a2 b2 d2 e2 f2 h2
-made_of a a2 b b2 d d2 e e2 f f2 h h2 p q r s t u = cc
+made_of : (a a2 b b2 d d2 e e2 f f2 g g2 i i2 j j2 : ℕ) → a ≡ a2 → b ≡ b2 → d ≡ d2 → e ≡ e2 → f ≡ f2 → g ≡ g2 → i ≡ i2 → j ≡ j2
+    → made a b d e f g i j ≡ made a2 b2 d2 e2 f2 g2 i2 j2
+made_of a a2 b b2 d d2 e e2 f f2 g g2 i i2 j j2 p q r s t u v w = cc
 
-module _ {Header : Type 0} (slave : Header → ℕ) (units : List ℕ) where
-  -- counters that go on over exchanges
-  pub from : Counters → List (Exchange Header) → Counters
-  from c xs = record {
-    bus_messages = on c.bus_messages (λ x. is_message (heard_of slave units x)) xs;
-    checksum_errors = on c.checksum_errors (λ x. not (is_message (heard_of slave units x))) xs;
-    exceptions = on c.exceptions (λ x. is_refused (heard_of slave units x) (outcome_counted x.outcome)) xs;
-    own_messages = on c.own_messages (λ x. is_own (heard_of slave units x)) xs;
-    no_responses = on c.no_responses (λ x. is_silent (heard_of slave units x) (outcome_counted x.outcome)) xs;
-    events = on c.events (λ x. is_event (heard_of slave units x) (outcome_counted x.outcome)) xs;
-  }
+-- counters that go on over what was heard
+pub from : Counters → List Note → Counters
+from c xs = record {
+  bus_messages = on c.bus_messages (λ (n : Note). is_message n.heard) xs;
+  checksum_errors = on c.checksum_errors (λ (n : Note). not (is_message n.heard)) xs;
+  exceptions = on c.exceptions (λ (n : Note). is_refused n.heard n.end) xs;
+  own_messages = on c.own_messages (λ (n : Note). is_own n.heard) xs;
+  no_responses = on c.no_responses (λ (n : Note). is_unanswered n.heard n.end) xs;
+  negative_acknowledges = on c.negative_acknowledges (λ (n : Note). is_refused_by negative_acknowledge n.heard n.end) xs;
+  busy = on c.busy (λ (n : Note). is_refused_by busy_code n.heard n.end) xs;
+  events = on c.events (λ (n : Note). is_event n.heard n.end) xs;
+}
 
-  pub from_nil : (c : Counters) → Within c → from c [] ≡ c
-  unfolding from
-  from_nil c within =
-      made_of _ c.bus_messages _ c.checksum_errors _ c.exceptions _ c.own_messages _ c.no_responses _ c.events
-      (on_nil c.bus_messages (λ (x : Exchange Header). is_message (heard_of slave units x)) within.bus_messages)
-      (on_nil c.checksum_errors (λ (x : Exchange Header). not (is_message (heard_of slave units x))) within.checksum_errors)
-      (on_nil c.exceptions (λ (x : Exchange Header). is_refused (heard_of slave units x) (outcome_counted x.outcome)) within.exceptions)
-      (on_nil c.own_messages (λ (x : Exchange Header). is_own (heard_of slave units x)) within.own_messages)
-      (on_nil c.no_responses (λ (x : Exchange Header). is_silent (heard_of slave units x) (outcome_counted x.outcome)) within.no_responses)
-      (on_nil c.events (λ (x : Exchange Header). is_event (heard_of slave units x) (outcome_counted x.outcome)) within.events)
+pub from_nil : (c : Counters) → Within c → from c [] ≡ c
+unfolding from
+from_nil c within =
+    made_of _ c.bus_messages _ c.checksum_errors _ c.exceptions _ c.own_messages _ c.no_responses _ c.negative_acknowledges _ c.busy _ c.events
+    (on_nil c.bus_messages (λ (n : Note). is_message n.heard) within.bus_messages)
+    (on_nil c.checksum_errors (λ (n : Note). not (is_message n.heard)) within.checksum_errors)
+    (on_nil c.exceptions (λ (n : Note). is_refused n.heard n.end) within.exceptions)
+    (on_nil c.own_messages (λ (n : Note). is_own n.heard) within.own_messages)
+    (on_nil c.no_responses (λ (n : Note). is_unanswered n.heard n.end) within.no_responses)
+    (on_nil c.negative_acknowledges (λ (n : Note). is_refused_by negative_acknowledge n.heard n.end) within.negative_acknowledges)
+    (on_nil c.busy (λ (n : Note). is_refused_by busy_code n.heard n.end) within.busy)
+    (on_nil c.events (λ (n : Note). is_event n.heard n.end) within.events)
 
-  pub from_cons : (c : Counters) (x : Exchange Header) (xs : List (Exchange Header)) → Within c
-      → from c (x ∷ xs) ≡ from (stepped c (heard_of slave units x) (outcome_counted x.outcome)) xs
-  unfolding from
-  from_cons c x xs within =
-      let a = on_cons c.bus_messages (λ (x : Exchange Header). is_message (heard_of slave units x)) x xs within.bus_messages in
-      let b = on_cons c.checksum_errors (λ (x : Exchange Header). not (is_message (heard_of slave units x))) x xs within.checksum_errors in
-      let d = on_cons c.exceptions (λ (x : Exchange Header). is_refused (heard_of slave units x) (outcome_counted x.outcome)) x xs within.exceptions in
-      let e = on_cons c.own_messages (λ (x : Exchange Header). is_own (heard_of slave units x)) x xs within.own_messages in
-      let f = on_cons c.no_responses (λ (x : Exchange Header). is_silent (heard_of slave units x) (outcome_counted x.outcome)) x xs within.no_responses in
-      let h = on_cons c.events (λ (x : Exchange Header). is_event (heard_of slave units x) (outcome_counted x.outcome)) x xs within.events in
-      cc
+pub from_cons : (c : Counters) (x : Note) (xs : List Note) → Within c → from c (x ∷ xs) ≡ from (stepped c x.heard x.end) xs
+unfolding from
+from_cons c x xs within =
+    made_of _ _ _ _ _ _ _ _ _ _ _ _ _ _ _ _
+    (on_cons c.bus_messages (λ (n : Note). is_message n.heard) x xs within.bus_messages)
+    (on_cons c.checksum_errors (λ (n : Note). not (is_message n.heard)) x xs within.checksum_errors)
+    (on_cons c.exceptions (λ (n : Note). is_refused n.heard n.end) x xs within.exceptions)
+    (on_cons c.own_messages (λ (n : Note). is_own n.heard) x xs within.own_messages)
+    (on_cons c.no_responses (λ (n : Note). is_unanswered n.heard n.end) x xs within.no_responses)
+    (on_cons c.negative_acknowledges (λ (n : Note). is_refused_by negative_acknowledge n.heard n.end) x xs within.negative_acknowledges)
+    (on_cons c.busy (λ (n : Note). is_refused_by busy_code n.heard n.end) x xs within.busy)
+    (on_cons c.events (λ (n : Note). is_event n.heard n.end) x xs within.events)
 
-  pub from_zeros : (xs : List (Exchange Header)) → from zeros xs ≡ counters_of slave units xs
-  unfolding from
-  from_zeros xs =
-      made_of _ _ _ _ _ _ _ _ _ _ _ _
-      (on_zero (λ (x : Exchange Header). is_message (heard_of slave units x)) xs)
-      (on_zero (λ (x : Exchange Header). not (is_message (heard_of slave units x))) xs)
-      (on_zero (λ (x : Exchange Header). is_refused (heard_of slave units x) (outcome_counted x.outcome)) xs)
-      (on_zero (λ (x : Exchange Header). is_own (heard_of slave units x)) xs)
-      (on_zero (λ (x : Exchange Header). is_silent (heard_of slave units x) (outcome_counted x.outcome)) xs)
-      (on_zero (λ (x : Exchange Header). is_event (heard_of slave units x) (outcome_counted x.outcome)) xs)
+pub from_zeros : (xs : List Note) → from zeros xs ≡ counters_of xs
+unfolding from
+from_zeros xs =
+    made_of _ _ _ _ _ _ _ _ _ _ _ _ _ _ _ _
+    (on_zero (λ (n : Note). is_message n.heard) xs)
+    (on_zero (λ (n : Note). not (is_message n.heard)) xs)
+    (on_zero (λ (n : Note). is_refused n.heard n.end) xs)
+    (on_zero (λ (n : Note). is_own n.heard) xs)
+    (on_zero (λ (n : Note). is_unanswered n.heard n.end) xs)
+    (on_zero (λ (n : Note). is_refused_by negative_acknowledge n.heard n.end) xs)
+    (on_zero (λ (n : Note). is_refused_by busy_code n.heard n.end) xs)
+    (on_zero (λ (n : Note). is_event n.heard n.end) xs)

@@ -2,5 +2,8 @@ pub mod Counters
 pub mod Heard
 pub mod Identity
 pub mod IdentityAnswers
+pub mod Journal
 pub mod Port
+pub mod PortUnits
 pub mod Queries
+pub mod Replies

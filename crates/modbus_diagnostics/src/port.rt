@@ -1,14 +1,17 @@
-//! A port: what hears a line, counts, and answers for its counters.
+//! A port: what hears a line, keeps a journal of it, and answers for that.
 ghost use Rattle.std.specs.Prelude.{◌≡◌, IfOk};
 ghost use Rattle.modbus_frame.specs.Meaning.{meaning};
 ghost use Rattle.modbus_service.specs.Answering.{Keeps};
-ghost use Rattle.modbus_diagnostics.specs.Port.{addresses_of, MakesPort, told_end, counted_when, hearing, port_answering};
+ghost use Rattle.modbus_service.specs.Units.{units_answering};
+ghost use Rattle.modbus_diagnostics.specs.Port.{addresses_of, MakesPort, hearing, noted_when, TellsEnd, port_answering};
 
 use crate::counters::{Counters, Ended};
 use crate::heard::{Heard, hear};
+use crate::journal::Journal;
+use crate::port_units::{PortUnits, end_of};
 use crate::query::reply;
 use modbus_frame::{ExceptionCode, Response, SlaveId, SlaveRequest};
-use modbus_service::{Answerer, OnlyUnit, ServiceError, Units, UnitsError};
+use modbus_service::{Answerer, OnlyUnit, ServiceError, UnitsError};
 use std::alloc::{AllocError, Global};
 use std::marker::Model;
 
@@ -21,26 +24,31 @@ pub enum PortError {
     NoRoom,
 }
 
-/// A port of a serial line: it counts what its line brings, and answers what asks one of its units for that (section 6.8).
+/// A port of a serial line, and the units behind it: it keeps a journal of what its line brings, and answers what asks one of its units
+/// for that (sections 6.7 to 6.10).
 ///
-/// Its service is asked each message but those, also the ones for other devices, and is silent to these as `Units` is.
+/// Its units are asked each message but those, as `Units` is. A message for all has no answer, and is counted by what each of them did
+/// with it: as an event where all did it well, and as an exception where one of them would have answered so. So its services answer a
+/// message for all as any other; where one tells nothing, it is no event.
+///
+/// Told to listen only, it answers nothing and does nothing until it is restarted, but counts and logs what it hears.
 #[derive(Drop)]
 pub struct Port<S> {
     // the addresses of its units
     units: Vec<SlaveId>,
-    // what answers all else
-    service: S,
-    // what it has counted
-    counters: Counters,
+    // its units
+    line: PortUnits<S>,
+    // what it keeps of its line
+    journal: Journal,
 }
 
-/// A contract sees the addresses of its units, its service, and what it has counted.
+/// A contract sees the addresses of its units, these, and what it keeps of its line.
 impl<S> Model for Port<S> {
     ghost use Rattle.modbus_diagnostics.specs.Port.{PortState};
 
     ghost Value = { PortState S };
 
-    ghost view = { λ it. record { units = it.units.items; service = it.service; counters = it.counters } };
+    ghost view = { λ it. record { units = it.units.items; line = it.line; journal = it.journal } };
 }
 
 /// The addresses of these units.
@@ -54,7 +62,7 @@ fn addresses_of<S>(alloc: Global, units: &[OnlyUnit<S>]) -> Result<Vec<SlaveId>,
     Ok(addresses)
 }
 
-impl<S: Drop> Port<Units<S>> {
+impl<S: Drop> Port<S> {
     /// A port that has heard nothing, of these units: what is for one of them or for all is for the port, and nothing else is. `absent`
     /// is the exception for an address that no unit has, or silence, as on a line that is shared.
     ///
@@ -64,17 +72,17 @@ impl<S: Drop> Port<Units<S>> {
         alloc: Global,
         units: Vec<OnlyUnit<S>>,
         absent: Option<ExceptionCode>,
-    ) -> Result<Port<Units<S>>, PortError>
+    ) -> Result<Port<S>, PortError>
         ensures { MakesPort units.items absent result }
     {
         let Ok(addresses) = addresses_of(alloc, &units) else {
             return Err(PortError::NoRoom);
         };
-        match Units::new(units, absent) {
-            Ok(service) => Ok(Port {
+        match PortUnits::new(units, absent) {
+            Ok(line) => Ok(Port {
                 units: addresses,
-                service,
-                counters: Counters::zero(),
+                line,
+                journal: Journal::new(),
             }),
             Err(error) => Err(PortError::BadUnits(error)),
         }
@@ -91,53 +99,68 @@ impl<S> Port<S> {
 
     /// What it has counted.
     pub fn counters(&self) -> Counters
-        ensures { result ≡ self.now.counters }
+        ensures { result ≡ self.now.journal.counters }
     {
-        self.counters
+        self.journal.counters()
+    }
+
+    /// Whether it only listens (section 6.8.1, sub-function 04).
+    pub fn listens_only(&self) -> bool
+        ensures { result ≡ self.now.journal.listens_only }
+    {
+        self.journal.listens_only()
+    }
+
+    /// The bytes of its event log, at most 64, the newest first (section 6.10).
+    pub fn log(&self) -> &[u8]
+        ensures { result.now ≡ self.now.journal.log }
+    {
+        self.journal.log()
     }
 }
 
-/// How a message ended that was told so; `None` where memory was refused.
-fn end_of(told: &Result<Option<Response>, ServiceError>) -> Option<Ended>
-    ensures { result ≡ told_end told.now }
-{
-    match told {
-        Ok(Some(_)) => Some(Ended::Well),
-        Ok(None) => Some(Ended::Silent),
-        Err(ServiceError::Exception(_)) => Some(Ended::Refused),
-        Err(ServiceError::NoMemory) => None,
-    }
-}
-
-/// The counters after what was heard, and was told so.
-fn after_told(
-    counters: Counters,
-    heard: Heard,
-    told: &Result<Option<Response>, ServiceError>,
-) -> Counters
-    ensures { result ≡ counted_when counters heard (told_end told.now) }
-{
-    match end_of(told) {
-        Some(end) => counters.after(heard, end),
-        None => counters,
-    }
-}
-
-/// What is told for what was heard.
+/// What is told for what was heard, and how it ended; `None` where memory was refused.
 fn tell<S: Answerer>(
-    service: &mut S,
+    line: &mut PortUnits<S>,
     alloc: Global,
-    counters: Counters,
+    journal: &Journal,
     heard: Heard,
     request: SlaveRequest<'_>,
-) -> Result<Option<Response>, ServiceError>
-    ensures { Keeps (hearing S.answering counters heard) service.old request.entry.slave
-        (meaning request.entry.request) result service.new }
+) -> (Result<Option<Response>, ServiceError>, Option<Ended>)
+    ensures keeps { Keeps (hearing (units_answering S.answering) journal.now heard) line.old
+        request.entry.slave (meaning request.entry.request) result.0 line.new }
+    ensures ends { TellsEnd S.answering heard (meaning request.entry.request) line.old line.new
+        result.0 result.1 }
 {
     match heard {
-        Heard::Noise => Ok(None),
-        Heard::Asks(query) => reply(alloc, counters.with_this(), &request.request, query),
-        Heard::Own | Heard::Another => service.ask(alloc, request),
+        Heard::Broadcast => match line.broadcast(alloc, &request.request) {
+            Ok(end) => (Ok(None), Some(end)),
+            Err(_) => (Err(ServiceError::NoMemory), None),
+        },
+        Heard::Asks(query) => {
+            let told = reply(alloc, &journal.with_this(heard), &request.request, query);
+            let end = end_of(&told);
+            (told, end)
+        }
+        Heard::Own | Heard::Another => {
+            let told = line.ask(alloc, request);
+            let end = end_of(&told);
+            (told, end)
+        }
+        Heard::Noise | Heard::Monitored | Heard::MonitoredBroadcast | Heard::MonitoredAnother => (
+            Ok(None),
+            Some(Ended::Silent),
+        ),
+    }
+}
+
+/// Notes what was heard, and how it ended; nothing where memory was refused.
+fn note_when(journal: &mut Journal, heard: Heard, end: Option<Ended>)
+    ensures { journal.new ≡ noted_when journal.old heard end }
+{
+    match end {
+        Some(end) => journal.note(heard, end),
+        None => {}
     }
 }
 
@@ -149,10 +172,9 @@ impl<S: Answerer> Answerer for Port<S> {
         alloc: Global,
         request: SlaveRequest<'_>,
     ) -> Result<Option<Response>, ServiceError> {
-        let heard = hear(&self.units, &request);
-        let told = tell(&mut self.service, alloc, self.counters, heard, request);
-        let counters = after_told(self.counters, heard, &told);
-        self.counters = counters;
+        let heard = hear(&self.units, self.journal.listens_only(), &request);
+        let (told, end) = tell(&mut self.line, alloc, &self.journal, heard, request);
+        note_when(&mut self.journal, heard, end);
         told
     }
 }

@@ -1,14 +1,21 @@
-//! What a message asks a port itself (sections 6.7 to 6.9), and the answer.
-ghost use Rattle.std.specs.Prelude.{◌≡◌};
+//! What a message asks a port itself (sections 6.7 to 6.10), and the answer.
+ghost use Rattle.std.specs.Prelude.{◌≡◌, IfOk};
+ghost use Rattle.modbus_frame.specs.FunctionCodes.{diagnostics};
+ghost use Rattle.modbus_frame.specs.declared.response.Response.TheVariants as response;
+ghost use Rattle.modbus_service.specs.Outcome as outcome;
 ghost use Rattle.modbus_frame.specs.Meaning.{meaning};
-ghost use Rattle.modbus_diagnostics.specs.Queries.{counter_of, is_known, is_zero_word, diagnostics_query, without_data, query_of, query_pdu, query_reply, TellsOutcome};
+ghost use Rattle.modbus_diagnostics.specs.Queries.{is_known, is_word, restart_of, of_word, of_sub, diagnostics_query, without_data, query_of, query_pdu};
+ghost use Rattle.modbus_diagnostics.specs.Replies.{counter_of, log_bytes, query_reply, TellsOutcome};
 
 use crate::counters::Counters;
+use crate::journal::Journal;
 use bytes::Bytes;
-use modbus_frame::function_code::{DIAGNOSTICS, GET_COMM_EVENT_COUNTER, READ_EXCEPTION_STATUS};
+use modbus_frame::function_code::{
+    DIAGNOSTICS, GET_COMM_EVENT_COUNTER, GET_COMM_EVENT_LOG, READ_EXCEPTION_STATUS,
+};
 use modbus_frame::{ExceptionCode, Request, Response};
 use modbus_service::ServiceError;
-use std::alloc::Global;
+use std::alloc::{AllocError, Global};
 
 /// What a message asks a port itself.
 #[derive(Clone, Copy, Debug, PartialEq, Eq)]
@@ -17,8 +24,14 @@ pub enum Query {
     Status,
     /// The number of events (section 6.9).
     Events,
+    /// The event log, with the number of events and of bus messages (section 6.10).
+    Log,
     /// The same bytes again (section 6.8.1, sub-functions 00 and 14: no character is ever lost, so the counter to be cleared is 0).
     Echo,
+    /// That the port only listen until it is restarted (sub-function 04). There is no answer to it.
+    ListenOnly,
+    /// That the port be restarted, which clears the counters (sub-function 01); and whether the event log is cleared too.
+    Restart(bool),
     /// That the counters be cleared (sub-function 0A).
     Clear,
     /// The counter of this sub-function (0B to 12), or the diagnostic register (02).
@@ -37,6 +50,8 @@ fn counter(counters: Counters, sub: u8) -> u16
         0x0D => counters.exceptions,
         0x0E => counters.own_messages,
         0x0F => counters.no_responses,
+        0x10 => counters.negative_acknowledges,
+        0x11 => counters.busy,
         _ => 0,
     }
 }
@@ -45,16 +60,57 @@ fn counter(counters: Counters, sub: u8) -> u16
 fn is_known(sub: u8) -> bool
     ensures { result ≡ is_known sub }
 {
-    sub == 0 || sub == 2 || (sub >= 0x0A && sub <= 0x12) || sub == 0x14
+    sub < 3 || sub == 4 || (sub >= 0x0A && sub <= 0x12) || sub == 0x14
 }
 
-/// Whether a data field is one word of 0.
-fn is_zero_word(field: &[u8]) -> bool
-    ensures { result ≡ is_zero_word field.now }
+/// Whether a data field is one word, whose high byte is this and whose low byte is 0.
+fn is_word(byte: u8, field: &[u8]) -> bool
+    ensures { result ≡ is_word byte field.now }
 {
     match field {
-        [high, low] => *high == 0 && *low == 0,
+        [high, low] => *high == byte && *low == 0,
         _ => false,
+    }
+}
+
+/// The high byte of the data field of a restart that clears the log too.
+const ERASES_LOG: u8 = 0xFF;
+
+/// What a restart with this data field asks.
+fn restart_of(field: &[u8]) -> Query
+    ensures { result ≡ restart_of field.now }
+{
+    if is_word(ERASES_LOG, field) {
+        Query::Restart(true)
+    } else if is_word(0, field) {
+        Query::Restart(false)
+    } else {
+        Query::Wrong(ExceptionCode::IllegalDataValue)
+    }
+}
+
+/// What a sub-function asks whose data field is one word of 0.
+fn of_word(sub: u8) -> Query
+    ensures { result ≡ of_word sub }
+{
+    match sub {
+        0x04 => Query::ListenOnly,
+        0x0A => Query::Clear,
+        0x14 => Query::Echo,
+        _ => Query::Counter(sub),
+    }
+}
+
+/// What a sub-function that a port knows asks with this data field.
+fn of_sub(sub: u8, field: &[u8]) -> Query
+    ensures { result ≡ of_sub sub field.now }
+{
+    match sub {
+        0x00 if field.len() % 2 == 0 => Query::Echo,
+        0x00 => Query::Wrong(ExceptionCode::IllegalDataValue),
+        0x01 => restart_of(field),
+        _ if is_word(0, field) => of_word(sub),
+        _ => Query::Wrong(ExceptionCode::IllegalDataValue),
     }
 }
 
@@ -66,20 +122,8 @@ fn diagnostics_query(bytes: &[u8]) -> Query
         [high, sub, field @ ..] => {
             if *high != 0 || !is_known(*sub) {
                 Query::Wrong(ExceptionCode::IllegalFunction)
-            } else if *sub == 0 {
-                if field.len() % 2 == 0 {
-                    Query::Echo
-                } else {
-                    Query::Wrong(ExceptionCode::IllegalDataValue)
-                }
-            } else if !is_zero_word(field) {
-                Query::Wrong(ExceptionCode::IllegalDataValue)
-            } else if *sub == 0x0A {
-                Query::Clear
-            } else if *sub == 0x14 {
-                Query::Echo
             } else {
-                Query::Counter(*sub)
+                of_sub(*sub, field)
             }
         }
         _ => Query::Wrong(ExceptionCode::IllegalDataValue),
@@ -109,6 +153,9 @@ pub(crate) fn query_of(request: &Request<'_>) -> Option<Query>
         Request::Custom(GET_COMM_EVENT_COUNTER, bytes) => {
             Some(without_data(bytes.as_slice(), Query::Events))
         }
+        Request::Custom(GET_COMM_EVENT_LOG, bytes) => {
+            Some(without_data(bytes.as_slice(), Query::Log))
+        }
         _ => None,
     }
 }
@@ -123,17 +170,48 @@ fn bytes_of<'a>(request: &'a Request<'_>) -> &'a [u8]
     }
 }
 
-/// What a port with these counters tells for a query.
+/// The answer to Get Comm Event Log: how many bytes follow, no busy state, the events, the bus messages, and the log.
+fn log_of(alloc: Global, journal: &Journal) -> Result<Bytes, AllocError>
+    ensures { IfOk result (λ bytes. bytes ≡ log_bytes journal.now) }
+{
+    let log = journal.log();
+    let counters = journal.counters();
+    let [events_high, events_low] = counters.events.to_be_bytes();
+    let [messages_high, messages_low] = counters.bus_messages.to_be_bytes();
+    let size = 6 + log.len() as u8;
+    let head = [
+        size,
+        0,
+        0,
+        events_high,
+        events_low,
+        messages_high,
+        messages_low,
+    ];
+    let mut bytes = Vec::from_slice(alloc, &head)?;
+    bytes.extend_from_slice(log)?;
+    Bytes::copy_from_slice(alloc, &bytes)
+}
+
+/// The answer to Diagnostics of these bytes.
+fn diagnostics(alloc: Global, bytes: &[u8]) -> Result<Option<Response>, ServiceError>
+    ensures { TellsOutcome (outcome.reply (response.Custom diagnostics bytes.now)) result }
+{
+    let data = Bytes::copy_from_slice(alloc, bytes)?;
+    Ok(Some(Response::Custom(DIAGNOSTICS, data)))
+}
+
+/// What a port with this journal tells for a query.
 ///
 /// # Errors
 /// The exception of the query, or refused memory.
 pub(crate) fn reply(
     alloc: Global,
-    counters: Counters,
+    journal: &Journal,
     request: &Request<'_>,
     query: Query,
 ) -> Result<Option<Response>, ServiceError>
-    ensures { TellsOutcome (query_reply counters (meaning request.now) query) result }
+    ensures { TellsOutcome (query_reply journal.now (meaning request.now) query) result }
 {
     match query {
         Query::Status => {
@@ -141,18 +219,20 @@ pub(crate) fn reply(
             Ok(Some(Response::Custom(READ_EXCEPTION_STATUS, status)))
         }
         Query::Events => {
-            let [high, low] = counters.events.to_be_bytes();
+            let [high, low] = journal.counters().events.to_be_bytes();
             let events = Bytes::copy_from_slice(alloc, &[0, 0, high, low])?;
             Ok(Some(Response::Custom(GET_COMM_EVENT_COUNTER, events)))
         }
-        Query::Echo | Query::Clear => {
-            let echo = Bytes::copy_from_slice(alloc, bytes_of(request))?;
-            Ok(Some(Response::Custom(DIAGNOSTICS, echo)))
+        Query::Log => {
+            let log = log_of(alloc, journal)?;
+            Ok(Some(Response::Custom(GET_COMM_EVENT_LOG, log)))
         }
+        Query::ListenOnly => Ok(None),
+        Query::Restart(_) if journal.listens_only() => Ok(None),
+        Query::Echo | Query::Clear | Query::Restart(_) => diagnostics(alloc, bytes_of(request)),
         Query::Counter(sub) => {
-            let [high, low] = counter(counters, sub).to_be_bytes();
-            let bytes = Bytes::copy_from_slice(alloc, &[0, sub, high, low])?;
-            Ok(Some(Response::Custom(DIAGNOSTICS, bytes)))
+            let [high, low] = counter(journal.counters(), sub).to_be_bytes();
+            diagnostics(alloc, &[0, sub, high, low])
         }
         Query::Wrong(code) => Err(ServiceError::Exception(code)),
     }

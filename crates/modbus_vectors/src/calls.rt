@@ -73,7 +73,7 @@ fn answer_servers<R: Wait + Sync>(rt: &R, text: &mut Text, call: &str, words: &[
 fn answer_program(text: &mut Text, call: &str, words: &[Word]) -> bool {
     match call {
         "store" | "exchange" | "entries" => store::answer(text, call, words),
-        "only_unit" | "units" => units::answer(text, call, words),
+        "only_unit" | "units" | "port" => units::answer(text, call, words),
         "point" | "items" | "poll" => polls::answer(text, call, words),
         "run" | "status" | "listening" => program::answer(text, call, words),
         _ => false,

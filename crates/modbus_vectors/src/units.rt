@@ -4,16 +4,18 @@ use crate::asking::ask_all;
 use crate::text::Text;
 use crate::word::Word;
 use modbus_app::{Form, Mode, open};
+use modbus_diagnostics::Port;
 use modbus_frame::ExceptionCode;
 use modbus_service::{OnlyUnit, Units};
 use modbus_store::RegisterStore;
 use std::alloc::Global;
 
-/// A store at an address, with eight entries a table that hold 0. None where that is no address.
-fn unit_of(alloc: Global, address: &str) -> Option<OnlyUnit<RegisterStore>> {
+/// A store at an address, with eight entries a table that hold 0, as a device of this mode has it: that of RTU tells nothing of what is
+/// for all, and that of TCP answers it. None where that is no address.
+fn unit_of(alloc: Global, mode: Mode, address: &str) -> Option<OnlyUnit<RegisterStore>> {
     let unit = address.parse().ok()?;
     let form = Form {
-        mode: Mode::Rtu,
+        mode,
         size: 8,
         seeded: false,
     };
@@ -25,17 +27,17 @@ fn unit_of(alloc: Global, address: &str) -> Option<OnlyUnit<RegisterStore>> {
 
 /// The answers of a store at an address.
 fn only(text: &mut Text, address: &str, words: &[Word]) -> bool {
-    match unit_of(text.alloc, address) {
+    match unit_of(text.alloc, Mode::Rtu, address) {
         Some(mut unit) => ask_all(text, &mut unit, words),
         None => false,
     }
 }
 
 /// Stores at these addresses, which have commas between them.
-fn units_of(alloc: Global, addresses: &str) -> Option<Vec<OnlyUnit<RegisterStore>>> {
+fn units_of(alloc: Global, mode: Mode, addresses: &str) -> Option<Vec<OnlyUnit<RegisterStore>>> {
     let mut units = Vec::new(alloc);
     for address in addresses.split(',') {
-        units.push(unit_of(alloc, address)?).ok()?;
+        units.push(unit_of(alloc, mode, address)?).ok()?;
     }
     Some(units)
 }
@@ -47,7 +49,7 @@ fn several(
     addresses: &str,
     words: &[Word],
 ) -> bool {
-    let Some(units) = units_of(text.alloc, addresses) else {
+    let Some(units) = units_of(text.alloc, Mode::Rtu, addresses) else {
         return false;
     };
     match Units::new(units, absent) {
@@ -57,14 +59,35 @@ fn several(
     true
 }
 
+/// The answers of several units behind a port that counts and logs.
+fn behind_port(
+    text: &mut Text,
+    absent: Option<ExceptionCode>,
+    addresses: &str,
+    words: &[Word],
+) -> bool {
+    let Some(units) = units_of(text.alloc, Mode::Tcp, addresses) else {
+        return false;
+    };
+    match Port::new(text.alloc, units, absent) {
+        Ok(mut port) => return ask_all(text, &mut port, words),
+        Err(error) => write!(text, "Err({error:?})"),
+    }
+    true
+}
+
 /// `only_unit 5 5 0300010001`: a store at an address, and the requests on its line; `units 11 1,2 1 0300010001`: stores at several, with the
-/// exception for any other address or `-` for silence.
+/// exception for any other address or `-` for silence; `port - 1,2 1 0B`: the same behind a port.
 pub fn answer(text: &mut Text, call: &str, words: &[Word]) -> bool {
     match (call, words) {
         ("only_unit", [address, words @ ..]) => only(text, address.text(), words),
         ("units", [absent, addresses, words @ ..]) => {
             let absent = absent.byte().map(ExceptionCode::new);
             several(text, absent, addresses.text(), words)
+        }
+        ("port", [absent, addresses, words @ ..]) => {
+            let absent = absent.byte().map(ExceptionCode::new);
+            behind_port(text, absent, addresses.text(), words)
         }
         _ => false,
     }
