@@ -1,6 +1,7 @@
 //! Laws on the runs of gateways and on shared serial lines, about definitions alone. Each is proved by its contract.
 ghost use Rattle.modbus_link.specs.Line.{meaning_of};
-ghost use Rattle.modbus_client.specs.Rtu.{rtu_protocol, rtu_heading};
+ghost use Rattle.modbus_client.specs.LineReading.{line_protocol, silent_protocol};
+ghost use Rattle.modbus_client.specs.Rtu.{rtu_heading};
 ghost use Rattle.modbus_reconnect.specs.SettleState.{line_by};
 ghost use Rattle.modbus_gateway.specs.Records.{RunsAreRecords, WantsAreRecords};
 ghost use Rattle.modbus_gateway.specs.Serial.{NothingIsOwed};
@@ -20,5 +21,5 @@ pub fn runs_are_records<L: Link>()
 /// line is not in doubt, no reply is owed on it. So each exchange that sends a request begins on a line on which nothing is owed.
 pub fn nothing_is_owed<L: IdleLink>()
     ensures { NothingIsOwed
-        (line_by rtu_protocol rtu_heading (meaning_of L.input L.output L.line) L.not_ready L.looks) }
+        (line_by line_protocol silent_protocol rtu_heading (meaning_of L.input L.output L.line) L.not_ready L.looks) }
 {}

@@ -1,7 +1,8 @@
 //! A serial line that tells silence, as what reaches devices by their slave addresses.
 ghost use Rattle.std.specs.Prelude.{◌≡◌};
 ghost use Rattle.modbus_link.specs.Line.{meaning_of};
-ghost use Rattle.modbus_client.specs.Rtu.{rtu_protocol, rtu_heading};
+ghost use Rattle.modbus_client.specs.LineReading.{line_protocol, silent_protocol};
+ghost use Rattle.modbus_client.specs.Rtu.{rtu_heading};
 ghost use Rattle.modbus_reconnect.specs.SettleState.{line_by};
 ghost use Rattle.modbus_gateway.specs.Serial.{forwards_settled};
 
@@ -41,7 +42,7 @@ impl<L> SerialLine<L> {
 /// settle, or has ended, is told by the exception 0A, and then nothing is sent.
 impl<L: IdleLink + Send + Drop> Forwarder for SerialLine<L> {
     ghost forwarding = { forwards_settled
-        (line_by rtu_protocol rtu_heading (meaning_of L.input L.output L.line) L.not_ready L.looks) };
+        (line_by line_protocol silent_protocol rtu_heading (meaning_of L.input L.output L.line) L.not_ready L.looks) };
 
     fn forward(&mut self, request: SlaveRequest<'_>) -> Result<Option<Response>, ServiceError> {
         let unit = Slave(request.slave);

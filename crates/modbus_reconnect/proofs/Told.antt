@@ -1,5 +1,5 @@
 -- A request that is only sent is a call that may make no read.
-use Rattle.std.proofs.Common.{◌≡◌, inl, inr, ℕ, ◌<◌, ◌≤◌, Bool, true, false, not, IsTrue, List, [], ◌∷◌, length, Result, Ok, Err, refl, sym, ap, subst, ◌∙◌, arith, length-append}
+use Rattle.std.proofs.Common.{◌≡◌, ◌⊎◌, inl, inr, ℕ, ◌-◌, ◌<◌, ◌≤◌, Bool, true, false, not, IsTrue, List, [], ◌∷◌, length, Result, Ok, Err, refl, sym, ap, subst, ◌∙◌, arith, length-append}
 use Rattle.std.proofs.lemmas.List.{length-map}
 use Rattle.std.specs.Prelude.{IfErr}
 use Rattle.modbus_link.specs.declared.outside.Cut.{Cut}
@@ -16,12 +16,14 @@ use Rattle.modbus_pdu.specs.Limits.{max_pdu}
 use Rattle.modbus_pdu.specs.RequestPdu.{request_pdu}
 use Rattle.modbus_client.specs.Protocol as client
 use Rattle.modbus_client.specs.Matches.{Answer}
+use Rattle.modbus_client.specs.Call.{CallState}
 use Rattle.modbus_client.specs.Calls.{WaitedBefore, Exchanged}
 use Rattle.modbus_client.specs.Limits.{read_room}
 use Rattle.modbus_reconnect.specs.Owes.{leaves_nothing}
 use Rattle.modbus_reconnect.specs.Replies.{fitted}
 use Rattle.modbus_reconnect.specs.SettleState.{SettlingState, LineMeaning}
-use Rattle.modbus_reconnect.specs.Waits.{question_of, GivesUp, EndsWait}
+use Rattle.modbus_reconnect.specs.Waits.{question_of, IsNoise, StillWaits, GivesUpBy, GivesUp, AnswersSilent, EndsFrom, EndsWait}
+use Rattle.modbus_reconnect.specs.Waits.IsNoise.{nothing, burst}
 use Rattle.modbus_reconnect.specs.OnLine.{reply_silences, ClearsIf, AsksOn, IsStanding}
 use Rattle.modbus_reconnect.specs.Tells.{told_of_answer, WritesQuestion, IsOfTelling, TellsLine, is_doubtful_after, TellsOn, unconnected, unsettled, sends, SendsStanding}
 use Rattle.modbus_reconnect.proofs.Settled.{leaves, leaves_doubt}
@@ -140,65 +142,116 @@ tells_exchanged m silences header asked before after held answer e = record {
   no_more = λ is. absurd (no_read_fault m.protocol (m.link.input before) (m.link.input after) (m.link.output before) (m.link.output after) header asked held answer e (same_error answer (Transport ReadFault) is));
 }
 
+-- with no read there was no noise
+no_noise : {H : Type 0} (S : client.Protocol H) (seen : HeaderSeen) (from : Input) (used : ℕ) (to : Input) → IsNoise S seen from used to → used ≤ 0 → to ≡ from
+no_noise S seen from _ _ nothing none = refl
+no_noise S seen from _ _ (burst used before after sink fed made earlier passes some no_reply) none = absurd (omega (arith, some, none))
+
 module _ {H I L : Type 0} (m : LineMeaning H I L) (silences : ℕ) (header : H) (asked : Asked) (before after : L) (held : List ℕ) where
-  given_up_reads : (answer : Answer) (g : GivesUp m (question_of header asked 0 silences) before after held answer) → (g.made ≡ []) × (g.fed ≡ [])
-  given_up_reads answer g =
-      let counted = g.goes.stands.counted in
-      let within = g.goes.within in
-      let limit = g.asks.limit in
-      let size = length-map g.made (λ (cut : Cut). cut.total) in
-      none_made g.made g.fed (omega (arith, counted, within, limit, size)) g.goes.rises
+  no_reads_left : (used : ℕ) → 0 - used ≡ 0
+  no_reads_left used = omega arith
+
+  -- the link of a call that still waits, which made no read
+  waits_unread : (start : Input) (used : ℕ) (call : CallState)
+      (w : StillWaits m.protocol (outside start (m.link.output before)) (outside (m.link.input after) (m.link.output after)) header asked (0 - used) call) → (w.made ≡ []) × (w.fed ≡ [])
+  waits_unread start used call w =
+      let counted = w.goes.stands.counted in
+      let within = w.goes.within in
+      let limit = w.asks.limit in
+      let size = length-map w.made (λ (cut : Cut). cut.total) in
+      none_made w.made w.fed (omega (arith, counted, within, limit, size)) w.goes.rises
 
   -- one that was given up
-  tells_given_up : (answer : Answer) → GivesUp m (question_of header asked 0 silences) before after held answer → TellsLine m silences header asked before after (told_of_answer answer)
-  tells_given_up (Err (Transport ReadFault)) g =
-      let none = given_up_reads (Err (Transport ReadFault)) g in
-      let long : max_pdu < length (request_pdu asked) → ⊥ = λ more. (let fits = g.fits in omega (arith, more, fits)) in
+  tells_given_up : (start : Input) (used : ℕ) → start ≡ m.link.input before → used ≤ 0 → (answer : Answer) → GivesUp m (question_of header asked 0 silences) start used before after held answer → TellsLine m silences header asked before after (told_of_answer answer)
+  tells_given_up start used same none (Err (Transport ReadFault)) g =
+      let w = g.waits in
+      let unread = waits_unread start used g.call w in
+      let long : max_pdu < length (request_pdu asked) → ⊥ = λ more. (let fits = w.fits in omega (arith, more, fits)) in
+      let passes : Passes (outside start (m.link.output before)) (outside (m.link.input after) (m.link.output after)) [] [] w.sent =
+      subst (λ (cuts : List Cut). Passes (outside start (m.link.output before)) (outside (m.link.input after) (m.link.output after)) [] cuts w.sent) unread.0
+      (subst (λ (bytes : List ℕ). Passes (outside start (m.link.output before)) (outside (m.link.input after) (m.link.output after)) bytes w.made w.sent) unread.1 w.passes) in
       record {
-        sent = g.sent;
-        passes = subst (λ (cuts : List Cut). Passes (outside (m.link.input before) (m.link.output before)) (outside (m.link.input after) (m.link.output after)) [] cuts g.sent) none.0
-            (subst (λ (bytes : List ℕ). Passes (outside (m.link.input before) (m.link.output before)) (outside (m.link.input after) (m.link.output after)) bytes g.made g.sent) none.1 g.passes);
+        sent = w.sent;
+        passes = subst (λ (input : Input). Passes (outside input (m.link.output before)) (outside (m.link.input after) (m.link.output after)) [] [] w.sent) same passes;
         only = tt;
-        writes = (g.call.unwritten, sym g.asks.request ∙ g.goes.stands.wrote);
+        writes = (g.call.unwritten, sym w.asks.request ∙ w.goes.stands.wrote);
         too_long = λ size. (λ is. absurd (cc), λ more. absurd (long more.0));
         write_fault = λ is. absurd (cc);
         no_more = λ is. g.because.1;
       }
-  tells_given_up (Err (Transport BytesRemaining)) g =
-      absurd (g.because.0 (g.holds ∙ g.goes.empty (given_up_reads (Err (Transport BytesRemaining)) g).1))
-  tells_given_up (Ok result) g = absurd g.because
-  tells_given_up (Err (Protocol fault)) g = absurd g.because
-  tells_given_up (Err NoMemory) g = absurd g.because
-  tells_given_up (Err (Transport NotConnected)) g = absurd g.because
-  tells_given_up (Err (Transport WriteFault)) g = absurd g.because
-  tells_given_up (Err (Transport BrokenPipe)) g = absurd g.because
-  tells_given_up (Err (Transport TooManyRetries)) g = absurd g.because
-  tells_given_up (Err (Transport (RequestTooLong size))) g = absurd g.because
-  tells_given_up (Err (Transport (InvalidResponse reason))) g = absurd g.because
-  tells_given_up (Err (Transport InvalidLength)) g = absurd g.because
-  tells_given_up (Err (Transport (InvalidProtocol protocol))) g = absurd g.because
-  tells_given_up (Err (Transport TurnLimit)) g = absurd g.because
+  tells_given_up start used same none (Err (Transport BytesRemaining)) g = let some = g.because.0 in absurd (omega (arith, some, none))
+  tells_given_up start used same none (Ok result) g = absurd g.because
+  tells_given_up start used same none (Err (Protocol fault)) g = absurd g.because
+  tells_given_up start used same none (Err NoMemory) g = absurd g.because
+  tells_given_up start used same none (Err (Transport NotConnected)) g = absurd g.because
+  tells_given_up start used same none (Err (Transport WriteFault)) g = absurd g.because
+  tells_given_up start used same none (Err (Transport BrokenPipe)) g = absurd g.because
+  tells_given_up start used same none (Err (Transport TooManyRetries)) g = absurd g.because
+  tells_given_up start used same none (Err (Transport (RequestTooLong size))) g = absurd g.because
+  tells_given_up start used same none (Err (Transport (InvalidResponse reason))) g = absurd g.because
+  tells_given_up start used same none (Err (Transport InvalidLength)) g = absurd g.because
+  tells_given_up start used same none (Err (Transport (InvalidProtocol protocol))) g = absurd g.because
+  tells_given_up start used same none (Err (Transport TurnLimit)) g = absurd g.because
+
+  -- no silence ends a reply, as no read was made
+  no_silence : {X : Type 0} (start : Input) (used : ℕ) (answer : Answer) → AnswersSilent m (question_of header asked 0 silences) start used before after held answer → X
+  no_silence start used answer a = absurd (a.some (a.waits.goes.empty (waits_unread start used a.call a.waits).1))
+
+  abbrev IsUnread : Answer → Type 0
+  IsUnread answer = Exchanged m.protocol (outside (m.link.input before) (m.link.output before)) (outside (m.link.input after) (m.link.output after)) header asked 0 held answer
+
+  -- an answer that came over the link as it was
+  unread : (start : Input) (used : ℕ) → start ≡ m.link.input before → (answer : Answer)
+      → Exchanged m.protocol (outside start (m.link.output before)) (outside (m.link.input after) (m.link.output after)) header asked (0 - used) held answer → IsUnread answer
+  unread start used same answer e =
+      subst (λ (input : Input). Exchanged m.protocol (outside input (m.link.output before)) (outside (m.link.input after) (m.link.output after)) header asked 0 held answer) same
+      (subst (λ (turns : ℕ). Exchanged m.protocol (outside start (m.link.output before)) (outside (m.link.input after) (m.link.output after)) header asked turns held answer) (no_reads_left used) e)
+
+  -- it was answered so, or given up
+  ways : (answer : Answer) → EndsWait m (question_of header asked 0 silences) before after held answer
+      → IsUnread answer ⊎ ((start : Input) × (used : ℕ) × (start ≡ m.link.input before) × (used ≤ 0) × GivesUp m (question_of header asked 0 silences) start used before after held answer)
+  ways answer e = by e.ends
+    where
+      none : e.used ≤ 0
+      none = e.within
+
+      same : e.start ≡ m.link.input before
+      same = no_noise m.silent (m.protocol.seen header) (m.link.input before) e.used e.start e.noise none
+
+      by : EndsFrom m (question_of header asked 0 silences) e.start e.used before after held answer
+          → IsUnread answer ⊎ ((start : Input) × (used : ℕ) × (start ≡ m.link.input before) × (used ≤ 0) × GivesUp m (question_of header asked 0 silences) start used before after held answer)
+      by (inl x) = inl (unread e.start e.used same answer x)
+      by (inr (inl g)) = inr (e.start, e.used, same, none, g)
+      by (inr (inr a)) = no_silence e.start e.used answer a
 
   tells : (answer : Answer) → EndsWait m (question_of header asked 0 silences) before after held answer → TellsLine m silences header asked before after (told_of_answer answer)
-  tells answer (inl e) = tells_exchanged m silences header asked before after held answer e
-  tells answer (inr g) = tells_given_up answer g
+  tells answer e = elim (ways answer e) [
+    | inl x ↦ tells_exchanged m silences header asked before after held answer x
+    | inr (start, used, same, none, g) ↦ tells_given_up start used same none answer g
+  ]
+
+  given_up_as : (start : Input) (used : ℕ) (answer other : Answer) → answer ≡ other → GivesUp m (question_of header asked 0 silences) start used before after held answer → GivesUpBy silences (m.silences before) (m.silences after) used other
+  given_up_as start used answer other is g = subst (GivesUpBy silences (m.silences before) (m.silences after) used) is g.because
 
   -- nothing is held of a request that is too long, and no call was unconnected
   long_holds : (answer : Answer) → EndsWait m (question_of header asked 0 silences) before after held answer → (size : ℕ) → answer ≡ Err (Transport (RequestTooLong size)) → held ≡ []
-  long_holds answer (inl e) size is = none_held m.protocol (m.link.input before) (m.link.input after) (m.link.output before) (m.link.output after) header asked held answer e size is
-  long_holds answer (inr g) size is = absurd (subst (λ (found : Answer). GivesUp m (question_of header asked 0 silences) before after held found) is g).because
+  long_holds answer e size is = elim (ways answer e) [
+    | inl x ↦ none_held m.protocol (m.link.input before) (m.link.input after) (m.link.output before) (m.link.output after) header asked held answer x size is
+    | inr (start, used, same, none, g) ↦ absurd (given_up_as start used answer _ is g)
+  ]
 
   -- no reply comes with no read, and the client was connected
   no_reply : (answer : Answer) → EndsWait m (question_of header asked 0 silences) before after held answer → (result : Result Response ExceptionCode) → answer ≡ Ok result → ⊥
-  no_reply answer (inl e) result is =
-      let f = subst (λ (found : Answer). Exchanged m.protocol (outside (m.link.input before) (m.link.output before)) (outside (m.link.input after) (m.link.output after)) header asked 0 held found) is e in
-      none_came m.protocol (m.protocol.seen header) f.fed f.made f.last f.spends
-  no_reply answer (inr g) result is = (subst (λ (found : Answer). GivesUp m (question_of header asked 0 silences) before after held found) is g).because
+  no_reply answer e result is = elim (ways answer e) [
+    | inl x ↦ (let f = subst IsUnread is x in none_came m.protocol (m.protocol.seen header) f.fed f.made f.last f.spends)
+    | inr (start, used, same, none, g) ↦ given_up_as start used answer _ is g
+  ]
 
   connected : (answer : Answer) → EndsWait m (question_of header asked 0 silences) before after held answer → answer ≡ Err (Transport NotConnected) → ⊥
-  connected answer (inl e) is =
-      (subst (λ (found : Answer). Exchanged m.protocol (outside (m.link.input before) (m.link.output before)) (outside (m.link.input after) (m.link.output after)) header asked 0 held found) is e).ends
-  connected answer (inr g) is = (subst (λ (found : Answer). GivesUp m (question_of header asked 0 silences) before after held found) is g).because
+  connected answer e is = elim (ways answer e) [
+    | inl x ↦ (subst IsUnread is x).ends
+    | inr (start, used, same, none, g) ↦ given_up_as start used answer _ is g
+  ]
 
   -- whether the line is in doubt after it
   doubts : (answer : Answer) → EndsWait m (question_of header asked 0 silences) before after held answer → not (leaves_nothing asked answer held) ≡ is_doubtful_after (told_of_answer answer)

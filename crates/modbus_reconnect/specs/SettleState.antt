@@ -33,16 +33,17 @@ pub record SettlingState (I L : Type 0) : Type 0 where
   -- what its protocol keeps between its calls
   pub ids : I
 
--- what the parts of such a client mean: its protocol, its link, how many silences the link told, and how often a look found nothing
+-- what the parts of such a client mean: its protocol, while bytes come and in those before a silence, its link, how many silences the link told, and how often a look found nothing
 pub record LineMeaning (H I L : Type 0) : Type 1 where
   pub protocol : Protocol H
+  pub silent : Protocol H
   pub heading : Heading H I
   pub link : LinkMeaning L
   pub silences : L → ℕ
   pub looks : L → ℕ
 
-abbrev pub line_by : {H I L : Type 0} → Protocol H → Heading H I → LinkMeaning L → (L → ℕ) → (L → ℕ) → LineMeaning H I L
-line_by protocol heading link silences looks = record { protocol = protocol; heading = heading; link = link; silences = silences; looks = looks }
+abbrev pub line_by : {H I L : Type 0} → Protocol H → Protocol H → Heading H I → LinkMeaning L → (L → ℕ) → (L → ℕ) → LineMeaning H I L
+line_by protocol silent heading link silences looks = record { protocol = protocol; silent = silent; heading = heading; link = link; silences = silences; looks = looks }
 
 -- A client as it is made, of a link of which nothing is known: it is in doubt. A line is settled by one silence.
 abbrev pub unsettled_client : {H I L : Type 0} → Heading H I → L → ℕ → Duration → SettlingState I L

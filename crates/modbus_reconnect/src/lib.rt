@@ -32,5 +32,6 @@ pub type TcpClient<C> = ReconnectingClient<tcp::OwnAdus, C>;
 /// A client of the slaves behind a TCP connection that carries RTU frames, which connects anew where its link is in doubt.
 pub type RtuOverTcpClient<C> = ReconnectingClient<rtu::Frames, C>;
 
-/// A client of the slaves of a serial line, which lets the line fall silent where it is in doubt.
-pub type SerialClient<L> = SettlingClient<rtu::Frames, L>;
+/// A client of the slaves of a serial line, which lets the line fall silent where it is in doubt. Noise and the frames of other slaves do not
+/// end its calls, and a silence of the line ends every frame (MODBUS over Serial Line V1.02, sections 2.4.1 and 2.5.1.1).
+pub type SerialClient<L> = SettlingClient<rtu::LineFrames, L>;

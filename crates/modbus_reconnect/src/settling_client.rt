@@ -14,7 +14,7 @@ use crate::settling::{Unsettled, settle};
 use crate::silences::silences_for;
 use crate::telling::told_of;
 use crate::waiting::ask;
-use modbus_client::{Client, Protocol, TURNS};
+use modbus_client::{Client, LineProtocol, TURNS};
 use modbus_frame::{
     Error, Request, Response, Result, ShutdownFault, Slave, SlaveContext, TransportError,
 };
@@ -31,8 +31,11 @@ const LIMIT: usize = 4096;
 /// reply to the request, and after a reply with bytes behind it, the line is in doubt. The next call then reads and drops what still comes,
 /// until the line was silent for a while, before it sends its request. A line that is not in doubt is looked at before a request is sent:
 /// what came there since the last call was not asked for, so it is dropped, and the line settled as one in doubt.
+///
+/// While a call waits for its reply, a silence ends the frames that came: the reply is looked for in them, and what is none is noise and is
+/// dropped. The call waits on until as many silences came as its timeout has. A reply with a silence inside is none.
 #[derive(Drop)]
-pub struct SettlingClient<P: Protocol, L> {
+pub struct SettlingClient<P: LineProtocol, L> {
     link: L,
     is_connected: bool,
     in_doubt: bool,
@@ -50,7 +53,7 @@ pub struct SettlingClient<P: Protocol, L> {
 
 /// A contract sees the link, whether it is used, whether it is in doubt and why it stayed so, how many bytes were dropped before the last
 /// request, the settings, and what the protocol keeps between calls.
-impl<P: Protocol, L> Model for SettlingClient<P, L> {
+impl<P: LineProtocol, L> Model for SettlingClient<P, L> {
     ghost use Rattle.modbus_reconnect.specs.SettleState.{SettlingState};
 
     ghost Value = { SettlingState P.Ids L };
@@ -66,7 +69,7 @@ impl<P: Protocol, L> Model for SettlingClient<P, L> {
     } };
 }
 
-impl<P: Protocol, L> SettlingClient<P, L> {
+impl<P: LineProtocol, L> SettlingClient<P, L> {
     /// A client of a slave over a line that tells silences of this length. It takes no memory yet.
     ///
     /// What lies on the line is not known, so it is in doubt at first. A line is settled by one silence, and no more than 4096 bytes of it
@@ -147,7 +150,7 @@ impl<P: Protocol, L> SettlingClient<P, L> {
     }
 }
 
-impl<P: Protocol, L: IdleLink> SettlingClient<P, L> {
+impl<P: LineProtocol, L: IdleLink> SettlingClient<P, L> {
     /// Drops what came on the line and was not read, and answers how many bytes that were. A line in doubt is settled; any other is looked
     /// at, and settled where something came.
     ///
@@ -155,7 +158,7 @@ impl<P: Protocol, L: IdleLink> SettlingClient<P, L> {
     /// Those of `settle`.
     fn clear_line(&mut self) -> std::result::Result<usize, Unsettled>
         ensures clears { ClearsLine
-            (line_by P.protocol P.heading (meaning_of L.input L.output L.line) L.not_ready L.looks)
+            (line_by P.protocol P.silent P.heading (meaning_of L.input L.output L.line) L.not_ready L.looks)
             (quiet_silences self.old) self.old.settings.limit self.old.in_doubt
             self.old.link self.new.link result }
         ensures rest { self.new ≡ record self.old { link = self.new.link } }
@@ -179,7 +182,7 @@ impl<P: Protocol, L: IdleLink> SettlingClient<P, L> {
     /// Clears the line. Whether nothing is owed on it then.
     fn clear(&mut self) -> bool
         ensures { ClearsIf result
-            (line_by P.protocol P.heading (meaning_of L.input L.output L.line) L.not_ready L.looks)
+            (line_by P.protocol P.silent P.heading (meaning_of L.input L.output L.line) L.not_ready L.looks)
             self.old self.new }
     {
         match self.clear_line() {
@@ -201,7 +204,7 @@ impl<P: Protocol, L: IdleLink> SettlingClient<P, L> {
     /// Sends a request, and waits for its reply, with at most `turns` reads that give bytes.
     fn ask(&mut self, request: &Request<'_>, turns: u64) -> Result<Response>
         ensures { AsksOn
-            (line_by P.protocol P.heading (meaning_of L.input L.output L.line) L.not_ready L.looks)
+            (line_by P.protocol P.silent P.heading (meaning_of L.input L.output L.line) L.not_ready L.looks)
             self.old (meaning request.now) turns result self.new }
     {
         let header = P::draw(&mut self.ids, self.slave);
@@ -230,7 +233,7 @@ impl<P: Protocol, L: IdleLink> SettlingClient<P, L> {
     /// write faults rose. `ReadFault` where the link took no more for as long as a reply is waited for. `NoMemory` where memory is refused.
     pub fn send(&mut self, request: Request<'_>) -> std::result::Result<(), Error>
         ensures { SendsStanding
-            (line_by P.protocol P.heading (meaning_of L.input L.output L.line) L.not_ready L.looks)
+            (line_by P.protocol P.silent P.heading (meaning_of L.input L.output L.line) L.not_ready L.looks)
             self.old (meaning request.entry) result self.new }
     {
         if !self.is_connected || !self.clear() {
@@ -241,7 +244,7 @@ impl<P: Protocol, L: IdleLink> SettlingClient<P, L> {
     }
 }
 
-impl<P: Protocol, L> SlaveContext for SettlingClient<P, L> {
+impl<P: LineProtocol, L> SlaveContext for SettlingClient<P, L> {
     ghost selected = { λ client. client.settings.slave };
 
     ghost set_slave_gives = { λ old slave new.
@@ -252,12 +255,12 @@ impl<P: Protocol, L> SlaveContext for SettlingClient<P, L> {
     }
 }
 
-impl<P: Protocol, L: IdleLink + Send + Drop> Client for SettlingClient<P, L>
+impl<P: LineProtocol, L: IdleLink + Send + Drop> Client for SettlingClient<P, L>
 where
     P::Ids: Send,
 {
     ghost answers = { CallsStanding
-        (line_by P.protocol P.heading (meaning_of L.input L.output L.line) L.not_ready L.looks) };
+        (line_by P.protocol P.silent P.heading (meaning_of L.input L.output L.line) L.not_ready L.looks) };
 
     // Nothing is done with the line.
     ghost disconnects = { λ old result new. (result ≡ Ok tt) × (new ≡ record old { is_connected = false }) };

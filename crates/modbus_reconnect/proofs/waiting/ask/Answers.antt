@@ -9,7 +9,7 @@ pub returns-in-Err-clause-ends : goal.returns-in-Err-clause-ends
 returns-in-Err-clause-ends g c = (
   [],
   refl,
-  unasked (line_by g.P.Protocol.protocol g.P.Protocol.heading (meaning_of g.L.Ends.input g.L.Ends.output g.L.Ends.line) g.L.PolledLink.not_ready g.L.IdleLink.looks)
+  unasked (line_by g.P.Protocol.protocol g.P.LineProtocol.silent g.P.Protocol.heading (meaning_of g.L.Ends.input g.L.Ends.output g.L.Ends.line) g.L.PolledLink.not_ready g.L.IdleLink.looks)
       c.requests_not_opened_are_unsent.ensures c.args.link.now c.args.header (meaning c.args.request.now) c.args.turns c.args.silences c.in-Err.error c.in-Err.ensures.cause,
 )
 

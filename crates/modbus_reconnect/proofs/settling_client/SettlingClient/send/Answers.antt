@@ -7,7 +7,7 @@ use Rattle.modbus_reconnect.proofs.settling_client.SettlingClient.send.Goals as 
 
 pub returns : goal.returns
 returns g c =
-    sends_told (line_by g.P.Protocol.protocol g.P.Protocol.heading (meaning_of g.L.Ends.input g.L.Ends.output g.L.Ends.line) g.L.PolledLink.not_ready g.L.IdleLink.looks)
+    sends_told (line_by g.P.Protocol.protocol g.P.LineProtocol.silent g.P.Protocol.heading (meaning_of g.L.Ends.input g.L.Ends.output g.L.Ends.line) g.L.PolledLink.not_ready g.L.IdleLink.looks)
     c.args.self.now c.clear.new.self c.ask-answer.new.self (meaning c.args.request) c.ask-answer.result c.told_of.result
     (sym (ap (λ (state : SettlingState g.row.P-Ids.Denot g.row.L.Denot). state.is_connected) c.self.view_is) ∙ c.if-not-self.false)
     c.if-not-clear.ensures c.ask-answer.ensures c.told_of.ensures

@@ -8,7 +8,7 @@ use Rattle.modbus_reconnect.proofs.settling_client.SettlingClientClient.call.Goa
 
 pub returns : goal.returns
 returns g c =
-    let m = line_by g.P.Protocol.protocol g.P.Protocol.heading (meaning_of g.L.Ends.input g.L.Ends.output g.L.Ends.line) g.L.PolledLink.not_ready g.L.IdleLink.looks in
+    let m = line_by g.P.Protocol.protocol g.P.LineProtocol.silent g.P.Protocol.heading (meaning_of g.L.Ends.input g.L.Ends.output g.L.Ends.line) g.L.PolledLink.not_ready g.L.IdleLink.looks in
     calls_asked m c.args.self.now c.clear.new.self c.ask.new.self (meaning c.args.request) c.ask.result
     (sym (ap (λ (state : SettlingState g.row.P-Ids.Denot g.row.L.Denot). state.is_connected) c.self.view_is) ∙ c.if-not-self.false)
     c.if-not-clear.ensures
