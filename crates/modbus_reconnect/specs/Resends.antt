@@ -1,6 +1,8 @@
 -- Which requests may be sent again (Modbus Application Protocol V1.1b3, section 6).
 use Rattle.std.specs.Prelude.{Bool, true, false, ◌&&◌, ◌||◌, not, Ok, Err}
 use Rattle.modbus_frame.specs.Meaning.{Asked, only_reads}
+use Rattle.modbus_frame.specs.Meaning.Asked.{Custom}
+use Rattle.modbus_calls.specs.OnlyReads.{only_reads_code}
 use Rattle.modbus_frame.specs.Stage.{error_stage}
 use Rattle.modbus_frame.specs.declared.fault.Error.TheVariants.{Transport}
 use Rattle.modbus_frame.specs.declared.fault.TransportError.TheVariants.{NotConnected}
@@ -9,10 +11,15 @@ use Rattle.modbus_reconnect.specs.declared.resend.Resend.{Resend}
 use Rattle.modbus_reconnect.specs.declared.resend.Resend.TheVariants.{Never, Reads, Always}
 use Rattle.modbus_reconnect.specs.Owes.{settles}
 
+-- it changes nothing in the device, by its layout, or by its function code and the bytes behind that where it has none
+abbrev pub changes_nothing : Asked → Bool
+changes_nothing (Custom function bytes) = only_reads_code function bytes
+changes_nothing asked = only_reads asked
+
 -- the caller lets this request be sent again
 abbrev pub may_resend : Resend → Asked → Bool
 may_resend Never asked = false
-may_resend Reads asked = only_reads asked
+may_resend Reads asked = changes_nothing asked
 may_resend Always asked = true
 
 -- no link was made

@@ -1,4 +1,4 @@
-use Rattle.std.proofs.Common.{◌+◌, ◌∙◌, Err, refl, sym, ap, subst, arith, not}
+use Rattle.std.proofs.Common.{◌∙◌, Err, refl, sym, ap, subst, arith, not}
 use Rattle.std.specs.Prelude.{is_some}
 use Rattle.modbus_link.specs.Line.{meaning_of}
 use Rattle.modbus_frame.specs.declared.fault.Error.TheVariants.{Transport}
