@@ -2,6 +2,7 @@
 //! flag.
 
 mod adapters;
+mod deadlines;
 mod silence;
 mod stops;
 mod tcp;

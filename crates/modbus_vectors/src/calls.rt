@@ -32,7 +32,9 @@ fn answer_over_links(text: &mut Text, call: &str, words: &[Word]) -> bool {
         "ascii_call" => ascii::answer(text, words),
         "tcp_attach" => clients::answer_attached(text, words),
         "tcp_connect" | "matching_connect" => connecting::answer(text, call, words),
-        "rtu_polled" | "tcp_polled" | "matching_polled" => one_call::answer(text, call, words),
+        "rtu_polled" | "ascii_polled" | "tcp_polled" | "matching_polled" => {
+            one_call::answer(text, call, words)
+        }
         "exchange_words" => one_call::answer_exchange(text, words),
         _ => false,
     }

@@ -120,6 +120,16 @@ fn matching_polled(
     poll_opened(text, opened, link, true)
 }
 
+fn ascii_polled(
+    text: &mut Text,
+    slave: u8,
+    request: Request<'_>,
+    link: &mut PolledMemoryLink,
+) -> bool {
+    let opened = modbus_ascii_client::open_call(text.alloc, Slave(slave), request, TURNS);
+    poll_opened(text, opened, link, true)
+}
+
 /// The answer of a call over a link that may not be ready.
 fn polled(
     text: &mut Text,
@@ -131,6 +141,7 @@ fn polled(
     match call {
         "rtu_polled" => rtu_polled(text, slave, request, link),
         "tcp_polled" => tcp_polled(text, slave, request, link),
+        "ascii_polled" => ascii_polled(text, slave, request, link),
         _ => matching_polled(text, slave, request, link),
     }
 }
@@ -191,7 +202,7 @@ fn link_of(alloc: Global, words: &[Word]) -> Option<PolledMemoryLink> {
     read_outside(alloc, words)?.into_polled_link(alloc)
 }
 
-/// `rtu_polled`, `tcp_polled` or `matching_polled` (of transaction 1), a slave, a PDU and the outside of the link. Such a call has two turns.
+/// `rtu_polled`, `ascii_polled`, `tcp_polled` or `matching_polled` (of transaction 1), a slave, a PDU and the outside of the link. Such a call has two turns.
 pub fn answer(text: &mut Text, call: &str, words: &[Word]) -> bool {
     let [slave, pdu, words @ ..] = words else {
         return false;

@@ -2,7 +2,8 @@
 use super::tcp::open_pair;
 use crate::check::check;
 use modbus_link::{
-    Link, Polled, PolledLink, ReadSource, TcpLink, TerminalLink, TimedLink, TimedTcpLink, WriteSink,
+    Link, Polled, PolledLink, ReadSource, TcpLink, TerminalLine, TerminalLink, TimedLink,
+    TimedTcpLink, WriteSink,
 };
 use std::io::{Result as IoResult, Write};
 use std::net::TcpStream;
@@ -36,6 +37,28 @@ fn a_terminal_that_gives_nothing_is_silent(rt: HostRuntime) {
         &rt,
         &mut TerminalLink::new(ReadSource::new(b"ab".as_slice()), sink),
     );
+}
+
+/// Whether a link tells its end, maybe behind silences: this machine may stop a read for as long as one takes.
+fn ends<L: TimedLink>(link: &mut L) -> bool {
+    let mut room = [0; 4];
+    for _ in 0..100 {
+        match link.poll_read(&mut room) {
+            Ok(Polled::Pending) => {}
+            told => return told == Ok(Polled::Ready(0)),
+        }
+    }
+    false
+}
+
+#[test]
+fn a_line_that_gives_nothing_at_once_has_ended(rt: HostRuntime) {
+    let mut buffer = [0u8; 2];
+    let sink = WriteSink::new(buffer.as_mut_slice());
+    let streams = TerminalLink::new(ReadSource::new(b"ab".as_slice()), sink);
+    let mut line = TerminalLine::new(&rt, streams);
+    check_heard(&rt, &mut line, Polled::Ready(2), *b"ab..");
+    check(&rt, ends(&mut line), true);
 }
 
 fn check_peer<R: Abort>(rt: &R, link: &mut TimedTcpLink, peer: &mut TcpStream) -> IoResult<()> {
