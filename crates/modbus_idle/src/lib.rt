@@ -5,9 +5,9 @@
 //! than it was said to be.
 #![tactic(auto)]
 
-mod keep_alive;
+mod alive;
 mod port_line;
 mod watcher;
 
-pub use crate::keep_alive::keep_alive;
+pub use crate::alive::keep_alive;
 pub use crate::port_line::PortLine;

@@ -1,8 +1,9 @@
 //! A serial port whose silences are as long as its owner says.
-ghost use Rattle.std.specs.Prelude.{◌≡◌, ◌<◌, length, IsTrue, OnErr};
+ghost use Rattle.std.specs.Prelude.{◌≡◌, ◌<◌, ◌≤◌, length, IsTrue, OnErr};
 ghost use Rattle.std.specs.Io.{ReadsAtMost};
 ghost use Rattle.modbus_link.specs.Outside.{Rose, Advances, ReadIsTold};
 ghost use Rattle.modbus_link.specs.Polled.{at_once, waits_after};
+ghost use Rattle.modbus_field.specs.BurstLink.{CountsSilence};
 ghost use Rattle.modbus_idle.specs.PortLine.{port_at_start};
 
 use crate::watcher::Watcher;
@@ -106,6 +107,8 @@ impl<S: Source, K> PortLine<S, K> {
           source = self.new.source;
           silences = waits_after result self.old.silences;
         } }
+        ensures later { self.old.silences ≤ self.new.silences }
+        ensures counted { CountsSilence result self.old.silences self.new.silences }
     {
         let told = self.read_within(self.silence, room)?;
         if told == Polled::Pending {
