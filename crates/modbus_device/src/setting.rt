@@ -32,7 +32,7 @@ fn number(word: &str) -> Result<u16, NoSetting> {
 }
 
 /// The input that `i5=215` or `d5=1` sets, and its value.
-fn input(word: &str) -> Result<Input, NoSetting> {
+fn read_input(word: &str) -> Result<Input, NoSetting> {
     let Some((place, value)) = word.split_once('=') else {
         return Err(NoSetting);
     };
@@ -55,7 +55,7 @@ impl FromStr for Setting {
         };
         Ok(Setting {
             unit: unit.parse().map_err(|_| NoSetting)?,
-            input: input(rest)?,
+            input: read_input(rest)?,
         })
     }
 }
