@@ -6,7 +6,7 @@ use Rattle.modbus_link.specs.declared.polled.Polled.{Polled}
 use Rattle.modbus_link.specs.declared.polled.Polled.TheVariants.{Ready}
 use Rattle.modbus_link.specs.Outside.{Input, Rose, Advances, IsFront, bytes_read, front_of}
 use Rattle.modbus_link.specs.Memory.{faults_after}
-use Rattle.modbus_link.specs.Polled.{at_once}
+use Rattle.modbus_link.specs.Polled.{at_once, waits_after}
 
 -- how many bytes of an echo are kept: as many as the longest frame has, an ASCII frame
 abbrev pub echo_room : ℕ
@@ -28,10 +28,12 @@ pub record EchoedState (L : Type 0) : Type 0 where
   -- how many of its reads failed, and how many of its writes; they stay at the last number of a counter
   pub read_faults : ℕ
   pub write_faults : ℕ
+  -- how many looks found nothing; it stays at the last number of a counter
+  pub looks : ℕ
 
 -- one that nothing was done to
 abbrev pub echoed_at_start : {L : Type 0} → L → EchoedState L
-echoed_at_start link = record { link = link; is_on = false; owed = []; collision = []; read_faults = 0; write_faults = 0 }
+echoed_at_start link = record { link = link; is_on = false; owed = []; collision = []; read_faults = 0; write_faults = 0; looks = 0 }
 
 -- of an echo these bytes were dropped, and these came in place of what was to come next
 pub record IsCollision (owed dropped came : List ℕ) : Type 0 where
@@ -69,6 +71,11 @@ pub record GivesBehindEcho (from to : Input) (owed left given : List ℕ) (resul
 pub record ReadsBehindEcho {L : Type 0} (input : L → Input) (old new : EchoedState L) (given : List ℕ) (result : Result (Polled ℕ) Failed) : Type 0 where
   pub gives : GivesBehindEcho (input old.link) (input new.link) old.owed new.owed given result new.collision
   pub counts : new ≡ record old { link = new.link; owed = new.owed; collision = new.collision; read_faults = faults_after result old.read_faults }
+
+-- One look, which gives what a read would, and counts where it found nothing.
+pub record LooksBehindEcho {L : Type 0} (input : L → Input) (old new : EchoedState L) (given : List ℕ) (result : Result (Polled ℕ) Failed) : Type 0 where
+  pub gives : GivesBehindEcho (input old.link) (input new.link) old.owed new.owed given result new.collision
+  pub counts : new ≡ record old { link = new.link; owed = new.owed; collision = new.collision; read_faults = faults_after result old.read_faults; looks = waits_after result old.looks }
 
 -- what is expected back of a piece that was written
 abbrev pub echo_of : Bool → List ℕ → List ℕ

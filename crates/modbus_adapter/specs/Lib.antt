@@ -2,3 +2,4 @@ pub mod Deadline
 pub mod Echo
 pub mod Paced
 pub mod Taking
+pub mod Paused

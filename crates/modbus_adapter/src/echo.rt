@@ -10,11 +10,12 @@ ghost use Rattle.modbus_field.specs.BurstLink.{output_over, CountsSilence};
 ghost use Rattle.modbus_adapter.specs.Echo.{echoed_at_start, collision_room, echo_room, echo_of, IsFull, IsWritable, OwesEcho, GivesBehindEcho, ReadsBehindEcho, WritesWithEcho};
 ghost use Rattle.modbus_adapter.specs.Taking.{silences_by, came_by, BringsEcho, TakesEchoOff};
 
+mod looking;
+
 use crate::owed::Owed;
 use arrayvec::ArrayVec;
 use modbus_field::burst::CountedLink;
 use modbus_link::{Ends, Failed, Polled, PolledLink, TimedLink};
-use modbus_reconnect::IdleLink;
 use std::marker::Model;
 
 /// How many bytes of a collision are kept.
@@ -36,9 +37,11 @@ pub struct EchoedLink<L> {
     collision: ArrayVec<u8, COLLISION_ROOM>,
     read_faults: u64,
     write_faults: u64,
+    looks: u64,
 }
 
-/// A contract sees the link, the echo that is owed, what came in its place at the last read, and how often it failed.
+/// A contract sees the link, the echo that is owed, what came in its place at the last read, how often it failed, and how many looks found
+/// nothing.
 impl<L> Model for EchoedLink<L> {
     ghost use Rattle.modbus_adapter.specs.Echo.{EchoedState};
 
@@ -51,6 +54,7 @@ impl<L> Model for EchoedLink<L> {
       collision = it.collision.items;
       read_faults = it.read_faults;
       write_faults = it.write_faults;
+      looks = it.looks;
     } };
 }
 
@@ -66,6 +70,7 @@ impl<L> EchoedLink<L> {
             collision: ArrayVec::new(),
             read_faults: 0,
             write_faults: 0,
+            looks: 0,
         }
     }
 
@@ -348,14 +353,6 @@ impl<L: CountedLink> TimedLink for EchoedLink<L> {}
 
 impl<L: CountedLink> CountedLink for EchoedLink<L> {
     fn poll_counted(&mut self, room: &mut [u8]) -> Result<Polled<usize>, Failed> {
-        self.poll_read(room)
-    }
-}
-
-impl<L: CountedLink> IdleLink for EchoedLink<L> {
-    ghost looks = { λ it. L.not_ready it.link };
-
-    fn look(&mut self, room: &mut [u8]) -> Result<Polled<usize>, Failed> {
         self.poll_read(room)
     }
 }

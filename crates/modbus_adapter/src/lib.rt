@@ -2,7 +2,7 @@
 //!
 //! Each is a link over another one, which does what that does and no more than its contract says beside it. `EchoedLink` drops the echo of
 //! what was written. `PacedLink` keeps a pause between what is read and what is written behind it. `DeadlineLink` bounds the time of all
-//! reads and writes of a call, and `DeadlineConnector` makes such links.
+//! reads and writes of a call, and `DeadlineConnector` makes such links. `PausedConnector` makes links with a pause after a connection that failed.
 #![tactic(auto)]
 
 mod deadline;
@@ -11,8 +11,10 @@ mod moment;
 mod nap;
 mod owed;
 mod paced;
+mod paused;
 
 pub use crate::deadline::{DeadlineConnector, DeadlineLink};
 pub use crate::echo::{COLLISION_ROOM, EchoedLink};
 pub use crate::owed::ECHO_ROOM;
 pub use crate::paced::{PacedLink, pause_of};
+pub use crate::paused::PausedConnector;

@@ -46,7 +46,7 @@ pub fn pause_of(baud: u32) -> Duration
 }
 
 /// What is left of a pause since then, at this moment: nothing where no bytes were read, and all of it where the clock could not be read.
-fn left_of(pause: Duration, since: &Option<Moment>, moment: &Moment) -> Duration
+pub(crate) fn left_of(pause: Duration, since: &Option<Moment>, moment: &Moment) -> Duration
     ensures { as_nanos result ≡ pause_left (as_nanos pause) since.now moment.now }
 {
     match since {

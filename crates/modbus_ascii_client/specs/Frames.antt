@@ -4,6 +4,7 @@ use Rattle.modbus_frame.specs.declared.rtu.Header.{Header}
 use Rattle.modbus_frame.specs.declared.fault.HeaderSeen.{HeaderSeen}
 use Rattle.modbus_pdu.specs.SlavePdu.{SlavePdu, IsFramed}
 use Rattle.modbus_pdu.specs.Message.{message}
+use Rattle.modbus_pdu.specs.ResponseOf.{response_result_of}
 use Rattle.modbus_ascii.specs.Encoder.{frame}
 use Rattle.modbus_ascii.specs.Frames.{frames}
 use Rattle.modbus_ascii.specs.OpenFrames.{open_frame}
@@ -42,6 +43,7 @@ abbrev pub ascii_protocol : Protocol Header
 ascii_protocol = record {
   seen = λ header. slave_seen header.slave_id;
   adu = λ header pdu. frame header.slave_id pdu;
+  means = response_result_of;
   Finds = FindsReplyFrame;
   Counts = CountsOthers;
   IsWhole = λ header pdu. IsFramed (message header.slave_id pdu);
@@ -55,6 +57,7 @@ abbrev pub silent_ascii : Protocol Header
 silent_ascii = record {
   seen = λ header. slave_seen header.slave_id;
   adu = λ header pdu. frame header.slave_id pdu;
+  means = response_result_of;
   Finds = FindsNone;
   Counts = CountsOthers;
   IsWhole = λ header pdu. IsFramed (message header.slave_id pdu);

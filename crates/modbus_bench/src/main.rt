@@ -2,8 +2,8 @@
 //! after another over links that may be late.
 //!
 //! `rate THREADS MILLISECONDS` and `calls THREADS EACH` make calls (bench/store.py runs them), `sorted ITEMS` and `plain ITEMS` plan
-//! (bench/plan.py), `watch FORM ADDRESS COUNT MILLIS [RETRIES [PAUSE]]` and `watch serial TERMINAL COUNT MILLIS [0 PAUSE]` read
-//! (tools/late/run). The terminal was set by `stty raw min 0 time 1`.
+//! (bench/plan.py), `watch FORM ADDRESS COUNT MILLIS [RETRIES [PAUSE]]` and `watch MODE TERMINAL COUNT MILLIS [0 PAUSE]` read
+//! (tools/late/run). The terminal was set by `stty raw -echo`.
 #![tactic(auto)]
 
 mod job;
@@ -22,7 +22,7 @@ use words::{Task, task_of};
 const HELP: &str =
     "usage: modbus_bench rate THREADS MILLISECONDS | calls THREADS EACH | sorted ITEMS | plain ITEMS
        modbus_bench watch tcp|patient|rtu|once-tcp|once-rtu ADDRESS COUNT MILLIS [RETRIES [PAUSE]]
-       modbus_bench watch serial TERMINAL COUNT MILLIS [0 PAUSE]
+       modbus_bench watch serial|echoed|ascii TERMINAL COUNT MILLIS [0 PAUSE]
 ";
 
 fn main(rt: HostRuntime) -> ExitCode {

@@ -1,9 +1,10 @@
 //! Reads of one register after another.
 
-use crate::words::{Device, Form, Watched};
+use crate::words::{Device, Form, Mode, Watched};
+use modbus_adapter::EchoedLink;
 use modbus_client::{Client, Reader, rtu, tcp};
 use modbus_frame::{Error, ExceptionCode, Slave};
-use modbus_idle::PortLine;
+use modbus_idle::{PortLine, WatchedConnector};
 use modbus_link::{Connector, Failed, ReadSource, TcpConnector, WriteSink};
 use modbus_reconnect::{Resend, RtuOverTcpClient, SerialClient, TcpClient};
 use std::fs::File;
@@ -49,19 +50,60 @@ fn watch<C: Client>(rt: &HostRuntime, client: &mut C, task: &Watched) -> io::Res
     Ok(())
 }
 
-/// Reads the registers of a device on the serial line of a terminal. A line in doubt has to be silent for as long as a reply is waited for.
-fn watch_line(rt: &HostRuntime, terminal: &str, task: &Watched) -> io::Result<()> {
+/// The serial line of a terminal.
+type Port = PortLine<ReadSource<File>, WriteSink<File>>;
+
+/// How long a silence of a line is.
+fn silence() -> Duration {
+    Duration::from_millis(SILENCE)
+}
+
+/// Opens the terminal of a serial line.
+fn open_port(rt: &HostRuntime, terminal: &str) -> io::Result<Port> {
     let reader = File::options().read(true).write(true).open(rt, terminal)?;
     let writer = reader.try_clone()?;
     let fd = reader.as_raw_fd();
-    let silence = Duration::from_millis(SILENCE);
     let (source, sink) = (ReadSource::new(reader), WriteSink::new(writer));
-    let link = PortLine::new(rt, source, sink, fd, silence);
+    Ok(PortLine::new(rt, source, sink, fd, silence()))
+}
+
+/// Reads over a serial line. One in doubt has to be silent for as long as a reply is waited for.
+fn watch_rtu(rt: &HostRuntime, link: Port, task: &Watched) -> io::Result<()> {
     let limit = Duration::from_millis(task.millis);
-    let mut client = SerialClient::new(rt.alloc(), link, UNIT, silence);
+    let mut client = SerialClient::new(rt.alloc(), link, UNIT, silence());
     client.set_timeout(Some(limit));
     client.set_quiet(limit, NOISE);
     watch(rt, &mut client, task)
+}
+
+/// The same where an adapter gives back what is sent.
+fn watch_echoed(rt: &HostRuntime, link: Port, task: &Watched) -> io::Result<()> {
+    let limit = Duration::from_millis(task.millis);
+    let mut echoed = EchoedLink::new(link);
+    echoed.set_echo(true);
+    let mut client = SerialClient::new(rt.alloc(), echoed, UNIT, silence());
+    client.set_timeout(Some(limit));
+    client.set_quiet(limit, NOISE);
+    watch(rt, &mut client, task)
+}
+
+/// The same in the ASCII mode.
+fn watch_ascii(rt: &HostRuntime, link: Port, task: &Watched) -> io::Result<()> {
+    let limit = Duration::from_millis(task.millis);
+    let mut client = modbus_ascii_client::SerialClient::new(rt.alloc(), link, UNIT, silence());
+    client.set_timeout(Some(limit));
+    client.set_quiet(limit, NOISE);
+    watch(rt, &mut client, task)
+}
+
+/// Reads the registers of a device on the serial line of a terminal.
+fn watch_line(rt: &HostRuntime, mode: Mode, terminal: &str, task: &Watched) -> io::Result<()> {
+    let link = open_port(rt, terminal)?;
+    match mode {
+        Mode::Rtu => watch_rtu(rt, link, task),
+        Mode::Echoed => watch_echoed(rt, link, task),
+        Mode::Ascii => watch_ascii(rt, link, task),
+    }
 }
 
 /// Reads the registers of a device behind an address, in the form that was asked for.
@@ -83,6 +125,7 @@ fn watch_peer(rt: &HostRuntime, form: Form, address: SocketAddr, task: &Watched)
             watch(rt, &mut client, task)
         }
         Form::Rtu => {
+            let connector = WatchedConnector::new(rt);
             let mut client = RtuOverTcpClient::new(rt.alloc(), connector, address, UNIT);
             client.set_timeout(limit);
             client.set_retries(task.retries, Resend::Reads);
@@ -111,6 +154,6 @@ fn watch_peer(rt: &HostRuntime, form: Form, address: SocketAddr, task: &Watched)
 pub fn watch_device(rt: &HostRuntime, task: Watched) -> io::Result<()> {
     match &task.device {
         Device::Peer(form, address) => watch_peer(rt, *form, *address, &task),
-        Device::Line(terminal) => watch_line(rt, terminal.as_str(), &task),
+        Device::Line(mode, terminal) => watch_line(rt, *mode, terminal.as_str(), &task),
     }
 }

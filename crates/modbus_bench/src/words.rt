@@ -22,13 +22,24 @@ pub enum Form {
     OnceRtu,
 }
 
+/// How a device on a serial line is spoken to.
+#[derive(Clone, Copy)]
+pub enum Mode {
+    /// RTU frames.
+    Rtu,
+    /// RTU frames, through an adapter that gives back what is sent.
+    Echoed,
+    /// The ASCII mode.
+    Ascii,
+}
+
 /// Where a device is.
 #[derive(Drop)]
 pub enum Device {
     /// Behind an address, spoken to in this form.
     Peer(Form, SocketAddr),
-    /// On the serial line of this terminal.
-    Line(String),
+    /// On the serial line of this terminal, spoken to in this mode.
+    Line(Mode, String),
 }
 
 /// Which device is read, how many registers of it, within how many milliseconds each read and write ends, how often a read is sent again over
@@ -87,12 +98,21 @@ fn form_of(text: &str) -> Option<Form> {
     }
 }
 
+fn mode_of(text: &str) -> Option<Mode> {
+    match text {
+        "serial" => Some(Mode::Rtu),
+        "echoed" => Some(Mode::Echoed),
+        "ascii" => Some(Mode::Ascii),
+        _ => None,
+    }
+}
+
 /// The device that these two words name.
 fn device_of(alloc: Global, kind: &str, place: &str) -> Option<Device> {
-    if kind == "serial" {
-        return Some(Device::Line(String::from_str(alloc, place).ok()?));
+    match mode_of(kind) {
+        Some(mode) => Some(Device::Line(mode, String::from_str(alloc, place).ok()?)),
+        None => Some(Device::Peer(form_of(kind)?, place.parse().ok()?)),
     }
-    Some(Device::Peer(form_of(kind)?, place.parse().ok()?))
 }
 
 /// How often a read is sent again, and the milliseconds between two calls, by the words that are left.

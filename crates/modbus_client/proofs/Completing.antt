@@ -15,7 +15,6 @@ use Rattle.modbus_frame.specs.declared.fault.ProtocolError.TheVariants.{HeaderMi
 use Rattle.modbus_frame.specs.declared.fault.TransportError.TheVariants as transport
 use Rattle.modbus_pdu.specs.Encodes.{Fits}
 use Rattle.modbus_pdu.specs.RequestPdu.{request_pdu}
-use Rattle.modbus_pdu.specs.ResponseOf.{response_result_of}
 use Rattle.modbus_client.specs.Protocol.{Protocol, Heading, Found, waiting, reply, broken, IsOfMessage}
 use Rattle.modbus_client.specs.Matches.{Answer, IsOf, Judges, answer_of}
 use Rattle.modbus_client.specs.Call.{IsJudged}
@@ -44,7 +43,7 @@ judged_result asked function header result (Err NoMemory) e is judges = absurd j
 
 module _ {H : Type 0} (P : Protocol H) (alone : IsFoundAlone P) (from to : Input) (sunk sinks : Output) (header : H) (asked : Asked) (turns : ℕ) (held : List ℕ)
     (fits : Fits (request_pdu asked)) (told : IsTrue from.told) (no_read : Rose from.faults to.faults → ⊥) (no_write : Rose sunk.faults sinks.faults → ⊥)
-    (pdu : List ℕ) (result : Result Response ExceptionResponse) (whole : P.IsWhole header pdu) (means : response_result_of pdu ≡ Ok result) (of : IsOf (function_asked asked) result)
+    (pdu : List ℕ) (result : Result Response ExceptionResponse) (whole : P.IsWhole header pdu) (means : P.means pdu ≡ Ok result) (of : IsOf (function_asked asked) result)
     (left : from.left ≡ P.adu header pdu) (short : length from.left < turns) where
   module _ (answer : Answer) (r : Exchanged P (outside from sunk) (outside to sinks) header asked turns held answer) where
     parts : from.left ≡ r.fed ++ to.left
@@ -59,7 +58,7 @@ module _ {H : Type 0} (P : Protocol H) (alone : IsFoundAlone P) (from to : Input
     judged : IsJudged P (P.seen header) (function_asked asked) r.fed (totals r.made) held answer → answer ≡ answer_of result
     judged (seen, found, other, finds, meant, judges) =
         let facts = alone header pdu r.fed to.left (totals r.made) (reply held seen found) whole joined finds in
-        let same : other ≡ result = ok_same other result (response_result_of pdu) (ap response_result_of (sym facts.3) ∙ meant) means in
+        let same : other ≡ result = ok_same other result (P.means pdu) (ap P.means (sym facts.3) ∙ meant) means in
         judged_result (P.seen header) (function_asked asked) seen result answer facts.2 of (subst (λ y. Judges (P.seen header) (function_asked asked) seen y answer) same judges)
 
     count : length r.made < turns
@@ -78,7 +77,7 @@ module _ {H : Type 0} (P : Protocol H) (alone : IsFoundAlone P) (from to : Input
   completes (Err (Transport (transport.InvalidResponse reason))) r =
       let (seen, found, finds, meant) = r.ends in
       let facts = alone header pdu r.fed to.left (totals r.made) (reply held seen found) whole (joined (Err (Transport (transport.InvalidResponse reason))) r) finds in
-      ok_err result reason (response_result_of pdu) means (ap response_result_of (sym facts.3) ∙ meant)
+      ok_err result reason (P.means pdu) means (ap P.means (sym facts.3) ∙ meant)
   completes (Err (Transport transport.TooManyRetries)) r =
       absurd (alone header pdu r.fed to.left (totals r.made) (broken held transport.TooManyRetries) whole (joined (Err (Transport transport.TooManyRetries)) r) r.ends.1)
   completes (Err (Transport transport.InvalidLength)) r =

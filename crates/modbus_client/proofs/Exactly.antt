@@ -12,7 +12,7 @@ use Rattle.modbus_frame.specs.declared.fault.TransportError.TheVariants as trans
 use Rattle.modbus_pdu.specs.Encodes.{Fits}
 use Rattle.modbus_pdu.specs.RequestPdu.{request_pdu}
 use Rattle.std.specs.Prelude.{IsOkAnd}
-use Rattle.modbus_pdu.specs.ResponseOf.{AnswerCarriesMemory, response_result_of}
+use Rattle.modbus_pdu.specs.ResponseOf.{AnswerCarriesMemory}
 use Rattle.modbus_client.specs.Protocol.{Protocol, Found, waiting, reply, broken}
 use Rattle.modbus_client.specs.Matches.{Answer, Judges}
 use Rattle.modbus_client.specs.Call.{IsJudged}
@@ -37,12 +37,12 @@ module _ {H : Type 0} (P : Protocol H) (opening : (asked : HeaderSeen) → P.Fin
     none_waits none = rw (none, no_made r.made r.fed none r.passes.rises) (opening (P.seen header))
 
     meets : (kept : List ℕ) (seen : HeaderSeen) (pdu : List ℕ) → P.Finds (P.seen header) r.fed (totals r.made) (reply kept seen pdu) → IsJudged P (P.seen header) (function_asked asked) r.fed (totals r.made) held answer
-        → IsAnswerTo (P.seen header) (function_asked asked) seen (response_result_of pdu) answer
+        → IsAnswerTo (P.seen header) (function_asked asked) seen (P.means pdu) answer
     meets kept seen pdu finds (seen', pdu', result, finds', meant, judges) =
         let e : reply kept seen pdu ≡ reply held seen' pdu' = same (reply kept seen pdu) (reply held seen' pdu') finds finds' in
         let first : seen ≡ seen' = cc in
         let second : pdu ≡ pdu' = cc in
-        let is : response_result_of pdu ≡ Ok result = ap response_result_of second ∙ meant in
+        let is : P.means pdu ≡ Ok result = ap P.means second ∙ meant in
         subst (λ m. IsAnswerTo (P.seen header) (function_asked asked) seen m answer) (sym is)
         (subst (λ s. Judges (P.seen header) (function_asked asked) s result answer) (sym first) judges)
 
@@ -59,7 +59,7 @@ module _ {H : Type 0} (P : Protocol H) (opening : (asked : HeaderSeen) → P.Fin
     same_fault kept other fault fault' a b = let e : broken kept fault ≡ broken other fault' = same (broken kept fault) (broken other fault') a b in cc
 
   abbrev Tells : Answer → Found → Type 0
-  Tells answer found = IsToldOf (P.seen header) (function_asked asked) found answer
+  Tells answer found = IsToldOf P.means (P.seen header) (function_asked asked) found answer
 
   told_reply : (kept : List ℕ) (seen : HeaderSeen) (pdu : List ℕ) (answer : Answer) (r : Exchanged P (outside from sunk) (outside to sinks) header asked turns held answer) → P.Finds (P.seen header) r.fed (totals r.made) (reply kept seen pdu) → Tells answer (reply kept seen pdu)
   told_reply kept seen pdu (Ok x) r finds = inl (meets (Ok x) r kept seen pdu finds r.ends)
@@ -75,7 +75,7 @@ module _ {H : Type 0} (P : Protocol H) (opening : (asked : HeaderSeen) → P.Fin
       let (seen', pdu', finds', meant) = r.ends in
       let e : reply kept seen pdu ≡ reply held seen' pdu' = same (Err (Transport (transport.InvalidResponse reason))) r (reply kept seen pdu) (reply held seen' pdu') finds finds' in
       let second : pdu ≡ pdu' = cc in
-      let is : response_result_of pdu ≡ Err reason = ap response_result_of second ∙ meant in
+      let is : P.means pdu ≡ Err reason = ap P.means second ∙ meant in
       let answer : Answer = Err (Transport (transport.InvalidResponse reason)) in
       inl (subst (λ m. IsAnswerTo (P.seen header) (function_asked asked) seen m answer) (sym is) refl)
   told_reply kept seen pdu (Err (Transport transport.TooManyRetries)) r finds = no_break _ r kept held seen pdu transport.TooManyRetries finds r.ends.1
@@ -86,7 +86,7 @@ module _ {H : Type 0} (P : Protocol H) (opening : (asked : HeaderSeen) → P.Fin
     | inr (rest, seen', pdu', finds', carries) ↦
         let e : reply kept seen pdu ≡ reply rest seen' pdu' = same (Err NoMemory) r (reply kept seen pdu) (reply rest seen' pdu') finds finds' in
         let second : pdu ≡ pdu' = cc in
-        inr (refl, subst (λ p. IsOkAnd (response_result_of p) AnswerCarriesMemory) (sym second) carries)
+        inr (refl, subst (λ p. IsOkAnd (P.means p) AnswerCarriesMemory) (sym second) carries)
   ]
 
   told_broken : (kept : List ℕ) (fault : TransportError) (answer : Answer) (r : Exchanged P (outside from sunk) (outside to sinks) header asked turns held answer) → P.Finds (P.seen header) r.fed (totals r.made) (broken kept fault) → Tells answer (broken kept fault)

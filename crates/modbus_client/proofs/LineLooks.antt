@@ -7,7 +7,7 @@ use Rattle.modbus_rtu.specs.Limits.{overhead}
 use Rattle.modbus_client.specs.declared.protocol.Reply.{Reply}
 use Rattle.modbus_client.specs.declared.protocol.LookError.{LookError}
 use Rattle.modbus_client.specs.declared.protocol.LookError.TheVariants as look
-use Rattle.modbus_client.specs.Protocol.{waiting, reply}
+use Rattle.modbus_client.specs.Protocol.{Meaning, waiting, reply}
 use Rattle.modbus_client.specs.Rtu.{slave_seen}
 use Rattle.modbus_client.specs.Call.{LooksAs, IsOwn}
 use Rattle.modbus_client.specs.LineReading.{LineRead, behind, read_from, told_count, DropsFront, TakesReply, LooksBy, frames_by, line_verdict, silent_verdict}
@@ -21,16 +21,16 @@ others_of : (a b : LineRead) → a ≡ b → a.others ≡ b.others
 others_of a b e = ap (λ (r : LineRead). r.others) e
 
 -- bytes whose reading finds the same, give the same look
-pub looks_same : (judge judge' : List ℕ → Verdict) (asked : HeaderSeen) (a b cuts cuts' left : List ℕ) (result : Result (Option Reply) LookError)
-    → (read_from judge asked.slave_id 0 a).found ≡ (read_from judge' asked.slave_id 0 b).found → LooksAs (frames_by judge) asked a cuts left result → LooksAs (frames_by judge') asked b cuts' left result
-looks_same judge judge' asked a b cuts cuts' left (Ok None) same finds = finds ∙ same
-looks_same judge judge' asked a b cuts cuts' left (Ok (Some found)) same (pdu, finds, means) = (pdu, finds ∙ same, means)
-looks_same judge judge' asked a b cuts cuts' left (Err (look.Broken fault)) same finds = finds ∙ same
-looks_same judge judge' asked a b cuts cuts' left (Err (look.Refused reason)) same (header, pdu, finds, means) = (header, pdu, finds ∙ same, means)
-looks_same judge judge' asked a b cuts cuts' left (Err look.NoMemory) same (rest, header, pdu, finds, carries) = (rest, header, pdu, finds ∙ same, carries)
+pub looks_same : (judge judge' : List ℕ → Verdict) (means : Meaning) (asked : HeaderSeen) (a b cuts cuts' left : List ℕ) (result : Result (Option Reply) LookError)
+    → (read_from judge asked.slave_id 0 a).found ≡ (read_from judge' asked.slave_id 0 b).found → LooksAs (frames_by judge means) asked a cuts left result → LooksAs (frames_by judge' means) asked b cuts' left result
+looks_same judge judge' read asked a b cuts cuts' left (Ok None) same finds = finds ∙ same
+looks_same judge judge' read asked a b cuts cuts' left (Ok (Some found)) same (pdu, finds, is) = (pdu, finds ∙ same, is)
+looks_same judge judge' read asked a b cuts cuts' left (Err (look.Broken fault)) same finds = finds ∙ same
+looks_same judge judge' read asked a b cuts cuts' left (Err (look.Refused reason)) same (header, pdu, finds, is) = (header, pdu, finds ∙ same, is)
+looks_same judge judge' read asked a b cuts cuts' left (Err look.NoMemory) same (rest, header, pdu, finds, carries) = (rest, header, pdu, finds ∙ same, carries)
 
 -- one look
-module _ (judge : List ℕ → Verdict) (asked : HeaderSeen) (bytes held : List ℕ) (dropped before after : ℕ) (sum : after ≡ min (before + dropped) (2 ^ 64 - 1)) where
+module _ (judge : List ℕ → Verdict) (means : Meaning) (asked : HeaderSeen) (bytes held : List ℕ) (dropped before after : ℕ) (sum : after ≡ min (before + dropped) (2 ^ 64 - 1)) where
   front_found : (found : Option ℕ) (d : DropsFront judge asked.slave_id bytes held dropped found) → (read_from judge asked.slave_id 0 bytes).found ≡ (read_from judge asked.slave_id 0 held).found
   front_found found d = found_of _ _ d.reads
 
@@ -38,7 +38,7 @@ module _ (judge : List ℕ → Verdict) (asked : HeaderSeen) (bytes held : List 
       → after ≡ told_count (before + (read_from judge asked.slave_id 0 bytes).others)
   count_by found d none = let all = others_of _ _ d.reads in let tells = d.tells in omega (arith, sum, none, all, tells)
 
-  pub looks_waiting : DropsFront judge asked.slave_id bytes held dropped None → LooksBy judge asked bytes held before after (Ok None)
+  pub looks_waiting : DropsFront judge asked.slave_id bytes held dropped None → LooksBy judge means asked bytes held before after (Ok None)
   looks_waiting d = record {
     finds = sym (front_found None d ∙ found_of _ _ d.leaves);
     counts = count_by None d (others_of _ _ d.leaves);
@@ -54,36 +54,36 @@ module _ (judge : List ℕ → Verdict) (asked : HeaderSeen) (bytes held : List 
     at_left : (left : List ℕ) → left ≡ drop (n + overhead) held → reply left (slave_seen asked.slave_id) (take n (drop 1 held)) ≡ (read_from judge asked.slave_id 0 bytes).found
     at_left left is = ap (λ l. reply l (slave_seen asked.slave_id) (take n (drop 1 held))) is ∙ is_reply
 
-    pub looks_taken : (left : List ℕ) (found : Reply) → TakesReply asked.slave_id n held left (Ok found) → LooksBy judge asked bytes left before after (Ok (Some found))
-    looks_taken left found (header, means, rest) = record {
-      finds = (take n (drop 1 held), ap (λ h. reply left h (take n (drop 1 held))) header ∙ at_left left rest, means);
+    pub looks_taken : (left : List ℕ) (found : Reply) → TakesReply means asked.slave_id n held left (Ok found) → LooksBy judge means asked bytes left before after (Ok (Some found))
+    looks_taken left found (header, is, rest) = record {
+      finds = (take n (drop 1 held), ap (λ h. reply left h (take n (drop 1 held))) header ∙ at_left left rest, is);
       counts = counted;
     }
 
-    pub looks_failed : (left : List ℕ) (error : LookError) → TakesReply asked.slave_id n held left (Err error) → LooksBy judge asked bytes left before after (Err error)
+    pub looks_failed : (left : List ℕ) (error : LookError) → TakesReply means asked.slave_id n held left (Err error) → LooksBy judge means asked bytes left before after (Err error)
     looks_failed left (look.Broken fault) takes = absurd takes
-    looks_failed left (look.Refused reason) (means, rest) = record { finds = (slave_seen asked.slave_id, take n (drop 1 held), at_left left rest, means); counts = counted }
+    looks_failed left (look.Refused reason) (is, rest) = record { finds = (slave_seen asked.slave_id, take n (drop 1 held), at_left left rest, is); counts = counted }
     looks_failed left look.NoMemory carries = record {
       finds = (drop (n + overhead) held, slave_seen asked.slave_id, take n (drop 1 held), is_reply, carries);
       counts = counted;
     }
 
 -- bytes came behind those in which the search waited
-module _ (asked : HeaderSeen) (bytes cuts earlier more old : List ℕ) (s : waiting earlier ≡ (read_from line_verdict asked.slave_id 0 bytes).found) (is : old ≡ earlier ++ more) where
+module _ (means : Meaning) (asked : HeaderSeen) (bytes cuts earlier more old : List ℕ) (s : waiting earlier ≡ (read_from line_verdict asked.slave_id 0 bytes).found) (is : old ≡ earlier ++ more) where
   whole_read : read_from line_verdict asked.slave_id 0 (bytes ++ more) ≡ behind (read_from line_verdict asked.slave_id 0 bytes).others (read_from line_verdict asked.slave_id 0 old)
   whole_read =
       reads_on line_verdict line_verdict more (λ adu. line_decided adu more) line_within asked.slave_id 0 bytes (omega arith) earlier (sym s)
       ∙ ap (λ b. behind (read_from line_verdict asked.slave_id 0 bytes).others (read_from line_verdict asked.slave_id 0 b)) (sym is)
 
-  pub line_looks : (now left : List ℕ) (before after : ℕ) (result : Result (Option Reply) LookError) → LooksBy line_verdict asked old left before after result → LooksAs (frames_by line_verdict) asked (bytes ++ more) now left result
-  line_looks now left before after result l = looks_same line_verdict line_verdict asked old (bytes ++ more) [] now left result (sym (found_of _ _ whole_read)) l.finds
+  pub line_looks : (now left : List ℕ) (before after : ℕ) (result : Result (Option Reply) LookError) → LooksBy line_verdict means asked old left before after result → LooksAs (frames_by line_verdict means) asked (bytes ++ more) now left result
+  line_looks now left before after result l = looks_same line_verdict line_verdict means asked old (bytes ++ more) [] now left result (sym (found_of _ _ whole_read)) l.finds
 
-  pub line_counts : (left : List ℕ) (before after : ℕ) (result : Result (Option Reply) LookError) → LooksBy line_verdict asked old left before after result → before ≡ told_count (read_from line_verdict asked.slave_id 0 bytes).others
+  pub line_counts : (left : List ℕ) (before after : ℕ) (result : Result (Option Reply) LookError) → LooksBy line_verdict means asked old left before after result → before ≡ told_count (read_from line_verdict asked.slave_id 0 bytes).others
       → after ≡ told_count (read_from line_verdict asked.slave_id 0 (bytes ++ more)).others
   line_counts left before after result l counts = let all = others_of _ _ whole_read in let now = l.counts in omega (arith, all, now, counts)
 
 -- the line fell silent behind bytes in which the search waited
-module _ (asked : HeaderSeen) (bytes cuts old : List ℕ) (s : waiting old ≡ (read_from line_verdict asked.slave_id 0 bytes).found) where
+module _ (means : Meaning) (asked : HeaderSeen) (bytes cuts old : List ℕ) (s : waiting old ≡ (read_from line_verdict asked.slave_id 0 bytes).found) where
   silent_again : (adu : List ℕ) → line_verdict adu ≢ Open → silent_verdict (adu ++ []) ≡ line_verdict adu
   silent_again adu ne = ap silent_verdict (append-nil adu) ∙ silent_decided adu ne
 
@@ -93,11 +93,11 @@ module _ (asked : HeaderSeen) (bytes cuts old : List ℕ) (s : waiting old ≡ (
       ∙ reads_on line_verdict silent_verdict [] silent_again line_within asked.slave_id 0 bytes (omega arith) old (sym s)
       ∙ ap (λ b. behind (read_from line_verdict asked.slave_id 0 bytes).others (read_from silent_verdict asked.slave_id 0 b)) (append-nil old)
 
-  pub silent_looks : (left : List ℕ) (before after : ℕ) (result : Result (Option Reply) LookError) → LooksBy silent_verdict asked old left before after result → LooksAs (frames_by silent_verdict) asked bytes cuts left result
-  silent_looks left before after result l = looks_same silent_verdict silent_verdict asked old bytes [] cuts left result (sym (found_of _ _ silent_read)) l.finds
+  pub silent_looks : (left : List ℕ) (before after : ℕ) (result : Result (Option Reply) LookError) → LooksBy silent_verdict means asked old left before after result → LooksAs (frames_by silent_verdict means) asked bytes cuts left result
+  silent_looks left before after result l = looks_same silent_verdict silent_verdict means asked old bytes [] cuts left result (sym (found_of _ _ silent_read)) l.finds
 
 -- a frame that is taken off is of no fault of a protocol
-pub takes_own : (asked n : ℕ) (bytes left : List ℕ) (error : LookError) → TakesReply asked n bytes left (Err error) → (let result : Result (Option Reply) LookError = Err error in IsOwn result)
-takes_own asked n bytes left (look.Broken fault) takes = absurd takes
-takes_own asked n bytes left (look.Refused reason) takes = tt
-takes_own asked n bytes left look.NoMemory takes = tt
+pub takes_own : (means : Meaning) (asked n : ℕ) (bytes left : List ℕ) (error : LookError) → TakesReply means asked n bytes left (Err error) → (let result : Result (Option Reply) LookError = Err error in IsOwn result)
+takes_own means asked n bytes left (look.Broken fault) takes = absurd takes
+takes_own means asked n bytes left (look.Refused reason) takes = tt
+takes_own means asked n bytes left look.NoMemory takes = tt

@@ -15,7 +15,7 @@ use Rattle.modbus_frame.specs.declared.fault.TransportError.TheVariants as trans
 use Rattle.modbus_pdu.specs.Encodes.{Fits, Refuses, told_size}
 use Rattle.modbus_pdu.specs.Limits.{max_pdu}
 use Rattle.modbus_pdu.specs.RequestPdu.{request_pdu}
-use Rattle.modbus_pdu.specs.ResponseOf.{AnswerCarriesMemory, response_result_of}
+use Rattle.modbus_pdu.specs.ResponseOf.{AnswerCarriesMemory}
 use Rattle.modbus_client.specs.declared.protocol.Reply.{Reply}
 use Rattle.modbus_client.specs.declared.protocol.LookError.{LookError}
 use Rattle.modbus_client.specs.declared.protocol.LookError.TheVariants as look
@@ -106,15 +106,15 @@ pub record OpensCall {H : Type 0} (P : Protocol H) (header : H) (asked : Asked) 
 abbrev pub WantsForCall : {H : Type 0} → Protocol H → HeaderSeen → List ℕ → List ℕ → Type 0
 WantsForCall P asked bytes cuts =
     (rest : List ℕ) × (header : HeaderSeen) × (pdu : List ℕ) × P.Finds asked bytes cuts (reply rest header pdu)
-    × IsOkAnd (response_result_of pdu) AnswerCarriesMemory
+    × IsOkAnd (P.means pdu) AnswerCarriesMemory
 
 -- one look at the bytes that are held after some were fed, by all bytes that were fed and their cuts
 abbrev pub LooksAs : {H : Type 0} → Protocol H → HeaderSeen → List ℕ → List ℕ → List ℕ → Result (Option Reply) LookError → Type 0
 LooksAs P asked bytes cuts held (Ok None) = P.Finds asked bytes cuts (waiting held)
-LooksAs P asked bytes cuts held (Ok (Some found)) = (pdu : List ℕ) × P.Finds asked bytes cuts (reply held found.header pdu) × (response_result_of pdu ≡ Ok found.result)
+LooksAs P asked bytes cuts held (Ok (Some found)) = (pdu : List ℕ) × P.Finds asked bytes cuts (reply held found.header pdu) × (P.means pdu ≡ Ok found.result)
 LooksAs P asked bytes cuts held (Err (look.Broken fault)) = P.Finds asked bytes cuts (broken held fault)
 LooksAs P asked bytes cuts held (Err (look.Refused reason)) =
-    (header : HeaderSeen) × (pdu : List ℕ) × P.Finds asked bytes cuts (reply held header pdu) × (response_result_of pdu ≡ Err reason)
+    (header : HeaderSeen) × (pdu : List ℕ) × P.Finds asked bytes cuts (reply held header pdu) × (P.means pdu ≡ Err reason)
 LooksAs P asked bytes cuts held (Err look.NoMemory) = WantsForCall P asked bytes cuts
 
 -- a fault is one of those that are left to protocols
@@ -126,14 +126,14 @@ IsOwn _ = Unit {0}
 abbrev pub IsJudged : {H : Type 0} → Protocol H → HeaderSeen → FunctionCode → List ℕ → List ℕ → List ℕ → Answer → Type 0
 IsJudged P asked function bytes cuts held answer =
     (header : HeaderSeen) × (pdu : List ℕ) × (result : Result Response ExceptionResponse) × P.Finds asked bytes cuts (reply held header pdu)
-    × (response_result_of pdu ≡ Ok result) × Judges asked function header result answer
+    × (P.means pdu ≡ Ok result) × Judges asked function header result answer
 
 -- the answers that the bytes give, by all that were fed and their cuts, and by what is then held
 abbrev pub IsAnswered : {H : Type 0} → Protocol H → HeaderSeen → FunctionCode → List ℕ → List ℕ → List ℕ → Answer → Type 0
 IsAnswered P asked function bytes cuts held (Ok result) = IsJudged P asked function bytes cuts held (Ok result)
 IsAnswered P asked function bytes cuts held (Err (error.Protocol fault)) = IsJudged P asked function bytes cuts held (Err (error.Protocol fault))
 IsAnswered P asked function bytes cuts held (Err (error.Transport (transport.InvalidResponse reason))) =
-    (header : HeaderSeen) × (pdu : List ℕ) × P.Finds asked bytes cuts (reply held header pdu) × (response_result_of pdu ≡ Err reason)
+    (header : HeaderSeen) × (pdu : List ℕ) × P.Finds asked bytes cuts (reply held header pdu) × (P.means pdu ≡ Err reason)
 IsAnswered P asked function bytes cuts held (Err (error.Transport fault)) = IsOfProtocol fault × P.Finds asked bytes cuts (broken held fault)
 IsAnswered P asked function bytes cuts held (Err error.NoMemory) = WantsForCall P asked bytes cuts
 

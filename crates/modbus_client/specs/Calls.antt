@@ -17,7 +17,6 @@ use Rattle.modbus_frame.specs.declared.fault.TransportError.TheVariants as trans
 use Rattle.modbus_pdu.specs.Encodes.{Fits, told_size}
 use Rattle.modbus_pdu.specs.Limits.{max_pdu}
 use Rattle.modbus_pdu.specs.RequestPdu.{request_pdu}
-use Rattle.modbus_pdu.specs.ResponseOf.{response_result_of}
 use Rattle.modbus_client.specs.Limits.{read_room}
 use Rattle.modbus_client.specs.Protocol.{Protocol, Heading, waiting}
 use Rattle.modbus_client.specs.Matches.{Answer, IsOf, answer_of}
@@ -189,6 +188,6 @@ abbrev pub IsComplete : {L H I : Type 0} → Protocol H → Heading H I → Link
 IsComplete P N M old asked answer new =
     IsTrue old.is_connected → Fits (request_pdu asked) → IsTrue (M.input old.link).told
     → (Rose (M.input old.link).faults (M.input new.link).faults → ⊥) → (Rose (M.output old.link).faults (M.output new.link).faults → ⊥)
-    → (pdu : List ℕ) (result : Result Response ExceptionResponse) → P.IsWhole (next_header N old) pdu → response_result_of pdu ≡ Ok result → IsOf (function_asked asked) result
+    → (pdu : List ℕ) (result : Result Response ExceptionResponse) → P.IsWhole (next_header N old) pdu → P.means pdu ≡ Ok result → IsOf (function_asked asked) result
     → (M.input old.link).left ≡ P.adu (next_header N old) pdu → length (M.input old.link).left < old.turns
     → (answer ≡ answer_of result) ⊎ (answer ≡ Err NoMemory)

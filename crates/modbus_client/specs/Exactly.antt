@@ -9,8 +9,8 @@ use Rattle.modbus_frame.specs.declared.fault.Error.TheVariants.{Transport, NoMem
 use Rattle.modbus_frame.specs.declared.fault.HeaderSeen.{HeaderSeen}
 use Rattle.modbus_frame.specs.declared.fault.TransportError.{TransportError}
 use Rattle.modbus_frame.specs.declared.fault.TransportError.TheVariants as transport
-use Rattle.modbus_pdu.specs.ResponseOf.{AnswerCarriesMemory, response_result_of}
-use Rattle.modbus_client.specs.Protocol.{Found, waiting, reply, broken}
+use Rattle.modbus_pdu.specs.ResponseOf.{AnswerCarriesMemory}
+use Rattle.modbus_client.specs.Protocol.{Meaning, Found, waiting, reply, broken}
 use Rattle.modbus_client.specs.Matches.{Answer, Judges}
 
 -- the answer to a message of this header, by what its PDU stands for
@@ -31,12 +31,12 @@ IsOfWaiting (Ok result) = ⊥
 
 -- What a call tells of its search: a message gives its answer, unless memory is wanting for one that carries memory; a PDU that is
 -- refused and a fault of the bytes are told, whatever memory there is; where the search waits, the answer is none of the bytes.
-abbrev pub IsToldOf : HeaderSeen → FunctionCode → Found → Answer → Type 0
-IsToldOf asked function (waiting held) answer = IsOfWaiting answer
-IsToldOf asked function (reply held seen pdu) answer =
-    IsAnswerTo asked function seen (response_result_of pdu) answer
-    ⊎ ((answer ≡ Err NoMemory) × IsOkAnd (response_result_of pdu) AnswerCarriesMemory)
-IsToldOf asked function (broken held fault) answer = answer ≡ Err (Transport fault)
+abbrev pub IsToldOf : Meaning → HeaderSeen → FunctionCode → Found → Answer → Type 0
+IsToldOf means asked function (waiting held) answer = IsOfWaiting answer
+IsToldOf means asked function (reply held seen pdu) answer =
+    IsAnswerTo asked function seen (means pdu) answer
+    ⊎ ((answer ≡ Err NoMemory) × IsOkAnd (means pdu) AnswerCarriesMemory)
+IsToldOf means asked function (broken held fault) answer = answer ≡ Err (Transport fault)
 
 -- What a call tells whose search waits with these bytes held, where the request fits and nothing failed: that the turns ran out where so
 -- many reads gave bytes, and the end of the input where fewer did and nothing is left to read; or memory is wanting.

@@ -10,6 +10,7 @@ pub mod Silenced
 pub mod Ends
 pub mod Search
 pub mod Rtu
+pub mod Raw
 pub mod LineReading
 pub mod Tcp
 pub mod Exactly

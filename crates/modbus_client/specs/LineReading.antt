@@ -16,12 +16,13 @@ use Rattle.modbus_rtu.specs.Limits.{overhead, max_frame}
 use Rattle.modbus_rtu.specs.ResponseHead.{ResponseRule, response_rule, word_len, identified_len}
 use Rattle.modbus_rtu.specs.ResponseHead.ResponseRule.{fixed, counted, counted_word, identification, unknown}
 use Rattle.modbus_pdu.specs.ResponseOf.{AnswerCarriesMemory, response_result_of}
+use Rattle.modbus_client.specs.Raw.{raw_result_of}
 use Rattle.modbus_client.specs.declared.line.Step.{Step}
 use Rattle.modbus_client.specs.declared.line.Step.TheVariants.{Waits, Own, Past}
 use Rattle.modbus_client.specs.declared.protocol.Reply.{Reply}
 use Rattle.modbus_client.specs.declared.protocol.LookError.{LookError}
 use Rattle.modbus_client.specs.declared.protocol.LookError.TheVariants as look
-use Rattle.modbus_client.specs.Protocol.{Protocol, Found, waiting, reply}
+use Rattle.modbus_client.specs.Protocol.{Protocol, Meaning, Found, waiting, reply}
 use Rattle.modbus_client.specs.Call.{LooksAs}
 use Rattle.modbus_client.specs.Rtu.{slave_seen}
 
@@ -159,18 +160,19 @@ pub record DropsFront (judge : List ℕ → Verdict) (asked : ℕ) (bytes left :
   pub leaves : LeavesAs judge asked left found
 
 -- The frame at the front of bytes is taken off, whose PDU has so many bytes: what the PDU tells, or memory is wanting.
-abbrev pub TakesReply : ℕ → ℕ → List ℕ → List ℕ → Result Reply LookError → Type 0
-TakesReply asked n bytes left (Ok found) =
-    (found.header ≡ slave_seen asked) × (response_result_of (take n (drop 1 bytes)) ≡ Ok found.result) × (left ≡ drop (n + overhead) bytes)
-TakesReply asked n bytes left (Err (look.Broken fault)) = ⊥
-TakesReply asked n bytes left (Err (look.Refused reason)) = (response_result_of (take n (drop 1 bytes)) ≡ Err reason) × (left ≡ drop (n + overhead) bytes)
-TakesReply asked n bytes left (Err look.NoMemory) = IsOkAnd (response_result_of (take n (drop 1 bytes))) AnswerCarriesMemory
+abbrev pub TakesReply : Meaning → ℕ → ℕ → List ℕ → List ℕ → Result Reply LookError → Type 0
+TakesReply means asked n bytes left (Ok found) =
+    (found.header ≡ slave_seen asked) × (means (take n (drop 1 bytes)) ≡ Ok found.result) × (left ≡ drop (n + overhead) bytes)
+TakesReply means asked n bytes left (Err (look.Broken fault)) = ⊥
+TakesReply means asked n bytes left (Err (look.Refused reason)) = (means (take n (drop 1 bytes)) ≡ Err reason) × (left ≡ drop (n + overhead) bytes)
+TakesReply means asked n bytes left (Err look.NoMemory) = IsOkAnd (means (take n (drop 1 bytes))) AnswerCarriesMemory
 
--- the frames of a serial line, as the front of bytes is judged: the first of the slave that was asked is the reply
-abbrev pub frames_by : (List ℕ → Verdict) → Protocol Header
-frames_by judge = record {
+-- the frames of a serial line, as the front of bytes is judged, and as a PDU is read: the first of the slave that was asked is the reply
+abbrev pub frames_by : (List ℕ → Verdict) → Meaning → Protocol Header
+frames_by judge means = record {
   seen = λ header. slave_seen header.slave_id;
   adu = λ header pdu. frame header.slave_id pdu;
+  means = means;
   Finds = λ asked bytes cuts found. found ≡ (read_from judge asked.slave_id 0 bytes).found;
   Counts = λ asked bytes cuts dropped. dropped ≡ told_count (read_from judge asked.slave_id 0 bytes).others;
   IsWhole = λ header pdu. HasLineHead header.slave_id pdu;
@@ -178,13 +180,20 @@ frames_by judge = record {
 
 -- while more bytes may come, and in those that came until the line fell silent
 abbrev pub line_protocol : Protocol Header
-line_protocol = frames_by line_verdict
+line_protocol = frames_by line_verdict response_result_of
 
 abbrev pub silent_protocol : Protocol Header
-silent_protocol = frames_by silent_verdict
+silent_protocol = frames_by silent_verdict response_result_of
+
+-- the same, where the PDU of the reply is given as it is
+abbrev pub raw_line_protocol : Protocol Header
+raw_line_protocol = frames_by line_verdict raw_result_of
+
+abbrev pub raw_silent_protocol : Protocol Header
+raw_silent_protocol = frames_by silent_verdict raw_result_of
 
 -- One look at held bytes, as the front of bytes is judged: what their reading finds, and how many frames of other slaves it passed, beside
 -- those that were passed before.
-pub record LooksBy (judge : List ℕ → Verdict) (asked : HeaderSeen) (bytes left : List ℕ) (before after : ℕ) (result : Result (Option Reply) LookError) : Type 0 where
-  pub finds : LooksAs (frames_by judge) asked bytes [] left result
+pub record LooksBy (judge : List ℕ → Verdict) (means : Meaning) (asked : HeaderSeen) (bytes left : List ℕ) (before after : ℕ) (result : Result (Option Reply) LookError) : Type 0 where
+  pub finds : LooksAs (frames_by judge means) asked bytes [] left result
   pub counts : after ≡ told_count (before + (read_from judge asked.slave_id 0 bytes).others)

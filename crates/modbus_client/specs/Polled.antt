@@ -16,7 +16,6 @@ use Rattle.modbus_frame.specs.declared.fault.TransportError.TheVariants as trans
 use Rattle.modbus_pdu.specs.Encodes.{Fits, told_size}
 use Rattle.modbus_pdu.specs.Limits.{max_pdu}
 use Rattle.modbus_pdu.specs.RequestPdu.{request_pdu}
-use Rattle.modbus_pdu.specs.ResponseOf.{response_result_of}
 use Rattle.modbus_client.specs.Protocol.{Protocol}
 use Rattle.modbus_client.specs.Matches.{Answer, IsOf, answer_of}
 use Rattle.modbus_client.specs.Call.{CallState, CallStands, IsCallFor, IsSameCall}
@@ -133,5 +132,5 @@ AsksWhole {H} P from to old new answer = (header : H) (asked : Asked) (turns : �
 abbrev pub AnswersAlone : {H : Type 0} → Protocol H → Outside → Outside → H → Asked → ℕ → Answer → Type 0
 AnswersAlone P from to header asked turns answer =
     Fits (request_pdu asked) → IsTrue from.input.told → (Rose from.input.faults to.input.faults → ⊥) → (Rose from.output.faults to.output.faults → ⊥)
-    → (pdu : List ℕ) (result : Result Response ExceptionResponse) → P.IsWhole header pdu → response_result_of pdu ≡ Ok result → IsOf (function_asked asked) result
+    → (pdu : List ℕ) (result : Result Response ExceptionResponse) → P.IsWhole header pdu → P.means pdu ≡ Ok result → IsOf (function_asked asked) result
     → from.input.left ≡ P.adu header pdu → length from.input.left < turns → (answer ≡ answer_of result) ⊎ (answer ≡ Err NoMemory)

@@ -1,8 +1,11 @@
 -- What a protocol says of the bytes of a call: how a request is framed, and how the reply stands in the bytes that were read.
-use Rattle.std.specs.Prelude.{◌≡◌, ◌≢◌, ℕ, List, []}
+use Rattle.std.specs.Prelude.{◌≡◌, ◌≢◌, ℕ, List, [], Result}
 use Rattle.modbus_frame.specs.declared.fault.HeaderSeen.{HeaderSeen}
+use Rattle.modbus_frame.specs.declared.fault.Reason.{Reason}
 use Rattle.modbus_frame.specs.declared.fault.TransportError.{TransportError}
 use Rattle.modbus_frame.specs.declared.fault.TransportError.TheVariants.{TooManyRetries, InvalidLength, InvalidProtocol}
+use Rattle.modbus_frame.specs.declared.response.Response.{Response}
+use Rattle.modbus_frame.specs.declared.response.ExceptionResponse.{ExceptionResponse}
 
 -- How the search for a reply stands, and which bytes are then held.
 pub data Found : Type 0 where
@@ -13,12 +16,18 @@ pub data Found : Type 0 where
   -- there is none, and none comes by waiting
   broken : (held : List ℕ) (fault : TransportError) → Found
 
+-- what the PDU of a reply stands for, or why it stands for nothing
+abbrev pub Meaning : Type 0
+Meaning = List ℕ → Result (Result Response ExceptionResponse) Reason
+
 -- `Header` is what stands beside the PDU of a request.
 pub record Protocol (Header : Type 0) : Type 1 where
   -- what is compared of it
   pub seen : Header → HeaderSeen
   -- the bytes of a message
   pub adu : Header → List ℕ → List ℕ
+  -- what the PDU of a reply stands for
+  pub means : Meaning
   -- of what is compared of the request's header, of bytes, cuts and a search: so it stands in these bytes, which were read with these
   -- cuts
   pub Finds : HeaderSeen → List ℕ → List ℕ → Found → Type 0

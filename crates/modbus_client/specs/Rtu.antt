@@ -5,6 +5,7 @@ use Rattle.modbus_frame.specs.declared.rtu.Header.{Header}
 use Rattle.modbus_frame.specs.declared.fault.HeaderSeen.{HeaderSeen}
 use Rattle.modbus_frame.specs.declared.fault.TransportError.{TransportError}
 use Rattle.modbus_frame.specs.declared.fault.TransportError.TheVariants.{TooManyRetries}
+use Rattle.modbus_pdu.specs.ResponseOf.{response_result_of}
 use Rattle.modbus_pdu.specs.Message.{message}
 use Rattle.modbus_rtu.specs.Frame.{frame}
 use Rattle.modbus_rtu.specs.ResponseHead.{HasResponseHead}
@@ -48,6 +49,7 @@ abbrev pub rtu_protocol : Protocol Header
 rtu_protocol = record {
   seen = λ header. slave_seen header.slave_id;
   adu = λ header pdu. frame header.slave_id pdu;
+  means = response_result_of;
   Finds = λ asked. FindsReplyFrame;
   Counts = λ asked bytes cuts dropped. dropped ≡ 0;
   IsWhole = λ header pdu. HasResponseHead (message header.slave_id pdu);

@@ -4,6 +4,7 @@ use Rattle.modbus_frame.specs.declared.tcp.Header.{Header}
 use Rattle.modbus_frame.specs.declared.fault.HeaderSeen.{HeaderSeen}
 use Rattle.modbus_frame.specs.declared.fault.TransportError.{TransportError}
 use Rattle.modbus_frame.specs.declared.fault.TransportError.TheVariants.{InvalidLength, InvalidProtocol}
+use Rattle.modbus_pdu.specs.ResponseOf.{response_result_of}
 use Rattle.modbus_pdu.specs.Message.{Message, message}
 use Rattle.modbus_tcp.specs.Adu.{adu_of, IsAdu, stream_of}
 use Rattle.modbus_tcp.specs.Stream.{IsRest, empty, unfinished, no_length, foreign, BeginsWith}
@@ -30,6 +31,7 @@ abbrev pub tcp_protocol : Protocol Header
 tcp_protocol = record {
   seen = header_seen;
   adu = adu_of;
+  means = response_result_of;
   Finds = λ asked. FindsReplyAdu;
   Counts = λ asked bytes cuts dropped. dropped ≡ 0;
   IsWhole = λ header pdu. IsAdu (message header pdu);
@@ -90,6 +92,7 @@ abbrev pub matching_protocol : Protocol Header
 matching_protocol = record {
   seen = header_seen;
   adu = adu_of;
+  means = response_result_of;
   Finds = FindsOwnAdu;
   Counts = CountsOthers;
   IsWhole = λ header pdu. IsAdu (message header pdu);

@@ -39,7 +39,7 @@ pub fn searches_are_told<P: Protocol>()
         (r : Exchanged P.protocol (outside from sunk) (outside to sinks) header asked turns held
         answer) (found : Found)
         → P.protocol.Finds (P.protocol.seen header) r.fed (totals r.made) found
-        → IsToldOf (P.protocol.seen header) (function_asked asked) found answer }
+        → IsToldOf P.protocol.means (P.protocol.seen header) (function_asked asked) found answer }
     ensures waiting { (from to : Input) (sunk sinks : Output) (header : P.Header) (asked : Asked)
         (turns : ℕ) (held kept : List ℕ) (answer : Answer)
         (r : Exchanged P.protocol (outside from sunk) (outside to sinks) header asked turns held

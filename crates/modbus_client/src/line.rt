@@ -4,17 +4,17 @@ ghost use Rattle.std.specs.Prelude.{◌≡◌, ◌≢◌, ℕ, ◌+◌, ◌<◌,
 ghost use Rattle.modbus_rtu.specs.Limits.{overhead};
 ghost use Rattle.modbus_rtu.specs.declared.verdict.Verdict.{Verdict};
 ghost use Rattle.modbus_rtu.specs.declared.verdict.Verdict.TheVariants.{Open, Good};
-ghost use Rattle.modbus_client.specs.LineReading.{line_verdict, silent_verdict, closed, StepsAs, DropsFront, LooksBy, TakesReply, line_protocol, silent_protocol};
+ghost use Rattle.modbus_client.specs.LineReading.{line_verdict, silent_verdict, closed, StepsAs, DropsFront, LooksBy, TakesReply, line_protocol, silent_protocol, raw_line_protocol, raw_silent_protocol};
 ghost use Rattle.modbus_client.specs.Call.{IsOwn};
 ghost use Rattle.modbus_client.specs.Rtu.{rtu_heading};
 
 use crate::line_length::{LineRule, OVERHEAD, SilentRule};
 use crate::protocol::{LineProtocol, LookError, Protocol, Reply};
+use crate::reading::{AsBytes, AsResponse, Reading};
 use crate::rtu::Frames;
 use bytes::BytesMut;
 use modbus_frame::rtu::Header;
 use modbus_frame::{EncodeError, HeaderSeen, PduError, Request, Slave};
-use modbus_pdu::read_response_pdu;
 use modbus_rtu::{Verdict, judge_by};
 use std::alloc::Global;
 use std::marker::Model;
@@ -112,19 +112,19 @@ fn drop_front<J: Judge>(asked: u8, held: &mut BytesMut) -> (u64, Option<usize>)
 /// Takes off the frame at the front of the held bytes, whose PDU has so many bytes.
 ///
 /// # Errors
-/// `Refused` where the PDU is no response; the frame is gone. `NoMemory` where memory is refused for a PDU that carries a list or bytes.
-fn take_reply(
+/// `Refused` where the PDU stands for nothing; the frame is gone. `NoMemory` where memory is refused for a PDU that carries a list or bytes.
+fn take_reply<R: Reading>(
     alloc: Global,
     asked: u8,
     pdu_len: usize,
     held: &mut BytesMut,
 ) -> std::result::Result<Reply, LookError>
     requires { pdu_len + overhead ≤ length held.old.items }
-    ensures { TakesReply asked pdu_len held.old.items held.new.items result }
+    ensures { TakesReply R.means asked pdu_len held.old.items held.new.items result }
 {
     let _len = held.len();
     let end = pdu_len + OVERHEAD;
-    match read_response_pdu(alloc, &held.as_slice()[1..pdu_len + 1]) {
+    match R::read(alloc, &held.as_slice()[1..pdu_len + 1]) {
         Ok(pdu) => {
             held.advance(end);
             Ok(Reply {
@@ -137,6 +137,31 @@ fn take_reply(
             Err(LookError::Refused(reason))
         }
         Err(PduError::NoMemory) => Err(LookError::NoMemory),
+    }
+}
+
+/// Looks for the reply, as the front of bytes is judged, and counts the frames of other slaves that it drops.
+///
+/// # Errors
+/// Those of `take_reply`.
+fn look_by<J: Judge, R: Reading>(
+    others: &mut u64,
+    alloc: Global,
+    asked: HeaderSeen,
+    held: &mut BytesMut,
+) -> std::result::Result<Option<Reply>, LookError>
+    ensures own { IsOwn result }
+    ensures looks { LooksBy J.verdict R.means asked held.old.items held.new.items others.old
+        others.new result }
+{
+    let (dropped, found) = drop_front::<J>(asked.slave_id, held);
+    *others = others.saturating_add(dropped);
+    let Some(pdu_len) = found else {
+        return Ok(None);
+    };
+    match take_reply::<R>(alloc, asked.slave_id, pdu_len, held) {
+        Ok(reply) => return Ok(Some(reply)),
+        Err(error) => return Err(error),
     }
 }
 
@@ -154,30 +179,6 @@ impl Model for LineFrames {
     ghost Value = { ℕ };
 
     ghost view = { λ frames. frames.others };
-}
-
-impl LineFrames {
-    /// Looks for the reply, as the front of bytes is judged.
-    fn look_by<J: Judge>(
-        &mut self,
-        alloc: Global,
-        asked: HeaderSeen,
-        held: &mut BytesMut,
-    ) -> std::result::Result<Option<Reply>, LookError>
-        ensures own { IsOwn result }
-        ensures looks { LooksBy J.verdict asked held.old.items held.new.items self.old self.new
-            result }
-    {
-        let (dropped, found) = drop_front::<J>(asked.slave_id, held);
-        self.others = self.others.saturating_add(dropped);
-        let Some(pdu_len) = found else {
-            return Ok(None);
-        };
-        match take_reply(alloc, asked.slave_id, pdu_len, held) {
-            Ok(reply) => return Ok(Some(reply)),
-            Err(error) => return Err(error),
-        }
-    }
 }
 
 impl Protocol for LineFrames {
@@ -220,7 +221,7 @@ impl Protocol for LineFrames {
         asked: HeaderSeen,
         held: &mut BytesMut,
     ) -> std::result::Result<Option<Reply>, LookError> {
-        self.look_by::<Coming>(alloc, asked, held)
+        look_by::<Coming, AsResponse>(&mut self.others, alloc, asked, held)
     }
 
     fn dropped(&self) -> u64 {
@@ -239,6 +240,84 @@ impl LineProtocol for LineFrames {
         asked: HeaderSeen,
         held: &mut BytesMut,
     ) -> std::result::Result<Option<Reply>, LookError> {
-        self.look_by::<Silent>(alloc, asked, held)
+        look_by::<Silent, AsResponse>(&mut self.others, alloc, asked, held)
+    }
+}
+
+/// The same frames, where the PDU of the reply is given as it came: its function code and the bytes behind it, or an exception.
+///
+/// So a client reads what no kind of response has room for, as the run status of a server that isn't 00 or FF (V1.1b3, section 6.13).
+#[derive(Drop)]
+pub struct RawLineFrames {
+    others: u64,
+}
+
+/// A contract sees how many frames of other slaves were dropped.
+impl Model for RawLineFrames {
+    ghost Value = { ℕ };
+
+    ghost view = { λ frames. frames.others };
+}
+
+impl Protocol for RawLineFrames {
+    type Header = Header;
+
+    type Ids = ();
+
+    ghost protocol = { raw_line_protocol };
+
+    ghost heading = { rtu_heading };
+
+    ghost dropped_by = { λ dropped. dropped };
+
+    fn new() -> RawLineFrames {
+        RawLineFrames { others: 0 }
+    }
+
+    fn first_ids() {}
+
+    fn draw(_ids: &mut (), slave: Slave) -> Header {
+        Header { slave_id: slave.0 }
+    }
+
+    fn seen(header: Header) -> HeaderSeen {
+        Frames::seen(header)
+    }
+
+    fn encode(
+        alloc: Global,
+        header: Header,
+        request: &Request<'_>,
+        buf: &mut BytesMut,
+    ) -> std::result::Result<(), EncodeError> {
+        Frames::encode(alloc, header, request, buf)
+    }
+
+    fn look(
+        &mut self,
+        alloc: Global,
+        asked: HeaderSeen,
+        held: &mut BytesMut,
+    ) -> std::result::Result<Option<Reply>, LookError> {
+        look_by::<Coming, AsBytes>(&mut self.others, alloc, asked, held)
+    }
+
+    fn dropped(&self) -> u64 {
+        self.others
+    }
+
+    fn laws() {}
+}
+
+impl LineProtocol for RawLineFrames {
+    ghost silent = { raw_silent_protocol };
+
+    fn look_silent(
+        &mut self,
+        alloc: Global,
+        asked: HeaderSeen,
+        held: &mut BytesMut,
+    ) -> std::result::Result<Option<Reply>, LookError> {
+        look_by::<Silent, AsBytes>(&mut self.others, alloc, asked, held)
     }
 }

@@ -1,6 +1,9 @@
 //! A client over a link, whatever its protocol.
-ghost use Rattle.std.specs.Prelude.{◌≡◌, ◌↔◌, IsNone, IfSome, IfOk, IfErr, IsTrue, false, length, not};
+ghost use Rattle.std.specs.Prelude.{◌≡◌, ◌↔◌, ◌<◌, ◌≤◌, IsNone, IfSome, IfOk, IfErr, OnErr, IsTrue, false, length, not};
+ghost use Rattle.std.specs.Io.{ReadsAtMost};
 ghost use Rattle.modbus_link.specs.Line.{meaning_of};
+ghost use Rattle.modbus_link.specs.Outside.{Rose, Advances, ReadIsTold};
+ghost use Rattle.modbus_link.specs.Polled.{at_once, Waited};
 ghost use Rattle.modbus_frame.specs.Meaning.{meaning};
 ghost use Rattle.modbus_client.specs.State.{attached_client, with_next_header, next_header};
 ghost use Rattle.modbus_client.specs.Sends.{stays_connected};
@@ -9,12 +12,13 @@ ghost use Rattle.modbus_client.specs.Ends.{Disconnected, Limited};
 
 use crate::client::Client;
 use crate::drive::{exchange, send};
+use crate::idle::IdleLink;
 use crate::protocol::Protocol;
 use bytes::BytesMut;
 use modbus_frame::{
     Error, Request, Response, Result, ShutdownFault, Slave, SlaveContext, TransportError,
 };
-use modbus_link::{Failed, Link};
+use modbus_link::{Failed, Link, Polled};
 use std::alloc::Global;
 use std::marker::Model;
 use std::time::Duration;
@@ -162,6 +166,31 @@ impl<P: Protocol, L: Link> LinkClient<P, L> {
         if self.is_connected {
             self.link.set_timeout(duration);
         }
+    }
+}
+
+impl<P: Protocol, L: IdleLink> LinkClient<P, L> {
+    /// Looks at the link between two calls: reads into the front of `room` what came and was not asked for; `Pending` where nothing did. It
+    /// writes nothing.
+    ///
+    /// # Errors
+    /// `Failed`, only where the link's count of read faults rose; then nothing was given.
+    pub fn look(&mut self, room: &mut [u8]) -> std::result::Result<Polled<usize>, Failed>
+        requires { 0 < length room.old }
+        ensures bound { ReadsAtMost (at_once result) room.new }
+        ensures source { Advances (L.input self.old.link) (L.input self.new.link) }
+        ensures told { IsTrue (L.input self.old.link).told
+            → ReadIsTold (L.input self.old.link) (L.input self.new.link) room.old room.new
+            (at_once result) }
+        ensures cause { OnErr result (Rose (L.input self.old.link).faults
+            (L.input self.new.link).faults) }
+        ensures looked { Waited result (L.looks self.old.link) (L.looks self.new.link) }
+        ensures later { L.looks self.old.link ≤ L.looks self.new.link }
+        ensures sink { L.output self.new.link ≡ L.output self.old.link }
+        ensures line { L.line self.new.link ≡ L.line self.old.link }
+        ensures rest { self.new ≡ record self.old { link = self.new.link } }
+    {
+        self.link.look(room)
     }
 }
 

@@ -5,7 +5,7 @@ ghost use Rattle.modbus_client.specs.Rtu.{rtu_protocol, rtu_heading};
 ghost use Rattle.modbus_client.specs.State.{attached_client};
 ghost use Rattle.modbus_client.specs.Polled.{OpensPolled};
 
-pub use crate::line::LineFrames;
+pub use crate::line::{LineFrames, RawLineFrames};
 use crate::link_client::LinkClient;
 use crate::protocol::{LookError, Protocol, Reply};
 use bytes::BytesMut;

@@ -1,11 +1,13 @@
 -- What a serial line that tells silence does with one request of a gateway.
-use Rattle.std.specs.Prelude.{◌≡◌, ◌≢◌, ℕ, Option, Some, None, IsTrue}
-use Rattle.modbus_frame.specs.Meaning.{Asked}
+use Rattle.std.specs.Prelude.{◌≡◌, ◌≢◌, ℕ, [], Option, Some, None, IsTrue}
+use Rattle.modbus_frame.specs.FunctionCodes.{report_server_id}
+use Rattle.modbus_frame.specs.Meaning.{Asked, ReportServerId, Custom}
 use Rattle.modbus_frame.specs.declared.rtu.Header.{Header}
 use Rattle.modbus_service.specs.Outcome.{Outcome}
 use Rattle.modbus_service.specs.Answering.{Answering}
+use Rattle.modbus_client.specs.Matches.{Answer}
 use Rattle.modbus_reconnect.specs.SettleState.{SettlingState, LineMeaning}
-use Rattle.modbus_reconnect.specs.OnLine.{IsStanding, CallsStanding}
+use Rattle.modbus_reconnect.specs.OnLine.{IsStanding, CallsStanding, CallsRaw}
 use Rattle.modbus_reconnect.specs.Tells.{SendsStanding}
 use Rattle.modbus_gateway.specs.Answer.{LineAnswer, of_call, of_sending, line_outcome}
 use Rattle.modbus_gateway.specs.Turns.{Turns}
@@ -21,11 +23,18 @@ SerialMeaning L = LineMeaning Header (Unit {0}) L
 abbrev pub to_unit : {L : Type 0} → ℕ → SerialState L → SerialState L
 to_unit slave line = record line { settings = record line.settings { slave = slave } }
 
+-- A call of one slave. The reply to Report Server ID, and to a function that has no kind of its own, goes back with the bytes that came: it
+-- tells nothing of what was asked (Modbus Application Protocol V1.1b3, section 6.13).
+abbrev pub CallsSlave : {L : Type 0} → SerialMeaning L → SerialState L → Asked → Answer → SerialState L → Type 0
+CallsSlave m old ReportServerId answer new = CallsRaw m old (Custom report_server_id []) answer new
+CallsSlave m old (Custom code bytes) answer new = CallsRaw m old (Custom code bytes) answer new
+CallsSlave m old request answer new = CallsStanding m old request answer new
+
 -- One exchange on the line, by the unit identifier and the request. Unit 0 is the broadcast address of the line: the request is sent to all
 -- slaves, and no reply is waited for. Each other unit is the slave of that number, which is called. Either way a line in doubt is settled
 -- first, and where that fails nothing is sent.
 abbrev pub AsksSerial : {L : Type 0} → SerialMeaning L → SerialState L → ℕ → Asked → LineAnswer → SerialState L → Type 0
-AsksSerial m old unit request (of_call answer) new = (unit ≢ 0) × CallsStanding m (to_unit unit old) request answer new
+AsksSerial m old unit request (of_call answer) new = (unit ≢ 0) × CallsSlave m (to_unit unit old) request answer new
 AsksSerial m old unit request (of_sending told) new = (unit ≡ 0) × SendsStanding m (to_unit unit old) request told new
 
 -- The exchange that a request leads to, with this answer of the line.

@@ -9,7 +9,9 @@ ghost use Rattle.modbus_gateway.specs.Serial.{forwards_settled};
 use crate::answer::{answer_broadcast, answer_call};
 use crate::gateway::Forwarder;
 use modbus_client::Client;
-use modbus_frame::{Response, Slave, SlaveContext, SlaveRequest};
+use modbus_frame::function_code::REPORT_SERVER_ID;
+use modbus_frame::{Request, Response, Slave, SlaveContext, SlaveRequest};
+use modbus_link::TimedLink;
 use modbus_reconnect::{IdleLink, SerialClient};
 use modbus_service::ServiceError;
 use std::marker::Model;
@@ -40,7 +42,7 @@ impl<L> SerialLine<L> {
 
 /// Each request is one exchange on the line: a call of the slave, or for unit 0 a request that is sent to all slaves. A line that does not
 /// settle, or has ended, is told by the exception 0A, and then nothing is sent.
-impl<L: IdleLink + Send + Drop> Forwarder for SerialLine<L> {
+impl<L: TimedLink + IdleLink + Send + Drop> Forwarder for SerialLine<L> {
     ghost forwarding = { forwards_settled
         (line_by line_protocol silent_protocol rtu_heading (meaning_of L.input L.output L.line) L.not_ready L.looks) };
 
@@ -48,9 +50,15 @@ impl<L: IdleLink + Send + Drop> Forwarder for SerialLine<L> {
         let unit = Slave(request.slave);
         self.client.set_slave(unit);
         if unit.is_broadcast() {
-            answer_broadcast(self.client.send(request.request))
-        } else {
-            answer_call(self.client.call(request.request))
+            return answer_broadcast(self.client.send(request.request));
+        }
+        // What the reply tells of the request is compared by the client; where it tells nothing of that, its bytes go back as they came.
+        match &request.request {
+            Request::ReportServerId => answer_call(self.client.call_raw(REPORT_SERVER_ID, &[])),
+            Request::Custom(function, data) => {
+                answer_call(self.client.call_raw(*function, data.as_slice()))
+            }
+            _ => answer_call(self.client.call(request.request)),
         }
     }
 }

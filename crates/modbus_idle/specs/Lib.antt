@@ -1,1 +1,2 @@
 pub mod PortLine
+pub mod Watched

@@ -11,7 +11,7 @@ use Rattle.modbus_reconnect.specs.Settles.{Settles}
 use Rattle.modbus_reconnect.specs.SettleState.{SettlingState, LineMeaning}
 use Rattle.modbus_reconnect.specs.Silences.{silences_in}
 use Rattle.modbus_reconnect.specs.Looks.{SettlesLine, LooksAt, ClearsAfter, ClearsLine, more_dropped}
-use Rattle.modbus_reconnect.specs.OnLine.{OwesNothing, settled, looked, called, quiet_silences, ClearsIf, next_question, AsksOn, IsStanding, unconnected, unsettled, asks, CallsStanding}
+use Rattle.modbus_reconnect.specs.OnLine.{OwesNothing, settled, looked, called, called_raw, read_raw, quiet_time, quiet_silences, ClearsIf, next_question, AsksOn, IsStanding, unconnected, unsettled, asks, CallsReading, CallsStanding, CallsRaw}
 
 -- it was settled by as many silences as are wanted
 pub settles_line : {H I L : Type 0} (m : LineMeaning H I L) (told silences limit : ℕ) (before after : L) (result : Result ℕ Unsettled) → told ≡ silences
@@ -49,7 +49,7 @@ module _ {H I L : Type 0} (m : LineMeaning H I L) (silences limit : ℕ) (some :
 -- nothing is owed on a line that was cleared
 pub clear_owes : {H I L : Type 0} (m : LineMeaning H I L) (old clear : SettlingState I L) → ClearsIf true m old clear → IsStanding m old → OwesNothing m clear.link
 clear_owes m old clear cleared stands =
-    line_owes m (quiet_silences old) old.settings.limit (some_silences (as_nanos old.settings.quiet) (as_nanos old.settings.silence)) old.in_doubt old.link clear.link clear.dropped stands cleared.0
+    line_owes m (quiet_silences old) old.settings.limit (some_silences (as_nanos (quiet_time old)) (as_nanos old.settings.silence)) old.in_doubt old.link clear.link clear.dropped stands cleared.0
 
 settled_by : (nothing : Bool) → not nothing ≡ false → nothing ≡ true
 settled_by true clear = refl
@@ -59,6 +59,11 @@ settled_by false clear = sym clear
 pub asked_stands : {H I L : Type 0} (m : LineMeaning H I L) (clear new : SettlingState I L) (asked : Asked) (turns : ℕ) (answer : Answer) → OwesNothing m clear.link → AsksOn m clear asked turns answer new → IsStanding m new
 asked_stands {I = I} {L = L} m clear new asked turns answer owes a = λ certain.
     called clear.link new.link (next_question m clear asked turns) a.held a.found owes a.ends
+    (settled_by (leaves_nothing asked a.found a.held) (sym (ap (λ (state : SettlingState I L). state.in_doubt) a.rest) ∙ certain))
+
+pub raw_stands : {H I L : Type 0} (m : LineMeaning H I L) (clear new : SettlingState I L) (asked : Asked) (turns : ℕ) (answer : Answer) → OwesNothing m clear.link → AsksOn (read_raw m) clear asked turns answer new → IsStanding m new
+raw_stands {I = I} {L = L} m clear new asked turns answer owes a = λ certain.
+    called_raw clear.link new.link (next_question m clear asked turns) a.held a.found owes a.ends
     (settled_by (leaves_nothing asked a.found a.held) (sym (ap (λ (state : SettlingState I L). state.in_doubt) a.rest) ∙ certain))
 
 -- a line that was not cleared is in doubt
@@ -74,16 +79,23 @@ calls_asked m old clear new asked answer connected cleared a = record {
   stands = λ stands. asked_stands m clear new asked clear.settings.turns answer (clear_owes m old clear cleared stands) a;
 }
 
-pub calls_unsettled : {H I L : Type 0} (m : LineMeaning H I L) (old new : SettlingState I L) (asked : Asked) (answer : Answer) → IsTrue old.is_connected → answer ≡ Err (Transport NotConnected)
-    → ClearsIf false m old new → CallsStanding m old asked answer new
-calls_unsettled m old new asked answer connected is kept = record {
+pub calls_raw : {H I L : Type 0} (m : LineMeaning H I L) (old clear new : SettlingState I L) (asked : Asked) (answer : Answer) → IsTrue old.is_connected → ClearsIf true m old clear
+    → AsksOn (read_raw m) clear asked clear.settings.turns answer new → CallsRaw m old asked answer new
+calls_raw m old clear new asked answer connected cleared a = record {
+  calls = asks connected clear cleared (clear_owes m old clear cleared) a;
+  stands = λ stands. raw_stands m clear new asked clear.settings.turns answer (clear_owes m old clear cleared stands) a;
+}
+
+pub calls_unsettled : {H I L : Type 0} (m n : LineMeaning H I L) (old new : SettlingState I L) (asked : Asked) (answer : Answer) → IsTrue old.is_connected → answer ≡ Err (Transport NotConnected)
+    → ClearsIf false m old new → CallsReading m n old asked answer new
+calls_unsettled m n old new asked answer connected is kept = record {
   calls = unsettled connected is kept;
   stands = λ stands. unsettled_stands m old new kept;
 }
 
-pub calls_unconnected : {H I L : Type 0} (m : LineMeaning H I L) (old new : SettlingState I L) (asked : Asked) (answer : Answer) → old.is_connected ≡ false → answer ≡ Err (Transport NotConnected)
-    → new ≡ old → CallsStanding m old asked answer new
-calls_unconnected {I = I} {L = L} m old new asked answer gone is same = record {
+pub calls_unconnected : {H I L : Type 0} (m n : LineMeaning H I L) (old new : SettlingState I L) (asked : Asked) (answer : Answer) → old.is_connected ≡ false → answer ≡ Err (Transport NotConnected)
+    → new ≡ old → CallsReading m n old asked answer new
+calls_unconnected {I = I} {L = L} m n old new asked answer gone is same = record {
   calls = unconnected gone is same;
   stands = λ stands. subst (λ (state : SettlingState I L). IsStanding m state) (sym same) stands;
 }

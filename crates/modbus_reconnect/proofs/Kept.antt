@@ -58,7 +58,7 @@ called_is_ready m address settings on after asked answer ready c leaves = record
   timed = ap (λ (line : Line). line.timeout) c.line ∙ ready.timed;
 }
 
-kept_by : {H I C L : Type 0} (m : Meaning H I C L) (address : SocketAddr) (settings : Settings) (after : ClientState I L) (nothing : Bool)
+pub kept_by : {H I C L : Type 0} (m : Meaning H I C L) (address : SocketAddr) (settings : Settings) (after : ClientState I L) (nothing : Bool)
     → (nothing ≡ true → IsReady m address settings after) → IsReadyIfSome m address settings (if nothing then Some after else None)
 kept_by m address settings after true ready = ready refl
 kept_by m address settings after false ready = tt

@@ -53,3 +53,8 @@ waits_after P true answer patience left w = record { first = w.first; more = by 
     by : (fault : Bool) → 0 < (if fault then left - 1 else patience) → TellsReplies P
     by true some = w.more (omega (arith, some))
     by false some = w.first some
+
+-- the same after a look
+pub waits_looked : {H : Type 0} (P : client.Protocol H) (kept : Bool) (patience left : ℕ) → MayWait P patience left → MayWait P patience (if kept then left else patience)
+waits_looked P false patience left w = record { first = w.first; more = w.first }
+waits_looked P true patience left w = w

@@ -7,3 +7,4 @@ pub mod Waited
 pub mod Cleared
 pub mod Told
 pub mod Late
+pub mod FoundIdle

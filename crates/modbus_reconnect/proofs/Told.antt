@@ -25,7 +25,7 @@ use Rattle.modbus_reconnect.specs.SettleState.{SettlingState, LineMeaning}
 use Rattle.modbus_reconnect.specs.Waits.{question_of, IsNoise, StillWaits, GivesUpBy, GivesUp, AnswersSilent, EndsFrom, EndsWait}
 use Rattle.modbus_reconnect.specs.Waits.IsNoise.{nothing, burst}
 use Rattle.modbus_reconnect.specs.OnLine.{reply_silences, ClearsIf, AsksOn, IsStanding}
-use Rattle.modbus_reconnect.specs.Tells.{told_of_answer, WritesQuestion, IsOfTelling, TellsLine, is_doubtful_after, TellsOn, unconnected, unsettled, sends, SendsStanding}
+use Rattle.modbus_reconnect.specs.Tells.{told_of_answer, WritesQuestion, IsOfTelling, TellsLine, is_doubtful_after, is_sent, TellsOn, unconnected, unsettled, sends, SendsStanding}
 use Rattle.modbus_reconnect.proofs.Settled.{leaves, leaves_doubt}
 use Rattle.modbus_reconnect.proofs.Cleared.{clear_owes, asked_stands, unsettled_stands}
 
@@ -277,20 +277,23 @@ fitted_same asked (Ok result) none = absurd (none result refl)
 fitted_same asked (Err error) none = refl
 
 -- a request was sent on a line that was cleared
-pub sends_told : {H I L : Type 0} (m : LineMeaning H I L) (old clear new : SettlingState I L) (asked : Asked) (answer : Answer) (told : Result (Unit {0}) Error) → IsTrue old.is_connected
-    → ClearsIf true m old clear → AsksOn m clear asked 0 answer new → told ≡ told_of_answer answer → SendsStanding m old asked told new
-sends_told {I = I} {L = L} m old clear new asked answer told is_connected cleared a is =
+pub sends_told : {H I L : Type 0} (m : LineMeaning H I L) (old clear asking new : SettlingState I L) (asked : Asked) (answer : Answer) (told : Result (Unit {0}) Error) → IsTrue old.is_connected
+    → ClearsIf true m old clear → AsksOn m clear asked 0 answer asking → told ≡ told_of_answer answer → new ≡ record asking { is_turning = is_sent told } → SendsStanding m old asked told new
+sends_told {I = I} {L = L} m old clear asking new asked answer told is_connected cleared a is turns =
     let q = question_of (m.heading.header clear.ids clear.settings.slave) asked 0 (reply_silences clear) in
-    let same : answer ≡ a.found = a.told ∙ fitted_same asked a.found (no_reply m q.silences q.header asked clear.link new.link a.held a.found a.ends) in
-    let on : TellsOn m clear asked (told_of_answer a.found) new = record {
-      tells = tells m q.silences q.header asked clear.link new.link a.held a.found a.ends;
+    let same : answer ≡ a.found = a.told ∙ fitted_same asked a.found (no_reply m q.silences q.header asked clear.link asking.link a.held a.found a.ends) in
+    let found : told ≡ told_of_answer a.found = is ∙ ap told_of_answer same in
+    let on : TellsOn m clear asked told (record asking { is_turning = is_sent told }) = record {
+      tells = subst (λ (answered : Result (Unit {0}) Error). TellsLine m q.silences q.header asked clear.link asking.link answered) (sym found)
+          (tells m q.silences q.header asked clear.link asking.link a.held a.found a.ends);
       line = a.line;
-      rest = subst (λ (doubt : Bool). new ≡ record clear { link = new.link; in_doubt = doubt; ids = m.heading.next clear.ids })
-          (doubts m q.silences q.header asked clear.link new.link a.held a.found a.ends) a.rest;
+      rest = ap (λ (state : SettlingState I L). record state { is_turning = is_sent told })
+          (subst (λ (doubt : Bool). asking ≡ record clear { link = asking.link; in_doubt = doubt; is_turning = false; ids = m.heading.next clear.ids })
+          (doubts m q.silences q.header asked clear.link asking.link a.held a.found a.ends ∙ ap is_doubtful_after (sym found)) a.rest);
     } in
     record {
-      does = sends is_connected clear cleared (clear_owes m old clear cleared) (subst (λ (found : Result (Unit {0}) Error). TellsOn m clear asked found new) (sym (is ∙ ap told_of_answer same)) on);
-      stands = λ stands. asked_stands m clear new asked 0 answer (clear_owes m old clear cleared stands) a;
+      does = sends is_connected clear cleared (clear_owes m old clear cleared) (subst (λ (state : SettlingState I L). TellsOn m clear asked told state) (sym turns) on);
+      stands = λ stands. subst (λ (state : SettlingState I L). IsStanding m state) (sym turns) (asked_stands m clear asking asked 0 answer (clear_owes m old clear cleared stands) a);
     }
 
 -- no request was sent

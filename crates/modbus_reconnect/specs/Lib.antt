@@ -12,3 +12,5 @@ pub mod Looks
 pub mod Waits
 pub mod OnLine
 pub mod Tells
+pub mod LooksFirst
+pub mod MemoryLooks

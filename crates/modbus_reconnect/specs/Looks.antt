@@ -1,5 +1,6 @@
--- What a client of a line does before it sends: a look that finds nothing, or a line that was settled.
+-- What a client does before it sends: a look that finds nothing, a line that was settled, or a link that was given up.
 use Rattle.std.specs.Prelude.{◌≡◌, ℕ, zero, suc, ◌+◌, ◌-◌, Bool, true, false, Result, Ok, Err}
+use Rattle.modbus_link.specs.Line.{LinkMeaning}
 use Rattle.modbus_link.specs.Room.{read_room}
 use Rattle.modbus_reconnect.specs.declared.settling.Unsettled.{Unsettled}
 use Rattle.modbus_reconnect.specs.Settles.{DropsNoise, Settles}
@@ -11,11 +12,15 @@ pub record SettlesLine {H I L : Type 0} (m : LineMeaning H I L) (silences limit 
   pub sink : m.link.output after ≡ m.link.output before
   pub line : m.link.line after ≡ m.link.line before
 
--- A line is looked at: what came is dropped, so many bytes, or nothing was there. Nothing is written, and all else of the link stays.
-pub record LooksAt {H I L : Type 0} (m : LineMeaning H I L) (before after : L) (result : Result ℕ Unsettled) : Type 0 where
-  pub drops : DropsNoise 1 read_room (m.link.input before) (m.link.input after) (m.looks before) (m.looks after) result
-  pub sink : m.link.output after ≡ m.link.output before
-  pub line : m.link.line after ≡ m.link.line before
+-- A link is looked at: what came is dropped, so many bytes, or nothing was there. Nothing is written, and all else of the link stays.
+pub record LooksAtLink {L : Type 0} (M : LinkMeaning L) (looks : L → ℕ) (before after : L) (result : Result ℕ Unsettled) : Type 0 where
+  pub drops : DropsNoise 1 read_room (M.input before) (M.input after) (looks before) (looks after) result
+  pub sink : M.output after ≡ M.output before
+  pub line : M.line after ≡ M.line before
+
+-- the same of a line
+abbrev pub LooksAt : {H I L : Type 0} → LineMeaning H I L → L → L → Result ℕ Unsettled → Type 0
+LooksAt m before after result = LooksAtLink m.link m.looks before after result
 
 -- what is told of bytes that were dropped in two steps
 abbrev pub more_dropped : ℕ → Result ℕ Unsettled → Result ℕ Unsettled

@@ -1,5 +1,5 @@
 -- What a client of a line keeps between its calls, and what its parts mean.
-use Rattle.std.specs.Prelude.{ℕ, Bool, true, Option, None}
+use Rattle.std.specs.Prelude.{ℕ, Bool, true, false, Option, None}
 use Rattle.std.specs.declared.time.Duration.{Duration}
 use Rattle.modbus_link.specs.Line.{LinkMeaning}
 use Rattle.modbus_client.specs.Limits.{default_turns}
@@ -18,6 +18,8 @@ pub record LineSettings : Type 0 where
   -- how long a line is silent that is settled, and how many bytes of it may be dropped
   pub quiet : Duration
   pub limit : ℕ
+  -- how long it is silent after a request that no slave replies to; as long as any line that is settled where none is told
+  pub turnaround : Option Duration
 
 pub record SettlingState (I L : Type 0) : Type 0 where
   pub link : L
@@ -25,6 +27,8 @@ pub record SettlingState (I L : Type 0) : Type 0 where
   pub is_connected : Bool
   -- whether a reply may still come that was not taken
   pub in_doubt : Bool
+  -- whether it is in doubt by a request alone that was sent and that no slave replies to
+  pub is_turning : Bool
   -- why the last call found the line unsettled; none where it did not
   pub unsettled : Option Unsettled
   -- how many bytes the last call dropped before it sent its request
@@ -51,8 +55,9 @@ unsettled_client N link slave silence = record {
   link = link;
   is_connected = true;
   in_doubt = true;
+  is_turning = false;
   unsettled = None;
   dropped = 0;
-  settings = record { slave = slave; turns = default_turns; timeout = None; silence = silence; quiet = silence; limit = 4096 };
+  settings = record { slave = slave; turns = default_turns; timeout = None; silence = silence; quiet = silence; limit = 4096; turnaround = None };
   ids = N.first;
 }

@@ -2,7 +2,8 @@
 use Rattle.std.specs.Prelude.{◌≡◌, ℕ, ◌<◌, List, [], Option, None, Some, Ok, Err, IsTrue}
 use Rattle.std.specs.declared.net.SocketAddr.{SocketAddr}
 use Rattle.std.specs.declared.time.Duration.{Duration}
-use Rattle.modbus_link.specs.Line.{KeepsEnds}
+use Rattle.modbus_link.specs.Outside.{Advances, bytes_read}
+use Rattle.modbus_link.specs.Line.{LinkMeaning, KeepsEnds}
 use Rattle.modbus_frame.specs.Meaning.{Asked}
 use Rattle.modbus_frame.specs.declared.fault.Error.TheVariants.{Transport}
 use Rattle.modbus_frame.specs.declared.fault.HeaderSeen.{HeaderSeen}
@@ -27,9 +28,16 @@ pub record IsFresh {H I C L : Type 0} (m : Meaning H I C L) (settings : Settings
 abbrev pub TellsReplies : {H : Type 0} → Protocol H → Type 0
 TellsReplies P = (asked : HeaderSeen) (bytes cuts held : List ℕ) (seen : HeaderSeen) (pdu : List ℕ) → P.Finds asked bytes cuts (reply held seen pdu) → seen ≡ asked
 
+-- A look at a link found nothing: nothing was read or written, and all else of the link stays.
+pub record IsFoundIdle {L : Type 0} (M : LinkMeaning L) (before after : L) : Type 0 where
+  pub source : Advances (M.input before) (M.input after)
+  pub nothing : IsTrue (M.input before).told → bytes_read (M.input before) (M.input after) ≡ []
+  pub sink : M.output after ≡ M.output before
+  pub line : M.line after ≡ M.line before
+
 -- Nothing is owed on the link of this client that could be taken for the reply: the connector gave the link for this address, and each call
 -- since was answered by its own reply, with no byte left over, or sent nothing; or it was late, where replies are told by their headers.
--- Between the calls its slave, its turns and its timeout were set.
+-- Between the calls its slave, its turns and its timeout were set, and it was looked at and nothing was found.
 pub data OwesNothing {H I C L : Type 0} (m : Meaning H I C L) (address : SocketAddr) : ClientState I L → Type 0 where
   made : (old new : C) (settings : Settings) (given : L) (client : ClientState I L)
       → m.connector.connects old address settings.timeout (Ok given) new → IsFresh m settings given client → OwesNothing m address client
@@ -41,6 +49,9 @@ pub data OwesNothing {H I C L : Type 0} (m : Meaning H I C L) (address : SocketA
       → client.held ≡ [] → OwesNothing m address client
   directed : (before client : ClientState I L) (slave turns : ℕ)
       → OwesNothing m address before → client ≡ record before { slave = slave; turns = turns } → OwesNothing m address client
+  looked : (before client : ClientState I L)
+      → OwesNothing m address before → client ≡ record before { link = client.link } → IsFoundIdle m.link before.link client.link
+      → OwesNothing m address client
   limited : (before client : ClientState I L) (timeout : Option Duration)
       → OwesNothing m address before → Limited m.link before timeout client → OwesNothing m address client
 

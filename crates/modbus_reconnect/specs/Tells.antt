@@ -52,11 +52,16 @@ abbrev pub is_doubtful_after : Result (Unit {0}) Error → Bool
 is_doubtful_after (Ok done) = true
 is_doubtful_after (Err error) = not (settles (error_stage error))
 
--- A request is sent under the header that comes next.
+-- a request was sent, whole
+abbrev pub is_sent : Result (Unit {0}) Error → Bool
+is_sent (Ok done) = true
+is_sent (Err error) = false
+
+-- A request is sent under the header that comes next. After one that was sent whole the line has the turnaround delay to be silent.
 pub record TellsOn {H I L : Type 0} (m : LineMeaning H I L) (old : SettlingState I L) (asked : Asked) (told : Result (Unit {0}) Error) (new : SettlingState I L) : Type 0 where
   pub tells : TellsLine m (reply_silences old) (m.heading.header old.ids old.settings.slave) asked old.link new.link told
   pub line : m.link.line new.link ≡ m.link.line old.link
-  pub rest : new ≡ record old { link = new.link; in_doubt = is_doubtful_after told; ids = m.heading.next old.ids }
+  pub rest : new ≡ record old { link = new.link; in_doubt = is_doubtful_after told; is_turning = is_sent told; ids = m.heading.next old.ids }
 
 -- One request that a client of a line only sends.
 pub data SendsOnLine {H I L : Type 0} (m : LineMeaning H I L) (old : SettlingState I L) (asked : Asked) (told : Result (Unit {0}) Error) (new : SettlingState I L) : Type 0 where

@@ -1,18 +1,20 @@
 //! The client.
-ghost use Rattle.std.specs.Prelude.{◌≡◌, ◌↔◌, IsNone, IfSome};
+ghost use Rattle.std.specs.Prelude.{◌≡◌, ◌↔◌, IsNone, IfSome, if◌then◌else◌};
 ghost use Rattle.modbus_link.specs.Line.{meaning_of};
 ghost use Rattle.modbus_client.specs.Connects.{connector_of};
 ghost use Rattle.modbus_reconnect.specs.Owes.{left_after};
 ghost use Rattle.modbus_reconnect.specs.State.{unconnected_client, meaning_by};
 ghost use Rattle.modbus_reconnect.specs.Stands.{IsReadyIfSome};
 ghost use Rattle.modbus_reconnect.specs.Tries.{Uses, Tried};
+ghost use Rattle.modbus_reconnect.specs.LooksFirst.{LooksFirst};
 ghost use Rattle.modbus_reconnect.specs.Calls.{CallsOnce, Disconnects, Limits, with_slave, with_turns};
 
+use crate::idle::{LookFirst, LookOnce};
 use crate::once::{CallOnce, TryOnce};
 use crate::opening::open;
 use crate::owing::is_read_fault;
 use crate::resend::Resend;
-use modbus_client::{Client, LinkClient, Protocol, TURNS, tcp};
+use modbus_client::{Client, IdleLink, LinkClient, Protocol, TURNS, tcp};
 use modbus_frame::{
     Error, Request, Response, Result, ShutdownFault, Slave, SlaveContext, TransportError,
 };
@@ -214,6 +216,13 @@ fn left_after(is_kept: bool, answer: &Result<Response>, patience: u32, left: u32
     }
 }
 
+/// Through how many more time-outs in a row a link is kept that was looked at, or a new one in its place.
+fn left_looked(is_kept: bool, patience: u32, left: u32) -> u32
+    ensures { result ≡ (if is_kept then left else patience) }
+{
+    if is_kept { left } else { patience }
+}
+
 impl<P: Protocol, C: Connector> TryOnce for ReconnectingClient<P, C>
 where
     P::Ids: Send,
@@ -231,6 +240,24 @@ where
         self.left = left_after(kept.is_some(), &answer, self.patience, self.left);
         self.client = kept;
         answer
+    }
+}
+
+impl<P: Protocol, C: Connector> LookFirst for ReconnectingClient<P, C>
+where
+    P::Ids: Send,
+    C::Link: Link + IdleLink + Send + Drop,
+{
+    ghost looks_first = { LooksFirst (meaning_of C.Link.input C.Link.output C.Link.line) C.Link.looks };
+
+    fn look_first(&mut self) {
+        let Some(client) = self.client.take() else {
+            self.left = self.patience;
+            return;
+        };
+        let kept = client.look_once();
+        self.left = left_looked(kept.is_some(), self.patience, self.left);
+        self.client = kept;
     }
 }
 

@@ -6,12 +6,15 @@
 #![tactic(auto)]
 
 mod client;
+mod idle;
+mod idle_memory;
 mod looking;
 mod once;
 mod opening;
 mod owing;
 mod reply;
 mod resend;
+mod rtu_over_tcp;
 mod settling;
 mod settling_client;
 mod silences;
@@ -19,18 +22,17 @@ mod telling;
 mod waiting;
 
 pub use crate::client::ReconnectingClient;
-pub use crate::looking::IdleLink;
+pub use crate::idle_memory::IdleMemoryLink;
 pub use crate::owing::leaves_nothing;
 pub use crate::resend::Resend;
+pub use crate::rtu_over_tcp::RtuOverTcpClient;
 pub use crate::settling::{Unsettled, settle};
 pub use crate::settling_client::SettlingClient;
+pub use modbus_client::IdleLink;
 use modbus_client::{rtu, tcp};
 
 /// A client of a TCP device, which drops the responses of other transactions and units, and connects anew where its link is in doubt.
 pub type TcpClient<C> = ReconnectingClient<tcp::OwnAdus, C>;
-
-/// A client of the slaves behind a TCP connection that carries RTU frames, which connects anew where its link is in doubt.
-pub type RtuOverTcpClient<C> = ReconnectingClient<rtu::Frames, C>;
 
 /// A client of the slaves of a serial line, which lets the line fall silent where it is in doubt. Noise and the frames of other slaves do not
 /// end its calls, and a silence of the line ends every frame (MODBUS over Serial Line V1.02, sections 2.4.1 and 2.5.1.1).

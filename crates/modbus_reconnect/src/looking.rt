@@ -1,67 +1,11 @@
-//! Links that can be looked at: whether something came that was not asked for.
-ghost use Rattle.std.specs.Prelude.{◌≡◌, ℕ, ◌<◌, ◌≤◌, length, IsTrue, OnErr};
-ghost use Rattle.std.specs.Io.{ReadsAtMost};
-ghost use Rattle.modbus_link.specs.Outside.{Rose, Advances, ReadIsTold};
-ghost use Rattle.modbus_link.specs.Polled.{at_once, Waited};
+//! A look at a line, or at the link of a client: whether something came that was not asked for.
+ghost use Rattle.std.specs.Prelude.{◌≡◌};
 ghost use Rattle.modbus_link.specs.Room.{read_room};
 ghost use Rattle.modbus_reconnect.specs.Settles.{DropsNoise};
 
 use crate::settling::Unsettled;
-use modbus_link::{
-    Failed, Polled, PolledLink, READ_ROOM, TerminalLink, TimedLink, TimedMemoryLink, TimedTcpLink,
-};
-use std::io::{Read, Write};
-
-/// A link that tells silence, and at which a look finds what came and was not read.
-///
-/// A look need not wait for a silence to find nothing. That of a link that can only wait is its next read, which takes as long as a
-/// silence where nothing came.
-pub trait IdleLink: TimedLink {
-    // how often a look found nothing
-    ghost looks: { Self → ℕ };
-
-    /// Reads into the front of `room` as `poll_read` does, what came before it. `Pending` where nothing did.
-    ///
-    /// # Errors
-    /// `Failed`, only where the link's count of read faults rose; then nothing was given.
-    fn look(&mut self, room: &mut [u8]) -> Result<Polled<usize>, Failed>
-        requires { 0 < length room.old }
-        ensures bound { ReadsAtMost (at_once result) room.new }
-        ensures source { Advances (Self.input self.old) (Self.input self.new) }
-        ensures told { IsTrue (Self.input self.old).told
-            → ReadIsTold (Self.input self.old) (Self.input self.new) room.old room.new
-            (at_once result) }
-        ensures cause { OnErr result (Rose (Self.input self.old).faults
-            (Self.input self.new).faults) }
-        ensures looked { Waited result (looks self.old) (looks self.new) }
-        ensures later { looks self.old ≤ looks self.new }
-        ensures sink { Self.output self.new ≡ Self.output self.old }
-        ensures line { Self.line self.new ≡ Self.line self.old };
-}
-
-impl IdleLink for TimedMemoryLink {
-    ghost looks = { λ timed. timed.told };
-
-    fn look(&mut self, room: &mut [u8]) -> Result<Polled<usize>, Failed> {
-        self.poll_read(room)
-    }
-}
-
-impl<R: Read, W: Write> IdleLink for TerminalLink<R, W> {
-    ghost looks = { λ link. link.silences };
-
-    fn look(&mut self, room: &mut [u8]) -> Result<Polled<usize>, Failed> {
-        self.poll_read(room)
-    }
-}
-
-impl IdleLink for TimedTcpLink {
-    ghost looks = { λ timed. timed.silences };
-
-    fn look(&mut self, room: &mut [u8]) -> Result<Polled<usize>, Failed> {
-        self.poll_read(room)
-    }
-}
+use modbus_client::{IdleLink, LinkClient, Protocol};
+use modbus_link::{Failed, Polled, READ_ROOM};
 
 /// Looks at a line, and drops what came: so many bytes, 0 where nothing did.
 ///
@@ -75,6 +19,28 @@ pub(crate) fn look_at<L: IdleLink>(link: &mut L) -> Result<usize, Unsettled>
 {
     let mut room = [0; READ_ROOM];
     match link.look(&mut room) {
+        Ok(Polled::Pending) => Ok(0),
+        Ok(Polled::Ready(0)) => Err(Unsettled::Ended),
+        Ok(Polled::Ready(count)) => Ok(count),
+        Err(Failed) => Err(Unsettled::ReadFault),
+    }
+}
+
+/// The same at the link of a client, which stays as it is otherwise.
+///
+/// # Errors
+/// As `look_at`.
+pub(crate) fn look_at_client<P: Protocol, L: IdleLink>(
+    client: &mut LinkClient<P, L>,
+) -> Result<usize, Unsettled>
+    ensures drops { DropsNoise 1 read_room (L.input client.old.link) (L.input client.new.link)
+        (L.looks client.old.link) (L.looks client.new.link) result }
+    ensures sink { L.output client.new.link ≡ L.output client.old.link }
+    ensures line { L.line client.new.link ≡ L.line client.old.link }
+    ensures rest { client.new ≡ record client.old { link = client.new.link } }
+{
+    let mut room = [0; READ_ROOM];
+    match client.look(&mut room) {
         Ok(Polled::Pending) => Ok(0),
         Ok(Polled::Ready(0)) => Err(Unsettled::Ended),
         Ok(Polled::Ready(count)) => Ok(count),

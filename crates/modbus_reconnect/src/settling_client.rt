@@ -1,29 +1,46 @@
 //! A client of a line, which is no connection that can be made anew.
-ghost use Rattle.std.specs.Prelude.{◌≡◌, ◌↔◌, false, Ok, IsNone, IfSome};
+ghost use Rattle.std.specs.Prelude.{◌≡◌, ◌↔◌, ℕ, List, length, not, false, Ok, Some, IsNone, IfSome};
 ghost use Rattle.modbus_link.specs.Line.{meaning_of};
-ghost use Rattle.modbus_frame.specs.Meaning.{meaning};
+ghost use Rattle.modbus_frame.specs.Meaning.{meaning, Custom};
+ghost use Rattle.modbus_client.specs.LineReading.{line_protocol, silent_protocol};
+ghost use Rattle.modbus_client.specs.Rtu.{rtu_heading};
 ghost use Rattle.modbus_reconnect.specs.SettleState.{line_by, unsettled_client};
 ghost use Rattle.modbus_reconnect.specs.Looks.{ClearsLine};
-ghost use Rattle.modbus_reconnect.specs.OnLine.{quiet_silences, ClearsIf, AsksOn, CallsStanding};
+ghost use Rattle.modbus_reconnect.specs.Owes.{leaves_nothing};
+ghost use Rattle.modbus_reconnect.specs.Replies.{fitted};
+ghost use Rattle.modbus_reconnect.specs.OnLine.{time_or, quiet_time, quiet_silences, ClearsIf, AsksOn, CallsStanding, CallsRaw, read_raw};
 ghost use Rattle.modbus_reconnect.specs.Tells.{SendsStanding};
 
-use crate::looking::{IdleLink, look_at};
+use crate::looking::look_at;
 use crate::owing::leaves_nothing;
 use crate::reply::fitted;
 use crate::settling::{Unsettled, settle};
 use crate::silences::silences_for;
-use crate::telling::told_of;
+use crate::telling::{is_sent, told_of};
 use crate::waiting::ask;
-use modbus_client::{Client, LineProtocol, TURNS};
+use modbus_client::rtu::{LineFrames, RawLineFrames};
+use modbus_client::{Client, IdleLink, LineProtocol, Protocol, TURNS};
 use modbus_frame::{
     Error, Request, Response, Result, ShutdownFault, Slave, SlaveContext, TransportError,
 };
+use modbus_link::TimedLink;
 use std::alloc::Global;
+use std::borrow::CowSlice;
 use std::marker::Model;
 use std::time::Duration;
 
 /// How many bytes of a line may be dropped until it is silent, until a client is told otherwise.
 const LIMIT: usize = 4096;
+
+/// The time that was told, or else another one.
+fn time_or(time: Option<Duration>, other: Duration) -> Duration
+    ensures { result ≡ time_or time other }
+{
+    match time {
+        Some(time) => time,
+        None => other,
+    }
+}
 
 /// A client of the slaves of one line, as a serial line, which tells silence.
 ///
@@ -39,6 +56,7 @@ pub struct SettlingClient<P: LineProtocol, L> {
     link: L,
     is_connected: bool,
     in_doubt: bool,
+    is_turning: bool,
     unsettled: Option<Unsettled>,
     dropped: usize,
     slave: Slave,
@@ -47,6 +65,7 @@ pub struct SettlingClient<P: LineProtocol, L> {
     silence: Duration,
     quiet: Duration,
     limit: usize,
+    turnaround: Option<Duration>,
     ids: P::Ids,
     alloc: Global,
 }
@@ -62,9 +81,10 @@ impl<P: LineProtocol, L> Model for SettlingClient<P, L> {
       link = it.link;
       is_connected = it.is_connected;
       in_doubt = it.in_doubt;
+      is_turning = it.is_turning;
       unsettled = it.unsettled;
       dropped = it.dropped;
-      settings = record { slave = it.slave.0; turns = it.turns; timeout = it.timeout; silence = it.silence; quiet = it.quiet; limit = it.limit };
+      settings = record { slave = it.slave.0; turns = it.turns; timeout = it.timeout; silence = it.silence; quiet = it.quiet; limit = it.limit; turnaround = it.turnaround };
       ids = it.ids;
     } };
 }
@@ -81,6 +101,7 @@ impl<P: LineProtocol, L> SettlingClient<P, L> {
             link,
             is_connected: true,
             in_doubt: true,
+            is_turning: false,
             unsettled: None,
             dropped: 0,
             slave,
@@ -89,6 +110,7 @@ impl<P: LineProtocol, L> SettlingClient<P, L> {
             silence,
             quiet: silence,
             limit: LIMIT,
+            turnaround: None,
             ids: P::first_ids(),
             alloc,
         }
@@ -114,6 +136,29 @@ impl<P: LineProtocol, L> SettlingClient<P, L> {
     {
         self.quiet = quiet;
         self.limit = limit;
+    }
+
+    /// For how long the line has to be silent from then on after a `send` before the next request; as `set_quiet` says until then.
+    ///
+    /// It is the turnaround delay, in which the slaves do what was asked, typically of 100 to 200 milliseconds (MODBUS over Serial Line V1.02,
+    /// section 2.4.1). After a fault the line has to be silent for as long as `set_quiet` says.
+    pub fn set_turnaround(&mut self, turnaround: Duration)
+        ensures { self.new ≡ record self.old {
+          settings = record self.old.settings { turnaround = Some turnaround };
+        } }
+    {
+        self.turnaround = Some(turnaround);
+    }
+
+    /// For how long the line has to be silent before the next request, where it is settled.
+    fn quiet_time(&self) -> Duration
+        ensures { result ≡ quiet_time self.now }
+    {
+        if self.is_turning {
+            time_or(self.turnaround, self.quiet)
+        } else {
+            self.quiet
+        }
     }
 
     /// Whether a reply may still come that was not taken, so that the next call settles the line first.
@@ -150,7 +195,28 @@ impl<P: LineProtocol, L> SettlingClient<P, L> {
     }
 }
 
-impl<P: LineProtocol, L: IdleLink> SettlingClient<P, L> {
+impl<P: LineProtocol, L> SettlingClient<P, L> {
+    /// Takes note of what a call found, and of how many bytes it read and did not use, and tells it.
+    fn conclude(
+        &mut self,
+        request: &Request<'_>,
+        answer: Result<Response>,
+        held: usize,
+    ) -> Result<Response>
+        ensures told { result ≡ fitted (meaning request.now) answer }
+        ensures doubt { (bytes : List ℕ) → length bytes ≡ held
+            → self.new ≡ record self.old {
+              in_doubt = not (leaves_nothing (meaning request.now) answer bytes);
+              is_turning = false;
+            } }
+    {
+        self.in_doubt = !leaves_nothing(request, &answer, held);
+        self.is_turning = false;
+        fitted(request, answer)
+    }
+}
+
+impl<P: LineProtocol, L: TimedLink + IdleLink> SettlingClient<P, L> {
     /// Drops what came on the line and was not read, and answers how many bytes that were. A line in doubt is settled; any other is looked
     /// at, and settled where something came.
     ///
@@ -163,7 +229,7 @@ impl<P: LineProtocol, L: IdleLink> SettlingClient<P, L> {
             self.old.link self.new.link result }
         ensures rest { self.new ≡ record self.old { link = self.new.link } }
     {
-        let silences = silences_for(Some(self.quiet), self.silence);
+        let silences = silences_for(Some(self.quiet_time()), self.silence);
         if self.in_doubt {
             return settle(&mut self.link, silences, self.limit);
         }
@@ -188,12 +254,14 @@ impl<P: LineProtocol, L: IdleLink> SettlingClient<P, L> {
         match self.clear_line() {
             Ok(dropped) => {
                 self.in_doubt = false;
+                self.is_turning = false;
                 self.unsettled = None;
                 self.dropped = dropped;
                 true
             }
             Err(reason) => {
                 self.in_doubt = true;
+                self.is_turning = false;
                 self.unsettled = Some(reason);
                 self.dropped = 0;
                 false
@@ -217,15 +285,14 @@ impl<P: LineProtocol, L: IdleLink> SettlingClient<P, L> {
             turns,
             silences,
         );
-        self.in_doubt = !leaves_nothing(request, &answer, held);
-        fitted(request, answer)
+        self.conclude(request, answer, held)
     }
 
     /// Sends a request to which no slave replies, as a broadcast (MODBUS over Serial Line V1.02, section 2.1), and reads nothing of a
     /// reply. The line is cleared first, as it is for a call.
     ///
-    /// After it the line is in doubt, so that the next request waits until the line was silent: the slaves have that time to do what was
-    /// asked (section 2.4.1), and a slave that replies nevertheless is not heard.
+    /// After it the line is in doubt, so that the next request waits until the line was silent, for as long as `set_turnaround` says: the
+    /// slaves have that time to do what was asked (section 2.4.1), and a slave that replies nevertheless is not heard.
     ///
     /// # Errors
     /// `NotConnected` where the client is disconnected, and where the line did not settle; then nothing is sent. `RequestTooLong` with
@@ -240,7 +307,47 @@ impl<P: LineProtocol, L: IdleLink> SettlingClient<P, L> {
             return Err(Error::Transport(TransportError::NotConnected));
         }
         let answer = self.ask(&request, 0);
-        told_of(answer)
+        let told = told_of(answer);
+        self.is_turning = is_sent(&told);
+        told
+    }
+}
+
+impl<L: TimedLink + IdleLink> SettlingClient<LineFrames, L> {
+    /// Sends a request, and waits for its reply, whose bytes are given as they came.
+    fn ask_raw(&mut self, request: &Request<'_>) -> Result<Response>
+        ensures { AsksOn
+            (read_raw (line_by line_protocol silent_protocol rtu_heading (meaning_of L.input L.output L.line) L.not_ready L.looks))
+            self.old (meaning request.now) self.old.settings.turns result self.new }
+    {
+        let header = LineFrames::draw(&mut self.ids, self.slave);
+        let silences = silences_for(self.timeout, self.silence);
+        let (answer, held) = ask::<RawLineFrames, L>(
+            self.alloc,
+            &mut self.link,
+            header,
+            request,
+            self.turns,
+            silences,
+        );
+        self.conclude(request, answer, held)
+    }
+
+    /// Asks for a function by its code, with the bytes that follow it in the PDU, and gives those of the reply as they came: a `Custom`
+    /// response of that code, or the exception. So it reads also what no kind of response has room for, and functions of a maker's own.
+    ///
+    /// # Errors
+    /// Those of `call`; `InvalidResponse` only where a reply has no function code or no exception code. An answer of another function is
+    /// `FunctionCodeMismatch`.
+    pub fn call_raw(&mut self, function: u8, data: &[u8]) -> Result<Response>
+        ensures { CallsRaw
+            (line_by line_protocol silent_protocol rtu_heading (meaning_of L.input L.output L.line) L.not_ready L.looks)
+            self.old (Custom function data.now) result self.new }
+    {
+        if !self.is_connected || !self.clear() {
+            return Err(Error::Transport(TransportError::NotConnected));
+        }
+        self.ask_raw(&Request::Custom(function, CowSlice::Borrowed(data)))
     }
 }
 
@@ -255,7 +362,7 @@ impl<P: LineProtocol, L> SlaveContext for SettlingClient<P, L> {
     }
 }
 
-impl<P: LineProtocol, L: IdleLink + Send + Drop> Client for SettlingClient<P, L>
+impl<P: LineProtocol, L: TimedLink + IdleLink + Send + Drop> Client for SettlingClient<P, L>
 where
     P::Ids: Send,
 {

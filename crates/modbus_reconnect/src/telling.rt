@@ -1,6 +1,6 @@
 //! A request that is only sent.
 ghost use Rattle.std.specs.Prelude.{◌≡◌};
-ghost use Rattle.modbus_reconnect.specs.Tells.{told_of_answer};
+ghost use Rattle.modbus_reconnect.specs.Tells.{told_of_answer, is_sent};
 
 use modbus_frame::{Error, Response, Result, TransportError};
 
@@ -12,4 +12,11 @@ pub(crate) fn told_of(answer: Result<Response>) -> std::result::Result<(), Error
         Ok(_) | Err(Error::Transport(TransportError::TurnLimit)) => Ok(()),
         Err(error) => Err(error),
     }
+}
+
+/// Whether a request was sent, whole.
+pub(crate) fn is_sent(told: &std::result::Result<(), Error>) -> bool
+    ensures { result ≡ is_sent told.now }
+{
+    told.is_ok()
 }

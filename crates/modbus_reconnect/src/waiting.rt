@@ -5,11 +5,10 @@ ghost use Rattle.modbus_frame.specs.Meaning.{meaning};
 ghost use Rattle.modbus_reconnect.specs.SettleState.{line_by};
 ghost use Rattle.modbus_reconnect.specs.Waits.{question_of, EndsWait, WaitsFor};
 
-use crate::looking::IdleLink;
 use modbus_client::laws::requests_not_opened_are_unsent;
-use modbus_client::{LineProtocol, PolledCall};
+use modbus_client::{IdleLink, LineProtocol, PolledCall};
 use modbus_frame::{Error, Request, Response, Result, TransportError};
-use modbus_link::Polled;
+use modbus_link::{Polled, TimedLink};
 use std::alloc::Global;
 
 /// How a call is told that was given up, by whether noise came behind its request.
@@ -29,7 +28,7 @@ fn given_up(is_noisy: bool) -> TransportError
 /// # Errors
 /// Those of a poll, and of a silence that ended a reply; and where so many silences came, `BytesRemaining` if noise came behind the request,
 /// else `ReadFault`.
-fn wait<P: LineProtocol, L: IdleLink>(
+fn wait<P: LineProtocol, L: TimedLink + IdleLink>(
     call: &mut PolledCall<P>,
     link: &mut L,
     silences: u64,
@@ -59,7 +58,7 @@ fn wait<P: LineProtocol, L: IdleLink>(
 }
 
 /// Asks under a header. It answers with how many bytes were read and not used.
-pub(crate) fn ask<P: LineProtocol, L: IdleLink>(
+pub(crate) fn ask<P: LineProtocol, L: TimedLink + IdleLink>(
     alloc: Global,
     link: &mut L,
     header: P::Header,

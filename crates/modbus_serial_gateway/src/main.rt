@@ -34,6 +34,12 @@ const SILENCE: u64 = 20;
 /// How many bytes of a line in doubt are dropped until it is silent.
 const NOISE: usize = 4096;
 
+/// How many reads of a call may give bytes: four times those of the longest frame, a byte each.
+const TURNS: u64 = 1024;
+
+/// How long slaves have for what a broadcast asks, in milliseconds (MODBUS over Serial Line V1.02, section 2.4.1).
+const TURNAROUND: u64 = 100;
+
 /// What the words ask for.
 enum Wish {
     /// To serve, over such a line.
@@ -86,6 +92,8 @@ fn open_line(
     let mut client = SerialClient::new(rt.alloc(), link, Slave(0), silence);
     client.set_timeout(Some(limit));
     client.set_quiet(limit, NOISE);
+    client.set_turns(TURNS);
+    client.set_turnaround(Duration::from_millis(TURNAROUND));
     SerialLine::new(client)
 }
 

@@ -1,0 +1,12 @@
+use Rattle.modbus_client.specs.Raw.{raw_result_of}
+use Rattle.std.proofs.Common.{[], ◌∷◌, ◌++◌, length, ◌∙◌}
+use Rattle.modbus_client.proofs.LineLooks.{line_looks, line_counts}
+use Rattle.modbus_client.proofs.line.RawLineFramesProtocol.look.Goals as goal
+
+pub returns-clause-looks : goal.returns-clause-looks
+returns-clause-looks c = λ bytes cuts earlier more s is some.
+    line_looks raw_result_of c.args.asked bytes cuts earlier more c.args.held.now.items s is (cuts ++ length (bytes ++ more) ∷ []) c.look_by.new.held.items c.self.inside.others c.look_by.new.others c.look_by.result c.look_by.ensures.looks
+
+pub returns-clause-counts : goal.returns-clause-counts
+returns-clause-counts c = λ bytes cuts earlier more s is some counts.
+    line_counts raw_result_of c.args.asked bytes cuts earlier more c.args.held.now.items s is c.look_by.new.held.items c.self.inside.others c.look_by.new.others c.look_by.result c.look_by.ensures.looks (c.self.view_is ∙ counts)
