@@ -1,21 +1,26 @@
 //! The units of the device.
 
+use crate::files::FileSizes;
 use crate::setting::Setting;
 use modbus_command::{FAILED, USAGE};
 use modbus_diagnostics::identity::{Identified, Identity, IdentityError};
 use modbus_diagnostics::{Port, PortError};
 use modbus_field::standard::StandardAnswers;
-use modbus_field::stream::{DefaultUnit, NON_SIGNIFICANT};
+use modbus_field::stream::{DefaultUnit, NON_SIGNIFICANT, ReservedCodes};
+use modbus_files::{Filed, Files, MaybeFiled};
 use modbus_frame::{ExceptionCode, SlaveId};
 use modbus_service::{OnlyUnit, Units, UnitsError};
 use modbus_store::{RegisterStore, Sizes, StoreError};
 use std::alloc::{AllocFailed, Global};
 
-/// A unit: four tables, and what the device says of itself. It answers as the standard wants where a request can't be read.
-type Unit = StandardAnswers<Identified<RegisterStore>>;
+/// What a unit holds: four tables, and files where it has any.
+type Held = MaybeFiled<RegisterStore>;
 
-/// The units behind a port of Modbus TCP, one of which is the device itself.
-pub type Device = DefaultUnit<Units<Unit>>;
+/// A unit: what it holds, and what the device says of itself. It answers as the standard wants where a request can't be read.
+type Unit = StandardAnswers<Identified<Held>>;
+
+/// The units behind a port of Modbus TCP, one of which is the device itself. What has a function code that no request has is answered too.
+pub type Device = ReservedCodes<DefaultUnit<Units<Unit>>>;
 
 /// The units on a serial line, behind a port that counts and logs what it hears and answers for that.
 pub type LineDevice = Port<Unit>;
@@ -98,6 +103,8 @@ pub struct Plan<'w> {
     pub entries: u32,
     /// What their inputs are at first, where they are not 0.
     pub settings: &'w [Setting],
+    /// The files of records that each unit has, where it has any.
+    pub files: Option<FileSizes>,
     /// What the device says of itself.
     pub texts: Texts<'w>,
 }
@@ -175,14 +182,34 @@ fn set_inputs(
     Ok(())
 }
 
-/// The unit of the device at this address.
-fn open_unit(alloc: Global, plan: &Plan<'_>, address: SlaveId) -> Result<Unit, OpenError> {
+/// These tables, and beside them so many files, which hold zeros.
+fn open_files(alloc: Global, sizes: FileSizes, store: RegisterStore) -> Result<Held, OpenError> {
+    match Files::new(alloc, sizes.files, sizes.records) {
+        Ok(files) => Ok(MaybeFiled::With(Filed {
+            files,
+            service: store,
+        })),
+        Err(_) => Err(OpenError::NoMemory),
+    }
+}
+
+/// What the unit at this address holds at first.
+fn open_held(alloc: Global, plan: &Plan<'_>, address: SlaveId) -> Result<Held, OpenError> {
     let mut store = open_store(alloc, plan.entries)?;
     set_inputs(&mut store, address, plan.settings)?;
+    match plan.files {
+        Some(sizes) => open_files(alloc, sizes, store),
+        None => Ok(MaybeFiled::Without(store)),
+    }
+}
+
+/// The unit of the device at this address.
+fn open_unit(alloc: Global, plan: &Plan<'_>, address: SlaveId) -> Result<Unit, OpenError> {
+    let held = open_held(alloc, plan, address)?;
     Ok(StandardAnswers {
         service: Identified {
             identity: identity_of(alloc, &plan.texts)?,
-            service: store,
+            service: held,
         },
     })
 }
@@ -238,10 +265,13 @@ impl Addressing {
 /// is too long, or refused memory.
 pub fn open(alloc: Global, plan: &Plan<'_>, addressing: Addressing) -> Result<Device, OpenError> {
     let unit = addressing.device_among(plan.units)?;
-    Ok(DefaultUnit {
-        unit,
-        zero_is_broadcast: addressing.zero_is_broadcast,
-        service: Units::new(open_units(alloc, plan)?, addressing.absent())?,
+    let units = Units::new(open_units(alloc, plan)?, addressing.absent())?;
+    Ok(ReservedCodes {
+        service: DefaultUnit {
+            unit,
+            zero_is_broadcast: addressing.zero_is_broadcast,
+            service: units,
+        },
     })
 }
 

@@ -5,11 +5,11 @@ ghost use Rattle.modbus_field.specs.BurstLine.{IsOfNoBurst};
 use crate::device::LineDevice;
 use crate::words::{LinePlace, SerialLine};
 use modbus_adapter::EchoedLink;
-use modbus_field::burst::{BurstLink, CountedLink, process_link};
+use modbus_echo::{Echo, EchoGuard};
+use modbus_field::burst::{CountedLink, process_link};
 use modbus_idle::{PortLine, keep_alive};
 use modbus_link::{ReadSource, WriteSink};
 use modbus_server::ProcessError;
-use std::alloc::Global;
 use std::fs::{File, OpenOptions};
 use std::io;
 use std::io::{Read, Write};
@@ -63,24 +63,54 @@ pub fn open(rt: &HostRuntime, place: LinePlace<'_>) -> io::Result<OpenLine> {
     }
 }
 
+/// How many bursts are served before it is looked whether a reply has come back: one while it isn't known whether they do.
+fn turns_of(echo: Echo) -> u64 {
+    match echo {
+        Echo::Unknown => 1,
+        _ => u64::MAX,
+    }
+}
+
+/// Tells that a reply has come back, where that is news.
+fn tell_echo(rt: &HostRuntime, place: LinePlace<'_>, is_told: &mut bool, has_come_back: bool) {
+    if has_come_back && !*is_told {
+        let _ = eprintln!(rt;
+            "modbus_device: {place} gives back what is sent: start it with --echo"
+        );
+        *is_told = true;
+    }
+}
+
 /// Serves bursts until their line ends. Where other bytes came in place of an echo, the burst that they are of is lost, and no other.
 ///
 /// # Errors
 /// Those of `serve`.
 fn serve_bursts<L: CountedLink + Drop>(
-    alloc: Global,
-    bursts: &mut BurstLink<EchoedLink<L>>,
+    rt: &HostRuntime,
+    place: LinePlace<'_>,
+    bursts: &mut EchoGuard<EchoedLink<L>>,
     device: &mut LineDevice,
 ) -> Result<(), ProcessError>
     ensures { IfErr result (λ error. IsOfNoBurst error → ⊥) }
 {
+    let mut is_told = false;
     for _ in 0..u64::MAX {
-        let end = process_link(alloc, bursts, device, u64::MAX);
-        if bursts.link().collision().is_empty() {
+        let end = process_link(rt.alloc(), bursts, device, turns_of(bursts.echo()));
+        tell_echo(rt, place, &mut is_told, bursts.has_come_back());
+        if end != Err(ProcessError::TurnLimit) && bursts.link().collision().is_empty() {
             return end;
         }
     }
     Ok(())
+}
+
+/// What is known of the adapter of a line at first: with `--echo` another link takes off what it gives back.
+fn echo_at_first(has_echo: bool) -> Echo {
+    if has_echo {
+        Echo::Absent
+    } else {
+        Echo::Unknown
+    }
 }
 
 /// Serves the line over these ends, which stand behind this descriptor, until it ends.
@@ -97,7 +127,8 @@ fn serve_ends<I: Read + Drop, O: Write + Drop>(
     let silence = Duration::from_millis(line.silence);
     let mut echoed = EchoedLink::new(PortLine::new(rt, source, sink, fd, silence));
     echoed.set_echo(line.has_echo);
-    serve_bursts(rt.alloc(), &mut BurstLink::new(echoed), device)
+    let mut bursts = EchoGuard::new(echoed, echo_at_first(line.has_echo));
+    serve_bursts(rt, line.place, &mut bursts, device)
 }
 
 /// Serves a line that was opened until it ends.

@@ -5,8 +5,10 @@
 #![tactic(auto)]
 
 mod device;
+mod files;
 mod line;
 mod listen;
+mod options;
 mod setting;
 mod words;
 
@@ -164,6 +166,7 @@ fn open_matched<'w>(rt: &HostRuntime, matches: &ArgMatches<'w>) -> Result<Opened
         units: task.units.as_slice(),
         entries: task.entries,
         settings: task.settings.as_slice(),
+        files: task.files,
         texts: words::texts_of(matches),
     };
     match open_place(rt.alloc(), task.place, &plan) {
@@ -177,7 +180,7 @@ fn open_matched<'w>(rt: &HostRuntime, matches: &ArgMatches<'w>) -> Result<Opened
 
 /// What the words ask for; or the status, which is told.
 fn open_task<'w>(rt: &HostRuntime, words: &'w [String]) -> Result<Opened<'w>, u8> {
-    match words::parse(rt.alloc(), words) {
+    match options::parse(rt.alloc(), words) {
         Ok(matches) => open_matched(rt, &matches),
         Err(error) => Err(say(rt, PROGRAM, &error)),
     }

@@ -1,12 +1,13 @@
-//! The words of the command line.
+//! What the words of the command line ask for.
 
 use crate::device::{Addressing, Texts};
+use crate::files::FileSizes;
 use crate::setting::Setting;
+use clap::ArgMatches;
 use clap::parser::ValueSource;
-use clap::{Arg, ArgAction, ArgMatches, Command, Error, value_parser};
-use modbus_command::{FAILED, USAGE, VERSION, command, flag, option, positional};
+use modbus_command::{FAILED, USAGE};
 use modbus_frame::SlaveId;
-use std::alloc::{AllocError, AllocFailed, Global};
+use std::alloc::{AllocFailed, Global};
 use std::fmt;
 use std::fmt::{Display, Formatter, Write};
 use std::net::SocketAddr;
@@ -69,6 +70,8 @@ pub struct Task<'w> {
     pub settings: Vec<Setting>,
     /// How many entries each table of a unit has.
     pub entries: u32,
+    /// The files of records that each unit has, where it has any.
+    pub files: Option<FileSizes>,
 }
 
 /// Why words ask for nothing.
@@ -92,6 +95,9 @@ pub enum Wrong {
     /// A word sets no input.
     #[error("--set wants UNIT:iADDRESS=VALUE for an input register, or UNIT:dADDRESS=0 or 1 for a discrete input")]
     Setting,
+    /// A word tells no files.
+    #[error("--files wants N or N:RECORDS: 1 to 64 files of 1 to 10000 records each")]
+    Files,
     /// Memory was refused.
     #[error("no memory")]
     NoMemory,
@@ -111,178 +117,6 @@ impl<T: Drop> From<AllocFailed<T>> for Wrong {
     fn from(_error: AllocFailed<T>) -> Wrong {
         Wrong::NoMemory
     }
-}
-
-fn units<'a>(alloc: Global) -> Arg<'a> {
-    positional(
-        alloc,
-        "units",
-        "UNIT",
-        "The address of a unit, 1 to 247, each once",
-    )
-    .num_args(1..)
-}
-
-fn entries<'a>(alloc: Global) -> Arg<'a> {
-    option(
-        alloc,
-        "entries",
-        "N",
-        "How many coils, discrete inputs, holding registers and input registers a unit has",
-    )
-    .value_parser(value_parser!(u32).range(1..=65_536))
-    .default_value("1024")
-}
-
-fn listen<'a>(alloc: Global) -> Arg<'a> {
-    option(
-        alloc,
-        "listen",
-        "ADDRESS:PORT",
-        "Listen for Modbus TCP, in place of the line on the standard streams",
-    )
-}
-
-fn line<'a>(alloc: Global) -> Arg<'a> {
-    option(
-        alloc,
-        "line",
-        "ADDRESS:PORT",
-        "Connect to what carries the bytes of a serial line, as socat or a device server does",
-    )
-}
-
-fn serial<'a>(alloc: Global) -> Arg<'a> {
-    option(
-        alloc,
-        "serial",
-        "FILE",
-        "The file of a serial port, as /dev/ttyUSB0, set by stty raw -echo clocal",
-    )
-}
-
-fn silence<'a>(alloc: Global) -> Arg<'a> {
-    option(
-        alloc,
-        "silence",
-        "MS",
-        "How many milliseconds without a byte end a frame of a line [default: 20, behind --line 5]",
-    )
-    .value_parser(value_parser!(u64).range(1..=60_000))
-}
-
-fn echo<'a>(alloc: Global) -> Arg<'a> {
-    flag(
-        alloc,
-        "echo",
-        "The adapter of the line gives back what is sent, which is then no request",
-    )
-}
-
-fn set<'a>(alloc: Global) -> Arg<'a> {
-    option(
-        alloc,
-        "set",
-        "UNIT:iADDRESS=VALUE",
-        "What an input register is at first, or with d for i a discrete input; may stand more than once",
-    )
-    .action(ArgAction::Append)
-}
-
-fn default_unit<'a>(alloc: Global) -> Arg<'a> {
-    option(
-        alloc,
-        "default-unit",
-        "N",
-        "The unit that requests for 255 and 0 over Modbus TCP are for [default: the first]",
-    )
-}
-
-fn broadcast_zero<'a>(alloc: Global) -> Arg<'a> {
-    flag(
-        alloc,
-        "broadcast-0",
-        "Over Modbus TCP take 0 for a broadcast, which each unit does and none answers",
-    )
-}
-
-fn silent<'a>(alloc: Global) -> Arg<'a> {
-    flag(
-        alloc,
-        "silent",
-        "Over Modbus TCP do not answer for a unit that is not there, in place of the exception 0B",
-    )
-}
-
-fn server_id<'a>(alloc: Global) -> Arg<'a> {
-    option(alloc, "server-id", "N", "Its number in Report Server ID")
-        .value_parser(value_parser!(u8))
-        .default_value("1")
-}
-
-/// A word of what the device says of itself, which takes a text.
-fn text<'a>(alloc: Global, name: &'a str, help: &'a str) -> Arg<'a> {
-    option(alloc, name, "TEXT", help)
-}
-
-fn vendor<'a>(alloc: Global) -> Arg<'a> {
-    text(alloc, "vendor", "The name of its vendor, object 0").default_value("Mudrezzi")
-}
-
-fn product<'a>(alloc: Global) -> Arg<'a> {
-    text(
-        alloc,
-        "product",
-        "Its product code, object 1, which Report Server ID tells too",
-    )
-    .default_value("modbus_device")
-}
-
-fn revision<'a>(alloc: Global) -> Arg<'a> {
-    text(alloc, "revision", "Its revision, object 2").default_value("1")
-}
-
-// Each word is a function of its own: a function that owns several is proved for minutes.
-fn words<'a>(alloc: Global) -> Result<Vec<Arg<'a>>, AllocError> {
-    Ok(vec![in alloc;
-        units(alloc),
-        entries(alloc),
-        listen(alloc),
-        default_unit(alloc),
-        broadcast_zero(alloc),
-        silent(alloc),
-        line(alloc),
-        serial(alloc),
-        silence(alloc),
-        echo(alloc),
-        set(alloc),
-        vendor(alloc),
-        product(alloc),
-        revision(alloc),
-        server_id(alloc),
-        text(alloc, "vendor-url", "The address of its vendor, object 3"),
-        text(alloc, "product-name", "The name of the product, object 4"),
-        text(alloc, "model", "Its model, object 5"),
-        text(alloc, "application", "What it is used for, object 6"),
-    ]?)
-}
-
-fn whole<'a>(alloc: Global) -> Result<Command<'a>, AllocError> {
-    let whole = command(
-        alloc,
-        "modbus_device",
-        "A Modbus device: units with four tables each, on a serial line or a port",
-        words(alloc)?,
-    )?;
-    Ok(whole.version(VERSION))
-}
-
-/// Reads the words of the command line, the program's name first.
-///
-/// # Errors
-/// What clap has to say: the help that was asked for, or the word that can't be read.
-pub fn parse<'a>(alloc: Global, words: &'a [String]) -> Result<ArgMatches<'a>, Error> {
-    whole(alloc)?.try_get_matches_from(words)
 }
 
 /// The address that a word names.
@@ -390,6 +224,17 @@ fn settings_of(alloc: Global, words: &[&str]) -> Result<Vec<Setting>, Wrong> {
     Ok(settings)
 }
 
+/// The files that a unit is to have; none without the word.
+fn files_of(matches: &ArgMatches<'_>) -> Result<Option<FileSizes>, Wrong> {
+    let Some(word) = matches.get_str("files") else {
+        return Ok(None);
+    };
+    match word.parse() {
+        Ok(sizes) => Ok(Some(sizes)),
+        Err(_) => Err(Wrong::Files),
+    }
+}
+
 /// The addresses that the words name.
 fn units_of(alloc: Global, words: &[&str]) -> Result<Vec<SlaveId>, Wrong> {
     let mut units = Vec::new(alloc);
@@ -402,7 +247,7 @@ fn units_of(alloc: Global, words: &[&str]) -> Result<Vec<SlaveId>, Wrong> {
 /// What the words ask for.
 ///
 /// # Errors
-/// `Places`, `NoLine`, `Lacks`: words do not go together; `Unit`, `Address`, `Setting`: a word is none; `NoMemory`: memory was refused.
+/// `Places`, `NoLine`, `Lacks`: words do not go together; `Unit`, `Address`, `Setting`, `Files`: a word is none; `NoMemory`: memory was refused.
 pub fn task_of<'w>(alloc: Global, matches: &ArgMatches<'w>) -> Result<Task<'w>, Wrong> {
     check_together(matches)?;
     Ok(Task {
@@ -410,6 +255,7 @@ pub fn task_of<'w>(alloc: Global, matches: &ArgMatches<'w>) -> Result<Task<'w>, 
         units: units_of(alloc, matches.get_strs("units").unwrap_or(&[]))?,
         settings: settings_of(alloc, matches.get_strs("set").unwrap_or(&[]))?,
         entries: matches.get_one("entries").unwrap_or(1024),
+        files: files_of(matches)?,
     })
 }
 

@@ -9,7 +9,7 @@ use Rattle.modbus_link.specs.declared.polled.Polled.TheVariants.{Ready, Pending}
 use Rattle.modbus_link.specs.Outside.{Input, Rose, Advances, Gives, bytes_read, front_of, ReadIsTold}
 use Rattle.modbus_link.specs.Polled.{at_once}
 use Rattle.modbus_link.specs.Runs.{Advances-same, Advances-both, bytes_read-none, read_more}
-use Rattle.modbus_field.specs.BurstLink.{last_count, OneMore, FailsBy, EndsBurst, ComesBehind, came, GoesOn, Finishes, GivesBurst}
+use Rattle.modbus_field.specs.BurstLink.{last_count, OneMore, FailsBy, EndsBurst, ComesBehind, came, GoesOn, Finishes, GivesBurst, BurstAtOnce}
 
 -- so many silences were told, and nothing was read
 pub record Hushed (told : ℕ) (from to : Input) (idle now : ℕ) : Type 0 where
@@ -200,10 +200,10 @@ module _ {L : Type 0} (input : L → Input) (idle : L → ℕ) (from mid to : L)
   abbrev Rest : Result ℕ Failed → Type 0
   Rest result = Finishes (input mid) (input to) (idle mid) (idle to) first before new result
 
-  whole : {result : Result ℕ Failed} → Rest result → IsTrue (input from).told → bytes_read (input from) (input to) ≡ take first before ++ bytes_read (input mid) (input to)
+  pub whole : {result : Result ℕ Failed} → Rest result → IsTrue (input from).told → bytes_read (input from) (input to) ≡ take first before ++ bytes_read (input mid) (input to)
   whole f told = read_more (input from) (input mid) (input to) (take first before) (bytes_read (input mid) (input to)) source f.source read (λ told. refl) told
 
-  ends_whole : (count : ℕ) → {result : Result ℕ Failed} → Rest result → EndsBurst (input mid) (input to) (idle mid) (idle to) count
+  pub ends_whole : (count : ℕ) → {result : Result ℕ Failed} → Rest result → EndsBurst (input mid) (input to) (idle mid) (idle to) count
       → EndsBurst (input from) (input to) (idle behind.quiet) (idle to) count
   ends_whole count f (inl (some, more)) = inl (some, subst (λ n. OneMore n (idle to)) behind.same more)
   ends_whole count f (inr (hush, inl ended)) = inr (hush ∙ behind.same, inl (λ told. ended (source.told ∙ told)))
@@ -256,3 +256,31 @@ gives_not input idle from to room new error source later fails = record {
 pub comes_behind : {L : Type 0} (input : L → Input) (idle : L → ℕ) (from quiet to : L) (told : ℕ) → Hushed told (input from) (input quiet) (idle from) (idle quiet) → idle to ≡ idle quiet
     → ComesBehind input idle from to
 comes_behind input idle from quiet to told h same = record { quiet = quiet; is_quiet = (h.source, h.read); same = same }
+
+-- a burst whose first piece came with no silence before it, and its rest
+module _ {L : Type 0} (input : L → Input) (idle : L → ℕ) (from mid to : L) (first count : ℕ) (old before new : List ℕ) (source : Advances (input from) (input mid)) (later : idle from ≤ idle mid)
+    (same : length before ≡ length old) (read : IsTrue (input from).told → bytes_read (input from) (input mid) ≡ take first before) (hush : idle mid ≡ idle from) where
+  abbrev at_once_here : ComesBehind input idle from mid
+  at_once_here = record { quiet = from; is_quiet = (Advances-same (input from), λ told. bytes_read-none (input from) (input from) refl); same = hush }
+
+  pub gives_at_once : Finishes (input mid) (input to) (idle mid) (idle to) first before new (Ok count)
+      → BurstAtOnce input idle from to (length old) count new
+  gives_at_once f = record {
+    source = Advances-both (input from) (input mid) (input to) source f.source;
+    front = λ told. f.front (source.told ∙ told) ∙ ap (λ n. take n (take first before ++ bytes_read (input mid) (input to))) same
+        ∙ ap (take (length old)) (sym (whole input idle from mid to first old before new source later same read at_once_here f told));
+    ends = ends_whole input idle from mid to first old before new source later same read at_once_here count f f.ends;
+  }
+
+-- the input ended, and nothing came
+pub ends_at_once : {L : Type 0} (input : L → Input) (idle : L → ℕ) (from to : L) (room : ℕ) (new : List ℕ) → Advances (input from) (input to) → idle to ≡ idle from
+    → (IsTrue (input from).told → bytes_read (input from) (input to) ≡ []) → (IsTrue (input from).told → (input to).left ≡ []) → BurstAtOnce input idle from to room 0 new
+ends_at_once input idle from to room new source hush read ended = record {
+  source = source;
+  front = λ told. sym (ap (take room) (read told) ∙ take_all room [] (omega arith));
+  ends = inr (hush, inl ended);
+}
+
+-- the link failed behind the first piece
+pub fails_at_once : (a b c : Input) → Advances a b → Advances b c → Rose b.faults c.faults → Advances a c × Rose a.faults c.faults
+fails_at_once a b c first second rose = (Advances-both a b c first second, (let l = first.later in omega (arith, l, rose)))

@@ -7,6 +7,7 @@ pub mod OneReading
 pub mod OwnLength
 pub mod Read
 pub mod Reading
+pub mod Reserved
 pub mod Said
 pub mod Serving
 pub mod StreamFaults

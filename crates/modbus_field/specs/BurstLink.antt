@@ -1,5 +1,5 @@
 -- What one read of a link whose reads are bursts gives.
-use Rattle.std.specs.Prelude.{◌≡◌, ◌⊎◌, ℕ, ◌+◌, ◌-◌, ◌^◌, ◌<◌, ◌≤◌, min, List, [], ◌++◌, length, take, IsTrue, Result, Ok, Err, IfOk, OnErr}
+use Rattle.std.specs.Prelude.{◌≡◌, ◌⊎◌, ℕ, ◌+◌, ◌-◌, ◌^◌, ◌<◌, ◌≤◌, min, List, [], ◌++◌, length, take, IsTrue, Option, Some, None, Result, Ok, Err, IfOk, OnErr, ⊤}
 use Rattle.modbus_link.specs.declared.outside.Failed.{Failed}
 use Rattle.modbus_link.specs.declared.polled.Polled.{Polled}
 use Rattle.modbus_link.specs.declared.polled.Polled.TheVariants.{Ready, Pending}
@@ -69,6 +69,28 @@ pub record GivesBurst {L : Type 0} (input : L → Input) (silences : L → ℕ) 
   pub front : IsTrue (input from).told → IfOk result (λ count. take count given ≡ take room (bytes_read (input from) (input to)))
   pub ends : IfOk result (EndsBehind input silences from to)
   pub fails : OnErr result (FailsBy (input from) (input to) (silences to))
+
+-- a whole burst that came with no silence before it, of which so many bytes stand at the front of what is given; none where the input ended
+pub record BurstAtOnce {L : Type 0} (input : L → Input) (silences : L → ℕ) (from to : L) (room count : ℕ) (given : List ℕ) : Type 0 where
+  pub source : Advances (input from) (input to)
+  pub front : IsTrue (input from).told → take count given ≡ take room (bytes_read (input from) (input to))
+  pub ends : EndsBurst (input from) (input to) (silences from) (silences to) count
+
+-- a silence was told, before any byte
+pub record SilenceFirst {L : Type 0} (input : L → Input) (silences : L → ℕ) (from to : L) : Type 0 where
+  pub quiet : IsQuiet input from to
+  pub counted : OneMore (silences from) (silences to)
+
+-- One read of a burst that is to come at once: it did, or a silence came first.
+abbrev pub GivesAtOnce : {L : Type 0} → (L → Input) → (L → ℕ) → L → L → ℕ → List ℕ → Result (Option ℕ) Failed → Type 0
+GivesAtOnce input silences from to room given (Ok (Some count)) = BurstAtOnce input silences from to room count given
+GivesAtOnce input silences from to room given (Ok None) = SilenceFirst input silences from to
+GivesAtOnce input silences from to room given (Err error) = Advances (input from) (input to) × Rose (input from).faults (input to).faults
+
+-- it gives no more than there is room for
+abbrev pub FitsRoom : {E : Type 0} → Result (Option ℕ) E → List ℕ → Type 0
+FitsRoom (Ok (Some count)) room = count ≤ length room
+FitsRoom _ room = ⊤
 
 -- so many bytes came, and none where the link told silence
 abbrev pub came : Result (Polled ℕ) Failed → ℕ

@@ -7,6 +7,7 @@ pub mod BurstReading
 pub mod Bursts
 pub mod DefaultUnit
 pub mod Pieces
+pub mod ReservedCodes
 pub mod StandardAnswers
 pub mod StreamFraming
 pub mod StreamLine

@@ -4,7 +4,7 @@ ghost use Rattle.std.specs.Io.{ReadsAtMost, WritesAtMost};
 ghost use Rattle.modbus_link.specs.Outside.{Rose, Advances, Extends, bytes_appended, bytes_read, front_of, untold_input};
 ghost use Rattle.modbus_link.specs.Memory.{faults_after};
 ghost use Rattle.modbus_link.specs.declared.polled.Polled.TheVariants.{Ready};
-ghost use Rattle.modbus_field.specs.BurstLink.{burst_at_start, output_over, last_count, CountsSilence, ComesBehind, FailsBy, GoesOn, Finishes, GivesBurst};
+ghost use Rattle.modbus_field.specs.BurstLink.{burst_at_start, output_over, last_count, CountsSilence, ComesBehind, FailsBy, GoesOn, Finishes, GivesBurst, GivesAtOnce, FitsRoom};
 
 use crate::burst::counted::CountedLink;
 use modbus_link::{Ends, Failed, Polled, Sink, Source};
@@ -144,6 +144,28 @@ fn read_burst<L: CountedLink>(link: &mut L, room: &mut [u8]) -> Result<usize, Fa
     }
 }
 
+/// Reads a burst that comes at once: how many bytes of it stand at the front of the room, 0 where the input has ended; `None` where a
+/// silence came first.
+fn read_first<L: CountedLink>(link: &mut L, room: &mut [u8]) -> Result<Option<usize>, Failed>
+    requires { 0 < length room.old }
+    ensures length { length room.new ≡ length room.old }
+    ensures fits { FitsRoom result room.new }
+    ensures gives { GivesAtOnce L.input L.not_ready link.old link.new (length room.old) room.new
+        result }
+    ensures sink { L.output link.new ≡ L.output link.old }
+    ensures line { L.line link.new ≡ L.line link.old }
+{
+    match link.poll_counted(room) {
+        Ok(Polled::Pending) => Ok(None),
+        Ok(Polled::Ready(0)) => Ok(Some(0)),
+        Ok(Polled::Ready(first)) => match finish(link, room, first) {
+            Ok(count) => Ok(Some(count)),
+            Err(Failed) => Err(Failed),
+        },
+        Err(Failed) => Err(Failed),
+    }
+}
+
 /// Waits until the link takes a front of the bytes: how many.
 fn write_through<L: CountedLink>(link: &mut L, piece: &[u8]) -> Result<usize, Failed>
     ensures bound { WritesAtMost result piece.now }
@@ -165,6 +187,36 @@ fn write_through<L: CountedLink>(link: &mut L, piece: &[u8]) -> Result<usize, Fa
         }
     }
     Err(Failed)
+}
+
+impl<L: CountedLink> BurstLink<L> {
+    /// Reads a burst as `read` does, where it begins before the line falls silent: how many bytes of it stand at the front of the room, 0
+    /// where the input has ended. `None` where a silence came first: nothing was read then.
+    ///
+    /// # Errors
+    /// `Failed` where the link failed, and what came of the burst is lost.
+    pub fn read_at_once(&mut self, room: &mut [u8]) -> Result<Option<usize>, Failed>
+        requires { 0 < length room.old }
+        ensures length { length room.new ≡ length room.old }
+        ensures fits { FitsRoom result room.new }
+        ensures gives { GivesAtOnce L.input L.not_ready self.old.link self.new.link
+            (length room.old) room.new result }
+        ensures sink { L.output self.new.link ≡ L.output self.old.link }
+        ensures line { L.line self.new.link ≡ L.line self.old.link }
+        ensures later { self.old.read_faults ≤ self.new.read_faults }
+        ensures counts { self.new ≡ record self.old {
+          link = self.new.link;
+          read_faults = faults_after result self.old.read_faults;
+        } }
+    {
+        match read_first(&mut self.link, room) {
+            Ok(found) => Ok(found),
+            Err(Failed) => {
+                self.read_faults = self.read_faults.saturating_add(1);
+                Err(Failed)
+            }
+        }
+    }
 }
 
 impl<L: CountedLink> Ends for BurstLink<L> {

@@ -4,8 +4,9 @@ ghost use Rattle.modbus_frame.specs.declared.tcp.Header.{Header};
 ghost use Rattle.modbus_pdu.specs.Message.{Message};
 ghost use Rattle.modbus_field.specs.DefaultUnit.{DefaultUnitRuns, ComesOfBelow};
 ghost use Rattle.modbus_field.specs.Pieces.{IsPartial, AreMessages};
+ghost use Rattle.modbus_field.specs.ReservedCodes.{RefusesReserved, PassesOthers};
 
-use modbus_service::Answerer;
+use modbus_service::{Answerer, Service};
 
 /// Bytes are pieces and a rest in one way, however they are cut: the messages of a front of bytes are the first of those of all, and where
 /// all bytes are pieces, a rest that is no whole piece is nothing.
@@ -23,4 +24,11 @@ pub fn one_reading()
 pub fn default_unit_runs<H, S: Answerer>()
     ensures below { DefaultUnitRuns H S.answering }
     ensures back { ComesOfBelow H S.answering }
+{}
+
+/// A function code of 80 (hexadecimal) or above is answered by itself and exception 01, where `ReservedCodes` stands before a service behind
+/// `StandardAnswers`; what has any other goes through.
+pub fn reserved_codes_are_refused<S: Service>()
+    ensures refused { RefusesReserved S.answers S.takes_memory }
+    ensures others { PassesOthers }
 {}

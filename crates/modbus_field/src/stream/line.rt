@@ -50,7 +50,8 @@ pub fn process_link<L: Source + Sink, V: Answerer>(
 /// Over a source and a sink that tell their bytes, Ok comes only where the input ended with no piece cut short. Then one run of the service
 /// took the pieces of the whole input in order, and stands at its end; its replies, each with its request's transaction and unit
 /// identifier, are all that was appended. A PDU that can't be read is asked as a custom request of its function code; one of no byte as one
-/// of no function, so that `StandardAnswers` is silent to it.
+/// of no function, so that `StandardAnswers` is silent to it, as it is to a function code from 80 (hexadecimal) on, unless `ReservedCodes`
+/// stands before it.
 ///
 /// # Errors
 /// - `ReadFault`, `WriteFault`: only where the source, the sink counted a fault in this call.

@@ -1,0 +1,3 @@
+pub mod Filed
+pub mod Files
+pub mod MaybeFiled
