@@ -8,3 +8,6 @@ pub mod WordsAt
 pub mod Digits
 pub mod Prefixes
 pub mod Trimmed
+pub mod Reaching
+pub mod Reading
+pub mod StateAt

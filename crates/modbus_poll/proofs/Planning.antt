@@ -12,6 +12,7 @@ use Rattle.modbus_poll.specs.declared.item.Item.{Item}
 use Rattle.modbus_poll.specs.declared.item.Kind.TheVariants.{U16}
 use Rattle.modbus_poll.specs.declared.read.Read.{Read}
 use Rattle.modbus_poll.specs.Items.{width, item_end, read_end, is_count, is_readable, lies_in, is_covered}
+use Rattle.modbus_poll.specs.Spans.{span_of}
 use Rattle.modbus_poll.specs.Plans.{IsPlan, IsLeft, IsNextRead, Follow}
 use Rattle.modbus_poll.specs.InOrder.{IsGreatestEnd}
 use Rattle.modbus_poll.proofs.Tests.{lies, ends_before, readable_width}
@@ -127,7 +128,7 @@ module _ (items : List Item) (ends : List ℕ) (readable : AllPass is_readable i
   ]
 
   in_none : is_covered reads item ≡ false
-  in_none = list_any_none (lies_in item) reads (λ k d less. ends_before item (get_or reads k d) (let e : read_end (get_or reads k d) ≤ reached = p.below k d less in omega arith))
+  in_none = list_any_none (lies_in item) reads (λ k d less. ends_before (span_of item) (get_or reads k d) (let e : read_end (get_or reads k d) ≤ reached = p.below k d less in omega arith))
 
   next_read : IsNextRead items reads read
   next_read =

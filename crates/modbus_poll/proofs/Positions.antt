@@ -1,12 +1,13 @@
--- The first element that passes a test, and the first read in which an item lies.
+-- The first element that passes a test, and the first read in which a span lies.
 use Rattle.std.proofs.Common.{◌≡◌, ℕ, zero, suc, ◌+◌, ◌<◌, ◌≤◌, Bool, true, false, cond, not, ◌||◌, List, [], ◌∷◌, length, get_or, Some, None, inl, inr, ltb, refl, sym, ap, ◌∙◌, arith}
 use Rattle.std.specs.List.{position, position_or_len, list_any, AllWithin, AllPass}
 use Rattle.std.specs.Option.{is_some}
 use Rattle.std.proofs.lemmas.Bool.{cases_lt, ltb-true}
 use Rattle.std.proofs.lemmas.Bool.Decides.{nat_tests}
-use Rattle.modbus_poll.specs.declared.item.Item.{Item}
+use Rattle.modbus_poll.specs.declared.span.Span.{Span}
 use Rattle.modbus_poll.specs.declared.read.Read.{Read}
-use Rattle.modbus_poll.specs.Items.{item_end, read_end, lies_in}
+use Rattle.modbus_poll.specs.Items.{read_end}
+use Rattle.modbus_poll.specs.Spans.{span_end, is_within}
 use Rattle.modbus_poll.specs.ReadOrder.{AreRising}
 use Rattle.modbus_poll.proofs.Tests.{ends_before, begins_after, begins_late}
 
@@ -62,25 +63,25 @@ all_pass p xs none =
     at_none (x ∷ xs) zero d less any = grind arith
     at_none (x ∷ xs) (suc k) d less any = at_none xs k d (omega arith) (grind arith)
 
-module _ (item : Item) (reads : List Read) (place : ℕ) (before : AllWithin (λ (read : Read). ltb (read_end read) (item_end item) ≡ true) reads 0 place) where
-  misses : (k : ℕ) (d : Read) → k < place → lies_in item (get_or reads k d) ≡ false
-  misses k d less = ends_before item (get_or reads k d) (ltb-true _ _ (before k d (omega arith) less))
+module _ (span : Span) (reads : List Read) (place : ℕ) (before : AllWithin (λ (read : Read). ltb (read_end read) (span_end span) ≡ true) reads 0 place) where
+  misses : (k : ℕ) (d : Read) → k < place → is_within span (get_or reads k d) ≡ false
+  misses k d less = ends_before span (get_or reads k d) (ltb-true _ _ (before k d (omega arith) less))
 
-  -- every read ends before the item does
-  pub none_past : length reads ≤ place → position (lies_in item) reads ≡ None
-  none_past le = first_nowhere (lies_in item) reads (λ k d less. misses k d (omega arith))
+  -- every read ends before the span does
+  pub none_past : length reads ≤ place → position (is_within span) reads ≡ None
+  none_past le = first_nowhere (is_within span) reads (λ k d less. misses k d (omega arith))
 
   -- the first read that does not
-  pub found_there : place < length reads → ((d : Read) → lies_in item (get_or reads place d) ≡ true) → position (lies_in item) reads ≡ Some place
-  found_there less holds = first_at (lies_in item) reads place less misses holds
+  pub found_there : place < length reads → ((d : Read) → is_within span (get_or reads place d) ≡ true) → position (is_within span) reads ≡ Some place
+  found_there less holds = first_at (is_within span) reads place less misses holds
 
-  -- it begins after the item does, and so do those after it
-  pub none_there : AreRising reads → place < length reads → ((d : Read) → item_end item ≤ read_end (get_or reads place d))
-      → ((d : Read) → lies_in item (get_or reads place d) ≡ false) → position (lies_in item) reads ≡ None
-  none_there rising less ends apart = first_nowhere (lies_in item) reads (λ k d within. elim (cases_lt k place) [
+  -- it begins after the span does, and so do those after it
+  pub none_there : AreRising reads → place < length reads → ((d : Read) → span_end span ≤ read_end (get_or reads place d))
+      → ((d : Read) → is_within span (get_or reads place d) ≡ false) → position (is_within span) reads ≡ None
+  none_there rising less ends apart = first_nowhere (is_within span) reads (λ k d within. elim (cases_lt k place) [
     | inl lt ↦ misses k d lt
     | inr ge ↦
-        let late : item.address < (get_or reads place d).address = begins_late item (get_or reads place d) (ends d) (apart d) in
+        let late : span.address < (get_or reads place d).address = begins_late span (get_or reads place d) (ends d) (apart d) in
         let up : (get_or reads place d).address ≤ (get_or reads k d).address = rising.0 place k d ge within in
-        begins_after item (get_or reads k d) (omega arith)
+        begins_after span (get_or reads k d) (omega arith)
   ])

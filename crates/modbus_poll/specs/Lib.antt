@@ -9,3 +9,7 @@ pub mod Polls
 pub mod Making
 pub mod Inputs
 pub mod Notation
+pub mod Spans
+pub mod SpanPlans
+pub mod RankOrder
+pub mod States

@@ -1,4 +1,4 @@
--- Polls: reads that are made in order, and what each was answered (Modbus Application Protocol V1.1b3, section 6.3).
+-- Polls: reads that are made in order, and what each was answered (Modbus Application Protocol V1.1b3, sections 6.1 to 6.4).
 use Rattle.std.specs.Prelude.{◌≡◌, ◌≢◌, ◌⊎◌, ℕ, List, [], ◌∷◌, length, take, slice_get, Some, Result, Ok, Err}
 use Rattle.modbus_frame.specs.Meaning.{Asked, ReadHoldingRegisters}
 use Rattle.modbus_frame.specs.declared.fault.Error.TheVariants as error
@@ -15,9 +15,12 @@ use Rattle.modbus_poll.specs.Words.{values_among}
 abbrev pub WordsAnswer : Type 0
 WordsAnswer = AnswerOf (List ℕ)
 
--- what asking one read may do: of a state, the read, its answer and the next state
+-- what asking one read, of registers or of bits, may do: of a state, the read, its answer and the next state
+abbrev pub ReadMeaning : Type 0 → Type 0 → Type 1
+ReadMeaning A S = S → Read → AnswerOf (List A) → S → Type 0
+
 abbrev pub PollMeaning : Type 0 → Type 1
-PollMeaning S = S → Read → WordsAnswer → S → Type 0
+PollMeaning S = ReadMeaning ℕ S
 
 -- the request of a read
 abbrev pub request_for : Read → Asked
@@ -29,7 +32,7 @@ AsksClient answers old read answer new =
     Asks answers old (request_for read) (holding_registers_read read.count) answer new
 
 -- The reads were made in order, each once, and each was answered with as many words as it asks for.
-abbrev pub ReadsEach : {S : Type 0} → PollMeaning S → S → List Read → List (List ℕ) → S → Type 0
+abbrev pub ReadsEach : {A S : Type 0} → ReadMeaning A S → S → List Read → List (List A) → S → Type 0
 ReadsEach asks old [] [] new = new ≡ old
 ReadsEach asks old (read ∷ reads) (words ∷ found) new =
     (next : _) × asks old read (Ok (Ok words)) next × (length words ≡ read.count)
@@ -37,9 +40,9 @@ ReadsEach asks old (read ∷ reads) (words ∷ found) new =
 ReadsEach asks old _ _ new = ⊥
 
 -- The read at this place was answered so, after those before it, each of which gave its words. No other was made.
-pub record AnswersAt {S : Type 0} (asks : PollMeaning S) (old : S) (reads : List Read) (place : ℕ)
-    (answer : WordsAnswer) (new : S) : Type 0 where
-  pub found : List (List ℕ)
+pub record AnswersAt {A S : Type 0} (asks : ReadMeaning A S) (old : S) (reads : List Read) (place : ℕ)
+    (answer : AnswerOf (List A)) (new : S) : Type 0 where
+  pub found : List (List A)
   pub before : S
   pub earlier : ReadsEach asks old (take place reads) found before
   pub read : Read
@@ -47,23 +50,23 @@ pub record AnswersAt {S : Type 0} (asks : PollMeaning S) (old : S) (reads : List
   pub asked : asks before read answer new
 
 -- a response with another number of words than its read asks for
-pub record AnswersOther {S : Type 0} (asks : PollMeaning S) (old : S) (reads : List Read)
+pub record AnswersOther {A S : Type 0} (asks : ReadMeaning A S) (old : S) (reads : List Read)
     (place count : ℕ) (new : S) : Type 0 where
-  pub words : List ℕ
+  pub words : List A
   pub answers : AnswersAt asks old reads place (Ok (Ok words)) new
   pub counted : count ≡ length words
   pub other : count ≢ answers.read.count
 
 -- Memory was refused before the first read, after the last one, or in the call of a read, which was answered so after those before it. So
 -- where some reads gave their words and another answer came then, it is told.
-abbrev pub LacksMemory : {S : Type 0} → PollMeaning S → S → List Read → S → Type 0
+abbrev pub LacksMemory : {A S : Type 0} → ReadMeaning A S → S → List Read → S → Type 0
 LacksMemory asks old reads new =
     (new ≡ old)
-    ⊎ (((found : List (List ℕ)) × ReadsEach asks old reads found new)
+    ⊎ (((found : List (List _)) × ReadsEach asks old reads found new)
     ⊎ ((place : ℕ) × AnswersAt asks old reads place (Err error.NoMemory) new))
 
 -- what stands where a poll gives no values
-abbrev pub Stops : {S : Type 0} → PollMeaning S → S → List Read → PollError → S → Type 0
+abbrev pub Stops : {A S : Type 0} → ReadMeaning A S → S → List Read → PollError → S → Type 0
 Stops asks old reads (Call place fault) new =
     (fault ≢ error.NoMemory) × AnswersAt asks old reads place (Err fault) new
 Stops asks old reads (Exception place code) new = AnswersAt asks old reads place (Ok (Err code)) new
@@ -78,12 +81,12 @@ pub record GivesValues {S : Type 0} (asks : PollMeaning S) (old : S) (reads : Li
   pub given : values ≡ values_among reads found items
 
 -- what a poll makes of the answer to the read at this place
-abbrev pub TakesAnswer : ℕ → Read → WordsAnswer → Result (List ℕ) PollError → Type 0
+abbrev pub TakesAnswer : {A : Type 0} → ℕ → Read → AnswerOf (List A) → Result (List A) PollError → Type 0
 TakesAnswer place read answer (Ok words) = (answer ≡ Ok (Ok words)) × (length words ≡ read.count)
 TakesAnswer place read answer (Err (Call at fault)) =
     (at ≡ place) × (answer ≡ Err fault) × (fault ≢ error.NoMemory)
 TakesAnswer place read answer (Err (Exception at code)) = (at ≡ place) × (answer ≡ Ok (Err code))
 TakesAnswer place read answer (Err (Words at count)) =
-    (at ≡ place) × (words : List ℕ) × (answer ≡ Ok (Ok words)) × (count ≡ length words)
+    (at ≡ place) × (words : List _) × (answer ≡ Ok (Ok words)) × (count ≡ length words)
     × (count ≢ read.count)
 TakesAnswer place read answer (Err NoMemory) = answer ≡ Err error.NoMemory

@@ -6,8 +6,8 @@ use Rattle.modbus_poll.specs.declared.value.Value.{Value}
 use Rattle.modbus_poll.specs.Items.{width, lies_in}
 use Rattle.modbus_poll.specs.Values.{value}
 
--- each read gave as many words as it has registers
-abbrev pub AreWordsOf : List Read → List (List ℕ) → Type 0
+-- each read gave as many words as it has registers, or states as it has bits
+abbrev pub AreWordsOf : {A : Type 0} → List Read → List (List A) → Type 0
 AreWordsOf [] [] = ⊤
 AreWordsOf (read ∷ reads) (words ∷ found) = (length words ≡ read.count) × AreWordsOf reads found
 AreWordsOf _ _ = ⊥

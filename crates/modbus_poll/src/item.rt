@@ -1,12 +1,14 @@
 //! What is read of a device: numbers and texts that lie in its registers.
 ghost use Rattle.std.specs.Prelude.{◌≡◌};
 ghost use Rattle.modbus_poll.specs.Items.{width, item_end, is_count, is_readable};
+ghost use Rattle.modbus_poll.specs.Spans.{span_of};
 
+use crate::span::Span;
 use modbus_frame::{Address, Quantity};
 use modbus_pdu::MAX_READ_REGISTERS;
 
 /// How many registers a device can have, and so the address after the last one (V1.1b3, section 4.4).
-const ADDRESSES: u32 = 0x1_0000;
+pub(crate) const ADDRESSES: u32 = 0x1_0000;
 
 /// Which word of a number comes first. In each word the high byte comes first (V1.1b3, section 4.2).
 #[derive(Clone, Copy, Debug, PartialEq, Eq)]
@@ -71,6 +73,16 @@ impl Item {
         ensures { result ≡ item_end self.now }
     {
         u32::from(self.address) + u32::from(self.kind.width())
+    }
+
+    /// Its registers.
+    pub fn span(&self) -> Span
+        ensures { result ≡ span_of self.now }
+    {
+        Span {
+            address: self.address,
+            count: self.kind.width(),
+        }
     }
 
     /// Whether one read can give it: it takes 1 to 125 registers (V1.1b3, section 6.3), and each of them has an address.

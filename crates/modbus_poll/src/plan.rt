@@ -2,9 +2,12 @@
 ghost use Rattle.std.specs.Prelude.{◌≡◌, ◌≤◌, All, [], ◌∷◌, ◌++◌, position, OnOk};
 ghost use Rattle.modbus_poll.specs.declared.read.Read.{Read};
 ghost use Rattle.modbus_poll.specs.Items.{read_end, lies_in, gives, covers};
+ghost use Rattle.modbus_poll.specs.Spans.{one, is_within, is_read, are_read};
 
 use crate::item::Item;
-use crate::read::{Read, first_holding};
+use crate::read::{Read, first_with};
+use crate::span::Span;
+use modbus_frame::Address;
 use std::alloc::{AllocError, Global};
 use std::marker::Model;
 
@@ -29,7 +32,7 @@ impl Model for Plan {
 /// Why there is no plan.
 #[derive(Clone, Copy, Debug, PartialEq, Eq, thiserror::Error)]
 pub enum PlanError {
-    /// No read can give the item at this place: it has not 1 to 125 registers, or they pass the last address.
+    /// No read can give the item or span at this place: it has none or too many registers or bits, or they pass the last address.
     #[error("no read can give the item at place {0}")]
     BadItem(usize),
     /// Memory was refused.
@@ -78,7 +81,29 @@ impl Plan {
     pub(crate) fn read_of(&self, item: &Item) -> Option<usize>
         ensures { result ≡ position (lies_in item.now) self.now }
     {
-        first_holding(self.reads.as_slice(), item)
+        self.place_of(&item.span())
+    }
+
+    /// The place of the first read in which a span lies.
+    pub fn place_of(&self, span: &Span) -> Option<usize>
+        ensures { result ≡ position (is_within span.now) self.now }
+    {
+        first_with(self.reads.as_slice(), span)
+    }
+
+    #[tactic(auto, using(crate::proofs::Positions::some_place))]
+    /// Whether an address is one of a read.
+    fn reads_address(&self, address: Address) -> bool
+        ensures { result ≡ is_read self.now (one address) }
+    {
+        self.place_of(&Span::one(address)).is_some()
+    }
+
+    /// Whether each of these addresses is one of a read.
+    pub fn reads_each(&self, addresses: &[Address]) -> bool
+        ensures { result ≡ are_read self.now addresses.now }
+    {
+        addresses.iter().all(|address| self.reads_address(*address))
     }
 
     #[tactic(auto, using(crate::proofs::Positions::some_place))]

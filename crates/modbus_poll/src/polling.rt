@@ -10,7 +10,7 @@ use crate::read::Read;
 use crate::value::Value;
 use crate::words::values_among;
 use modbus_client::Reader;
-use modbus_frame::{Error, ExceptionCode, Words};
+use modbus_frame::{Error, ExceptionCode, Items, Words};
 use std::alloc::{AllocError, Global};
 
 /// Why a poll gives no values. A read is told by its place in the plan.
@@ -22,7 +22,7 @@ pub enum PollError {
     /// This read was answered with an exception (V1.1b3, section 7).
     #[error("read {read}: {code}")]
     Exception { read: usize, code: ExceptionCode },
-    /// This read was answered with so many words, which is not what it asks for.
+    /// This read was answered with so many words, or states of bits, which is not what it asks for.
     #[error("read {read}: {found} words")]
     Words { read: usize, found: usize },
     /// Memory was refused.
@@ -40,15 +40,15 @@ impl From<AllocError> for PollError {
     }
 }
 
-/// What a poll makes of the answer to the read at this place: the words that the read asks for.
+/// What a poll makes of the answer to the read at this place: the words that the read asks for, or the states of bits.
 ///
 /// # Errors
-/// `Exception` where it is one. `Words` where it has another number of words. `NoMemory` where it is that, and `Call` for any other error.
-pub fn take_answer(
+/// `Exception` where it is one. `Words` where it has another number of them. `NoMemory` where it is that, and `Call` for any other error.
+pub fn take_answer<T: Drop>(
     place: usize,
     read: &Read,
-    answer: modbus_frame::Result<Words>,
-) -> Result<Words, PollError>
+    answer: modbus_frame::Result<Items<T>>,
+) -> Result<Items<T>, PollError>
     ensures { TakesAnswer place read.now answer result }
 {
     match answer {

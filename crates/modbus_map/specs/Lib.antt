@@ -1,0 +1,14 @@
+pub mod Asking
+pub mod Gathering
+pub mod Kinds
+pub mod Decimals
+pub mod Orders
+pub mod Scales
+pub mod Values
+pub mod Writing
+pub mod Sound
+pub mod Text
+pub mod Reading
+pub mod Points
+pub mod Names
+pub mod Notation
