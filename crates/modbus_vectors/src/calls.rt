@@ -5,8 +5,8 @@
 use crate::text::Text;
 use crate::word::Word;
 use crate::{
-    ascii, clients, codecs, connecting, context, diagnosing, faults, gateway, listeners, one_call,
-    passes, pdus, polls, program, reconnect, servers, store, typed, units, values,
+    ascii, clients, codecs, connecting, context, diagnosing, faults, gateway, listeners, maps,
+    one_call, passes, pdus, polls, program, reconnect, servers, store, typed, units, values,
 };
 use std::sync::Wait;
 
@@ -45,7 +45,9 @@ fn answer_clients(text: &mut Text, call: &str, words: &[Word]) -> bool {
     match call {
         "typed" => typed::answer(text, words),
         "only_reads" => diagnosing::answer_only_reads(text, words),
-        "context" | "context_poll" => context::answer(text, call, words),
+        "context" | "context_poll" | "context_coils" | "context_inputs" => context::answer(
+            text, call, words,
+        ),
         _ if call.starts_with("gateway") => gateway::answer(text, call, words),
         _ if call.starts_with("reconnect") => reconnect::answer(text, call, words),
         _ => answer_over_links(text, call, words),
@@ -75,8 +77,10 @@ fn answer_servers<R: Wait + Sync>(rt: &R, text: &mut Text, call: &str, words: &[
 fn answer_program(text: &mut Text, call: &str, words: &[Word]) -> bool {
     match call {
         "store" | "exchange" | "entries" => store::answer(text, call, words),
-        "only_unit" | "units" | "port" => units::answer(text, call, words),
-        "point" | "items" | "poll" => polls::answer(text, call, words),
+        "only_unit" | "units" | "port" | "files" => units::answer(text, call, words),
+        "point" | "items" | "spans" | "poll" => polls::answer(text, call, words),
+        "map" | "map_hex" | "map_find" | "map_get" | "map_set" => maps::answer(text, call, words),
+        "place_poll" | "place_write" => maps::answer_place(text, call, words),
         "run" | "status" | "listening" => program::answer(text, call, words),
         _ => false,
     }

@@ -38,6 +38,7 @@ mod servers;
 
 // the program over memory, its device, and polls
 mod asking;
+mod maps;
 mod passes;
 mod polls;
 mod program;

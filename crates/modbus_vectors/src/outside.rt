@@ -7,6 +7,7 @@
 
 use crate::word::{Word, split};
 use modbus_link::{MemoryLink, MemorySink, MemorySource, PolledMemoryLink, TimedMemoryLink};
+use modbus_reconnect::IdleMemoryLink;
 use std::alloc::{AllocError, Global};
 
 /// The room of a sink in bytes.
@@ -29,6 +30,12 @@ impl Outside {
     pub fn into_polled_link(self, alloc: Global) -> Option<PolledMemoryLink> {
         let link = MemoryLink::new(self.source, self.sink, self.fails_to_shut);
         PolledMemoryLink::new(alloc, link, self.pending.as_slice()).ok()
+    }
+
+    /// A link at which a look finds what is there behind as many bytes as the words `p8` tell, and nothing anywhere else.
+    pub fn into_idle_link(self, alloc: Global) -> Option<IdleMemoryLink> {
+        let early = sizes(alloc, self.pending.as_slice()).ok()?;
+        IdleMemoryLink::new(alloc, self.into_link(), early.as_slice()).ok()
     }
 
     /// A line that is silent behind as many bytes as the words `p8` tell.
@@ -165,10 +172,20 @@ pub fn read_line(alloc: Global, words: &[Word]) -> Option<TimedMemoryLink> {
     read_outside(alloc, words)?.into_timed_link(alloc)
 }
 
-/// The link that a word says whose own words have a plus between them.
-pub fn read_joined(alloc: Global, word: &str) -> Option<MemoryLink> {
+/// The outside that a word says whose own words have a plus between them.
+fn read_words(alloc: Global, word: &str) -> Option<Outside> {
     match split(alloc, word, '+') {
-        Ok(words) => read_link(alloc, words.as_slice()),
+        Ok(words) => read_outside(alloc, words.as_slice()),
         Err(_) => None,
     }
+}
+
+/// The link that such a word says.
+pub fn read_joined(alloc: Global, word: &str) -> Option<MemoryLink> {
+    Some(read_words(alloc, word)?.into_link())
+}
+
+/// The link that such a word says, which can be looked at.
+pub fn read_idle(alloc: Global, word: &str) -> Option<IdleMemoryLink> {
+    read_words(alloc, word)?.into_idle_link(alloc)
 }

@@ -4,7 +4,7 @@ use crate::text::Text;
 use crate::word::Word;
 use modbus_frame::Slave;
 use modbus_local::poll_service;
-use modbus_poll::{Item, Kind, parse_point, plan_reads};
+use modbus_poll::{Item, Kind, Limits, Span, parse_point, plan_reads, plan_spans};
 use modbus_store::RegisterStore;
 use std::alloc::Global;
 
@@ -43,6 +43,52 @@ fn planned(text: &mut Text, words: &[Word]) -> bool {
     match items_of(text.alloc, words) {
         Some(items) => push_plan(text, items.as_slice()),
         None => return false,
+    }
+    true
+}
+
+/// A span as its address and so many registers or bits.
+fn span_of(word: &str) -> Option<Span> {
+    let (address, count) = word.split_once(':')?;
+    Some(Span {
+        address: address.parse().ok()?,
+        count: count.parse().ok()?,
+    })
+}
+
+fn spans_of(alloc: Global, words: &[Word]) -> Option<Vec<Span>> {
+    let mut spans = Vec::new(alloc);
+    for word in words {
+        spans.push(span_of(word.text())?).ok()?;
+    }
+    Some(spans)
+}
+
+fn limits_of(most: &str, gap: &str) -> Option<Limits> {
+    Some(Limits {
+        most: most.parse().ok()?,
+        gap: gap.parse().ok()?,
+    })
+}
+
+/// The plan of these spans within limits.
+fn push_span_plan(text: &mut Text, limits: Limits, spans: &[Span]) {
+    match plan_spans(text.alloc, limits, spans) {
+        Ok(plan) => {
+            for read in plan.reads() {
+                write!(text, "{read:?} ");
+            }
+            let is_whole = spans.iter().all(|span| plan.place_of(span).is_some());
+            write!(text, "{is_whole}");
+        }
+        Err(error) => text.push_told(error),
+    }
+}
+
+fn spans_planned(text: &mut Text, most: &str, gap: &str, words: &[Word]) -> bool {
+    match (limits_of(most, gap), spans_of(text.alloc, words)) {
+        (Some(limits), Some(spans)) => push_span_plan(text, limits, spans.as_slice()),
+        _ => return false,
     }
     true
 }
@@ -94,11 +140,14 @@ fn polled(text: &mut Text, numbers: &str, words: &[Word]) -> bool {
 }
 
 /// `point 100:u16`: what a word names; `items 0:1 100:2`: the plan of items, each an address and so many registers, and whether it covers them;
-/// `poll 1,2 0:u32`: the values of points of a store whose holding registers hold these numbers.
+/// `spans 125 0 0:1 100:2`: the plan of spans of so many registers or bits, by reads of at most so many and with gaps of at most so many; `poll 1,2 0:u32`: the values of points of a store whose holding registers hold these numbers.
 pub fn answer(text: &mut Text, call: &str, words: &[Word]) -> bool {
     match (call, words) {
         ("point", [word]) => text.push_outcome(parse_point(word.text())),
         ("items", _) => return planned(text, words),
+        ("spans", [most, gap, words @ ..]) => {
+            return spans_planned(text, most.text(), gap.text(), words);
+        }
         ("poll", [numbers, words @ ..]) => return polled(text, numbers.text(), words),
         _ => return false,
     }

@@ -1,14 +1,15 @@
 //! Clients that are never one reply behind: over a connector that gives one link after another, and over a line that tells silence.
 
-use crate::clients::{milliseconds, step};
+use crate::clients::{milliseconds, push_sent, step, steps};
 use crate::left::{push_link, push_written};
-use crate::outside::{read_joined, read_line};
+use crate::outside::{read_idle, read_line};
 use crate::text::Text;
-use crate::word::Word;
+use crate::word::{Word, bytes_of};
 use modbus_client::Client;
 use modbus_frame::Slave;
-use modbus_link::{Connector, Failed, MemoryLink, TimedMemoryLink};
-use modbus_reconnect::{Resend, RtuOverTcpClient, SerialClient, TcpClient, settle};
+use modbus_link::{Connector, Failed, TimedMemoryLink};
+use modbus_pdu::decode_request;
+use modbus_reconnect::{IdleMemoryLink, Resend, RtuOverTcpClient, SerialClient, TcpClient, settle};
 use std::alloc::{AllocError, Global};
 use std::net::{Ipv4Addr, SocketAddr};
 use std::time::Duration;
@@ -21,12 +22,12 @@ const TIMEOUT: u64 = 150;
 /// A connector that gives these links, the last one first, and refuses where there is none in its place.
 #[derive(Drop)]
 struct Links {
-    links: Vec<Option<MemoryLink>>,
+    links: Vec<Option<IdleMemoryLink>>,
     faults: u64,
 }
 
 impl Connector for Links {
-    type Link = MemoryLink;
+    type Link = IdleMemoryLink;
 
     ghost faults = { λ links. links.faults };
 
@@ -34,7 +35,7 @@ impl Connector for Links {
         &mut self,
         _addr: SocketAddr,
         _timeout: Option<Duration>,
-    ) -> Result<MemoryLink, Failed> {
+    ) -> Result<IdleMemoryLink, Failed> {
         match self.links.pop() {
             Some(Some(link)) => Ok(link),
             _ => {
@@ -48,8 +49,8 @@ impl Connector for Links {
 /// Links over the outsides that two words tell; another word is a connection that is refused.
 fn links_of(alloc: Global, first: &str, second: &str) -> Result<Links, AllocError> {
     let mut links = Vec::new(alloc);
-    links.push(read_joined(alloc, second))?;
-    links.push(read_joined(alloc, first))?;
+    links.push(read_idle(alloc, second))?;
+    links.push(read_idle(alloc, first))?;
     Ok(Links { links, faults: 0 })
 }
 
@@ -96,6 +97,14 @@ fn push_linked(text: &mut Text, client: &RtuOverTcpClient<Links>) {
     }
 }
 
+/// Appends what a client leaves on the link that it uses.
+fn push_used(text: &mut Text, link: Option<&IdleMemoryLink>) {
+    match link {
+        Some(idle) => push_link(text, Some(idle.link())),
+        None => push_link(text, None),
+    }
+}
+
 /// The answers of such a client, each with whether a link is used then.
 fn rtu_steps(text: &mut Text, client: &mut RtuOverTcpClient<Links>, words: &str) -> bool {
     for word in words.split(',') {
@@ -110,7 +119,7 @@ fn rtu_steps(text: &mut Text, client: &mut RtuOverTcpClient<Links>, words: &str)
 /// The same, and the link, how often the last call tried, and how many links were not asked for.
 fn over_rtu(text: &mut Text, client: &mut RtuOverTcpClient<Links>, words: &str) -> bool {
     let is_done = rtu_steps(text, client, words);
-    push_link(text, client.link());
+    push_used(text, client.link());
     let left = client.connector().links.len();
     write!(text, " tries {} left {left}", client.tries());
     is_done
@@ -143,7 +152,7 @@ fn tcp_steps(text: &mut Text, client: &mut TcpClient<Links>, words: &str) -> boo
 /// The answers of a TCP client over a connector, and its link.
 fn over_tcp(text: &mut Text, client: &mut TcpClient<Links>, words: &str) -> bool {
     let is_done = tcp_steps(text, client, words);
-    push_link(text, client.link());
+    push_used(text, client.link());
     is_done
 }
 
@@ -189,10 +198,59 @@ fn set_quiet(text: &mut Text, client: &mut Line, words: &str) -> bool {
     true
 }
 
-/// What a step does to a client of a line, which also has `quiet=4096:200`, `doubt`, `unsettled` and `dropped`.
+/// Sets for how many milliseconds a line has to be silent after a request that is only sent.
+fn set_turnaround(text: &mut Text, client: &mut Line, word: &str) -> bool {
+    let Some(turnaround) = milliseconds(word) else {
+        return false;
+    };
+    client.set_turnaround(turnaround);
+    text.push_str("()");
+    true
+}
+
+/// Sends the request of a PDU, and waits for no reply.
+fn send(text: &mut Text, client: &mut Line, pdu: &[u8]) -> bool {
+    match decode_request(text.alloc, pdu) {
+        Ok(request) => push_sent(text, client.send(request)),
+        Err(_) => return false,
+    }
+    true
+}
+
+/// The same of a word.
+fn send_word(text: &mut Text, client: &mut Line, word: &str) -> bool {
+    match bytes_of(text.alloc, word) {
+        Some(pdu) => send(text, client, pdu.as_slice()),
+        None => false,
+    }
+}
+
+/// Asks for the function of a PDU, whose reply is given as it came.
+fn call_raw(text: &mut Text, client: &mut Line, word: &str) -> bool {
+    let Some(pdu) = bytes_of(text.alloc, word) else {
+        return false;
+    };
+    match pdu.as_slice() {
+        [function, data @ ..] => text.push_shown(client.call_raw(*function, data)),
+        [] => return false,
+    }
+    true
+}
+
+/// What a step does to a client of a line, which also has `quiet=4096:200`, `turnaround=100`, `send=0600010003`, `raw=11`, `doubt`,
+/// `unsettled` and `dropped`.
 fn line_step(text: &mut Text, client: &mut Line, word: &str) -> bool {
     if let Some(quiet) = word.strip_prefix("quiet=") {
         return set_quiet(text, client, quiet);
+    }
+    if let Some(turnaround) = word.strip_prefix("turnaround=") {
+        return set_turnaround(text, client, turnaround);
+    }
+    if let Some(pdu) = word.strip_prefix("send=") {
+        return send_word(text, client, pdu);
+    }
+    if let Some(pdu) = word.strip_prefix("raw=") {
+        return call_raw(text, client, pdu);
     }
     match word {
         "doubt" => text.push_shown(client.is_in_doubt()),
@@ -231,6 +289,32 @@ fn answers_on_line(text: &mut Text, slave: Slave, steps: &str, line: TimedMemory
     over_line(text, &mut client, steps)
 }
 
+/// Appends what was written to a line.
+fn push_line(text: &mut Text, line: Option<&TimedMemoryLink>) {
+    match line {
+        Some(line) => push_written(text, line.link()),
+        None => text.push_str("no link"),
+    }
+}
+
+/// The answers of a client of this line in the ASCII mode.
+fn answers_in_ascii(text: &mut Text, slave: Slave, words: &str, line: TimedMemoryLink) -> bool {
+    let silence = Duration::from_millis(SILENCE);
+    let mut client = modbus_ascii_client::SerialClient::new(text.alloc, line, slave, silence);
+    client.set_timeout(Some(Duration::from_millis(TIMEOUT)));
+    let is_done = steps(text, &mut client, words);
+    push_line(text, client.link());
+    is_done
+}
+
+/// The answers of a client of the line in the ASCII mode that these words say.
+fn answer_in_ascii(text: &mut Text, slave: Slave, steps: &str, words: &[Word]) -> bool {
+    match read_line(text.alloc, words) {
+        Some(line) => answers_in_ascii(text, slave, steps, line),
+        None => false,
+    }
+}
+
 /// The answers of a client of the line that these words say.
 fn answer_on_line(text: &mut Text, slave: Slave, steps: &str, words: &[Word]) -> bool {
     match read_line(text.alloc, words) {
@@ -254,6 +338,7 @@ fn answer_over(text: &mut Text, call: &str, slave: Slave, steps: &str, words: &[
 fn answer_steps(text: &mut Text, call: &str, slave: Slave, steps: &str, words: &[Word]) -> bool {
     match call {
         "reconnect_serial" => answer_on_line(text, slave, steps, words),
+        "reconnect_ascii" => answer_in_ascii(text, slave, steps, words),
         _ => answer_over(text, call, slave, steps, words),
     }
 }
@@ -267,8 +352,9 @@ fn settled(text: &mut Text, words: &[Word]) -> bool {
     true
 }
 
-/// `reconnect_rtu` or `reconnect_tcp`, a slave, steps with commas between them, and two links, the one after the other; `reconnect_serial`, a
-/// slave, steps, and the outside of the line, `p8` a silence behind 8 bytes; or `reconnect_settle` and the outside of the line.
+/// `reconnect_rtu` or `reconnect_tcp`, a slave, steps with commas between them, and two links, the one after the other, where `p7` has a look
+/// find what lies behind 7 bytes; `reconnect_serial` or `reconnect_ascii`, a slave, steps, and the outside of the line, `p8` a silence behind
+/// 8 bytes; or `reconnect_settle` and the outside of the line.
 pub fn answer(text: &mut Text, call: &str, words: &[Word]) -> bool {
     if call == "reconnect_settle" {
         return settled(text, words);

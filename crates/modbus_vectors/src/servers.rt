@@ -7,11 +7,13 @@ use crate::polls::store_of;
 use crate::same_words::SameWords;
 use crate::text::Text;
 use crate::word::Word;
+use modbus_echo::{Echo, EchoGuard};
 use modbus_example::{Counter, serve_singles};
 use modbus_field::burst::BurstLink;
 use modbus_field::standard::StandardAnswers;
+use modbus_field::stream::ReservedCodes;
 use modbus_link::{
-    Both, MemoryLink, MemorySink, MemorySource, MemoryStop, Polled, PolledMemoryLink,
+    Both, MemoryLink, MemorySink, MemorySource, MemoryStop, Polled, PolledMemoryLink, Sink, Source,
     TimedMemoryLink,
 };
 use modbus_rtu::Inbox;
@@ -54,6 +56,22 @@ fn push_over_link<T: Debug + Drop>(
     push_asked(text, ended, link.source(), link.sink(), service.calls);
 }
 
+/// A stream at a device, which answers also what can't be read and the function codes that no request has.
+fn served_as_device(
+    alloc: Global,
+    source: &mut MemorySource,
+    sink: &mut MemorySink,
+    service: &mut SameWords,
+    turns: u64,
+) -> Result<(), ProcessError> {
+    let mut device = ReservedCodes {
+        service: StandardAnswers {
+            service: Forward(&mut *service),
+        },
+    };
+    modbus_field::stream::process(alloc, source, sink, &mut device, turns)
+}
+
 fn served(
     text: &mut Text,
     framing: &str,
@@ -69,6 +87,7 @@ fn served(
         "ascii" => modbus_ascii::ascii::process(text.alloc, source, sink, service, turns),
         "bursts" => modbus_field::burst::process(text.alloc, source, sink, service, turns),
         "stream" => modbus_field::stream::process(text.alloc, source, sink, service, turns),
+        "device" => served_as_device(text.alloc, source, sink, service, turns),
         _ => return false,
     };
     push_asked(text, ended, source, sink, service.calls);
@@ -279,25 +298,44 @@ fn worked<I: Framing>(text: &mut Text, service: &mut SameWords, looks: u64, link
     push_over_link(text, ended, link, service);
 }
 
-/// Slave 1 on a line that it shares with others.
+/// Slave 1 on a line of bursts that it shares with others: how it ended.
+fn ended_among_others<L: Source + Sink>(
+    alloc: Global,
+    service: &mut SameWords,
+    turns: u64,
+    link: &mut L,
+) -> Result<(), ProcessError> {
+    let mut unit = OnlyUnit {
+        unit: 1,
+        service: StandardAnswers {
+            service: Forward(&mut *service),
+        },
+    };
+    modbus_field::burst::process_link(alloc, link, &mut unit, turns)
+}
+
+/// The answer of slave 1 on a line that it shares with others.
 fn served_among_others(
     text: &mut Text,
     service: &mut SameWords,
     turns: u64,
     link: &mut BurstLink<TimedMemoryLink>,
 ) {
-    let ended = modbus_field::burst::process_link(
-        text.alloc,
-        link,
-        &mut OnlyUnit {
-            unit: 1,
-            service: StandardAnswers {
-                service: Forward(&mut *service),
-            },
-        },
-        turns,
-    );
+    let ended = ended_among_others(text.alloc, service, turns, link);
     push_over_link(text, ended, link.link().link(), service);
+}
+
+/// The same on one whose adapter may give back what is sent, and what is known of it then.
+fn served_guarded(
+    text: &mut Text,
+    service: &mut SameWords,
+    turns: u64,
+    link: &mut EchoGuard<TimedMemoryLink>,
+) {
+    let ended = ended_among_others(text.alloc, service, turns, link);
+    push_over_link(text, ended, link.link().link(), service);
+    text.push_str(" echo ");
+    text.push_shown(link.echo());
 }
 
 /// The server of modbus_example, to which each byte is a request.
@@ -338,12 +376,22 @@ fn answer_over_link(
 }
 
 /// The answer of a slave on a line with this outside.
-fn answer_on_line(text: &mut Text, service: &mut SameWords, turns: u64, outside: Outside) -> bool {
-    match outside.into_timed_link(text.alloc) {
-        Some(line) => {
+fn answer_on_line(
+    text: &mut Text,
+    framing: &str,
+    service: &mut SameWords,
+    turns: u64,
+    outside: Outside,
+) -> bool {
+    match (outside.into_timed_link(text.alloc), framing) {
+        (Some(line), "burst") => {
             served_among_others(text, service, turns, &mut BurstLink::new(line));
         }
-        None => return false,
+        (Some(line), _) => {
+            let link = &mut EchoGuard::new(line, Echo::Unknown);
+            served_guarded(text, service, turns, link);
+        }
+        _ => return false,
     }
     true
 }
@@ -415,8 +463,8 @@ pub fn answer(text: &mut Text, call: &str, words: &[Word]) -> bool {
     let service = &mut SameWords::new(count);
     let turns = u64::from(turns);
     match read_outside(text.alloc, words) {
-        Some(outside) if framing.text() == "burst" => {
-            answer_on_line(text, service, turns, outside)
+        Some(outside) if matches!(framing.text(), "burst" | "guarded") => {
+            answer_on_line(text, framing.text(), service, turns, outside)
         }
         Some(outside) => answer_over(text, call, framing.text(), service, turns, outside),
         None => false,

@@ -5,6 +5,7 @@ use crate::text::Text;
 use crate::word::Word;
 use modbus_app::{Form, Mode, open};
 use modbus_diagnostics::Port;
+use modbus_files::{Filed, Files};
 use modbus_frame::ExceptionCode;
 use modbus_service::{OnlyUnit, Units};
 use modbus_store::RegisterStore;
@@ -76,8 +77,25 @@ fn behind_port(
     true
 }
 
+/// The answers of a device with so many files of so many records, in front of a store.
+fn with_files(text: &mut Text, files: u16, records: u16, words: &[Word]) -> bool {
+    let form = Form {
+        mode: Mode::Rtu,
+        size: 8,
+        seeded: false,
+    };
+    match (
+        Files::new(text.alloc, files, records),
+        open(text.alloc, form),
+    ) {
+        (Ok(files), Ok(service)) => ask_all(text, &mut Filed { files, service }, words),
+        _ => false,
+    }
+}
+
 /// `only_unit 5 5 0300010001`: a store at an address, and the requests on its line; `units 11 1,2 1 0300010001`: stores at several, with the
-/// exception for any other address or `-` for silence; `port - 1,2 1 0B`: the same behind a port.
+/// exception for any other address or `-` for silence; `port - 1,2 1 0B`: the same behind a port;
+/// `files 2 10 1 1407..`: so many files of so many records.
 pub fn answer(text: &mut Text, call: &str, words: &[Word]) -> bool {
     match (call, words) {
         ("only_unit", [address, words @ ..]) => only(text, address.text(), words),
@@ -89,6 +107,10 @@ pub fn answer(text: &mut Text, call: &str, words: &[Word]) -> bool {
             let absent = absent.byte().map(ExceptionCode::new);
             behind_port(text, absent, addresses.text(), words)
         }
+        ("files", [files, records, words @ ..]) => match (files.number(), records.number()) {
+            (Some(files), Some(records)) => with_files(text, files, records, words),
+            _ => false,
+        },
         _ => false,
     }
 }
