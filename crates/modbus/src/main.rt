@@ -1,7 +1,7 @@
 //! The program: a Modbus server over its standard streams, or over TCP.
 #![tactic(auto)]
 
-use modbus_about::{asked, tell};
+use modbus_about::{asked, fill_closed_streams, tell};
 use modbus_app::{Task, USAGE_LINE, port, read_words, run_task};
 use modbus_link::{ReadSource, WriteSink};
 use modbus_server::ProcessError;
@@ -39,6 +39,7 @@ fn args(rt: &HostRuntime) -> Result<Vec<String>, AllocError> {
 }
 
 fn main(rt: HostRuntime) -> ExitCode {
+    let _filled = fill_closed_streams(&rt);
     let mut errors = WriteSink::new(rt.stderr());
     let Ok(words) = args(&rt) else {
         modbus_app::report_fault(&mut errors, ProcessError::NoMemory);

@@ -1,8 +1,12 @@
 //! What each program says of itself, and the statuses that all but `modbus` share.
 #![tactic(auto)]
 
+mod streams;
+
 ghost use Rattle.std.specs.Prelude.{◌≡◌, ◌⊎◌};
 ghost use Rattle.modbus_about.specs.About.{about_named};
+
+pub use crate::streams::{FilledStreams, fill_closed_streams};
 
 /// The version of the programs and of the library for C, that of the Rust crate that is ported, and the toolchain that they are proved with.
 pub const VERSION: &str = "0.17.0 (rattle-kit-13f logic dac8208d650f15bf)";

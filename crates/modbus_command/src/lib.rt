@@ -8,4 +8,4 @@ mod words;
 pub use crate::arguments::{command, flag, option, positional};
 pub use crate::value::put_value;
 pub use crate::words::{say, why_no_point, words_of};
-pub use modbus_about::{FAILED, USAGE, VERSION};
+pub use modbus_about::{FAILED, FilledStreams, USAGE, VERSION, fill_closed_streams};

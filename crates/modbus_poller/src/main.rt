@@ -13,7 +13,7 @@ mod wanted;
 mod writing;
 
 use clap::ArgMatches;
-use modbus_command::{FAILED, say, words_of};
+use modbus_command::{FAILED, fill_closed_streams, say, words_of};
 use std::process::ExitCode;
 use wanted::Refusal;
 
@@ -59,6 +59,7 @@ fn serve(rt: &HostRuntime, words: &[String]) -> u8 {
 }
 
 fn main(rt: HostRuntime) -> ExitCode {
+    let _filled = fill_closed_streams(&rt);
     let status = match words_of(&rt, PROGRAM) {
         Ok(words) => serve(&rt, words.as_slice()),
         Err(status) => status,

@@ -13,7 +13,7 @@ mod watched;
 mod words;
 
 use list::{ListFault, parse_list};
-use modbus_command::{FAILED, USAGE, say, words_of};
+use modbus_command::{FAILED, USAGE, fill_closed_streams, say, words_of};
 use plan::print_plan;
 use std::fs;
 use std::process::ExitCode;
@@ -80,6 +80,7 @@ fn serve(rt: &HostRuntime, words: &[String]) -> u8 {
 }
 
 fn main(rt: HostRuntime) -> ExitCode {
+    let _filled = fill_closed_streams(&rt);
     let status = match words_of(&rt, PROGRAM) {
         Ok(words) => serve(&rt, words.as_slice()),
         Err(status) => status,
