@@ -16,7 +16,7 @@ use clap::ArgMatches;
 use device::{Device, LineDevice, OpenError, Plan, open, open_line};
 use line::OpenLine;
 use mio::net::TcpListener;
-use modbus_command::{FAILED, say, words_of};
+use modbus_command::{FAILED, fill_closed_streams, say, words_of};
 use modbus_server::ProcessError;
 use std::alloc::Global;
 use std::io::ErrorKind;
@@ -33,6 +33,9 @@ const PROGRAM: &str = "modbus_device";
 /// How many milliseconds lie between two tries to open a line that is gone.
 const PAUSE: u64 = 1_000;
 
+/// How many milliseconds a line rests once memory was refused.
+const REST: u64 = 100;
+
 /// The status of a line that ended so for good, which is told.
 fn ended(rt: &HostRuntime, place: LinePlace<'_>, end: Result<(), ProcessError>) -> u8 {
     match end {
@@ -47,9 +50,29 @@ fn ended(rt: &HostRuntime, place: LinePlace<'_>, end: Result<(), ProcessError>) 
     }
 }
 
-/// Whether a line that ended so at this place is to be opened anew.
-fn is_opened_again(place: LinePlace<'_>, end: Result<(), ProcessError>) -> bool {
-    place != LinePlace::Streams && end != Err(ProcessError::NoMemory)
+/// What follows the end of a line.
+enum Next {
+    /// The line is served on: memory was refused, which loses the message that wanted it.
+    ServeOn,
+    /// The line is opened anew.
+    OpenAgain,
+    /// The device ends.
+    End,
+}
+
+/// What follows where a line at this place ended so.
+fn next_after(place: LinePlace<'_>, end: Result<(), ProcessError>) -> Next {
+    match (place, end) {
+        (_, Err(ProcessError::NoMemory)) => Next::ServeOn,
+        (LinePlace::Streams, _) => Next::End,
+        _ => Next::OpenAgain,
+    }
+}
+
+/// Tells that a message was lost since memory was refused, and rests.
+fn rest<R: Wait + Clock>(rt: &HostRuntime, waits: &R, place: LinePlace<'_>) {
+    let _ = eprintln!(rt; "modbus_device: {place}: memory was refused, a message is lost");
+    thread::sleep(waits, Duration::from_millis(REST));
 }
 
 /// Tells that the line at this place is gone, and why.
@@ -71,7 +94,7 @@ fn open_again<R: Wait + Clock>(rt: &HostRuntime, waits: &R, place: LinePlace<'_>
     unreachable!()
 }
 
-/// Serves a line, and opens it anew where it is gone, which is told. The status, where it isn't opened anew.
+/// Serves a line, and opens it anew where it is gone, which is told. Refused memory doesn't end it. The status, where it isn't opened anew.
 fn serve_line<R: Wait + Clock>(
     rt: &HostRuntime,
     waits: &R,
@@ -88,12 +111,15 @@ fn serve_line<R: Wait + Clock>(
     };
     for _ in waits.forever() {
         let end = line::serve(rt, &open, line, device);
-        if !is_opened_again(place, end) {
-            return ended(rt, place, end);
+        match next_after(place, end) {
+            Next::ServeOn => rest(rt, waits, place),
+            Next::OpenAgain => {
+                tell_gone(rt, place, end);
+                open = open_again(rt, waits, place);
+                let _ = eprintln!(rt; "modbus_device: {place} is back");
+            }
+            Next::End => return ended(rt, place, end),
         }
-        tell_gone(rt, place, end);
-        open = open_again(rt, waits, place);
-        let _ = eprintln!(rt; "modbus_device: {place} is back");
     }
     unreachable!()
 }
@@ -187,6 +213,7 @@ fn open_task<'w>(rt: &HostRuntime, words: &'w [String]) -> Result<Opened<'w>, u8
 }
 
 fn main(rt: HostRuntime) -> ExitCode {
+    let _filled = fill_closed_streams(&rt);
     let words = match words_of(&rt, PROGRAM) {
         Ok(words) => words,
         Err(status) => return ExitCode::from(status),

@@ -1,14 +1,15 @@
 //! A program that serves Modbus to many connections on one thread: `modbus_loop tcp PORT [SECONDS]`, or `modbus_loop rtu PORT [SECONDS]`.
 //!
-//! It listens on 127.0.0.1, and lets a connection go that has no turn for so many seconds, or for ten minutes. All connections share one device of four tables of 1024 entries that hold 0 at first. `tcp` frames requests as
-//! ADUs with an MBAP header, `rtu` as RTU frames over TCP, and then the device takes part in broadcasts.
+//! It listens on 127.0.0.1, and lets a connection go that has no turn for so many seconds, or for ten minutes. All connections share one
+//! device of four tables of 1024 entries that hold 0 at first. `tcp` frames requests as ADUs with an MBAP header, and a header that no master
+//! sends ends its connection; `rtu` as RTU frames over TCP, and then the device takes part in broadcasts.
 #![tactic(auto)]
 
 mod serving;
 mod words;
 
 use mio::net::TcpListener;
-use modbus_about::{FAILED, USAGE, tell};
+use modbus_about::{FAILED, USAGE, fill_closed_streams, tell};
 use serving::serve;
 use std::net::SocketAddr;
 use std::process::ExitCode;
@@ -18,6 +19,7 @@ use words::{Wish, parse_args};
 const HELP: &str = "usage: modbus_loop tcp|rtu PORT [SECONDS]\n";
 
 fn main(rt: HostRuntime) -> ExitCode {
+    let _filled = fill_closed_streams(&rt);
     let task = match parse_args(&rt) {
         Some(Wish::Serve(task)) => task,
         Some(Wish::Say(about)) => return ExitCode::from(tell(&rt, "modbus_loop", HELP, about)),
@@ -31,7 +33,8 @@ fn main(rt: HostRuntime) -> ExitCode {
         let _ = eprintln!(rt; "modbus_loop: bind fault");
         return ExitCode::from(FAILED);
     };
-    let _ = eprintln!(rt; "modbus_loop: listening on {address}");
+    let bound = listener.local_addr().unwrap_or(address);
+    let _ = eprintln!(rt; "modbus_loop: listening on {bound}");
     let fault = serve(&rt, task, listener);
     let _ = eprintln!(rt; "modbus_loop: {fault}");
     ExitCode::from(FAILED)

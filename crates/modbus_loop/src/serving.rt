@@ -2,12 +2,13 @@
 
 use crate::words::{Mode, Task};
 use mio::net::TcpListener;
+use modbus_field::standard::StandardAnswers;
+use modbus_field::stream::StreamBuffer;
 use modbus_hub::{EventServer, Limits};
 use modbus_link::FlagStop;
 use modbus_ready::{MioReadiness, PolledTcpAcceptor};
 use modbus_rtu::Inbox;
-use modbus_server::Framing;
-use modbus_server::tcp::AduBuffer;
+use modbus_server::{Answerer, Framing};
 use modbus_store::{RegisterStore, Sizes, StoreError};
 use std::alloc::{AllocGlobal, Global};
 use std::net::Net;
@@ -35,10 +36,10 @@ fn open_store(alloc: Global, broadcast: bool) -> Result<RegisterStore, StoreErro
 }
 
 /// Serves a listener until the system refuses something, and says what.
-fn serve_listener<I: Framing, R: Net + AllocGlobal + Wait + Clock>(
+fn serve_listener<I: Framing, V: Answerer, R: Net + AllocGlobal + Wait + Clock>(
     rt: &R,
     listener: TcpListener,
-    mut store: RegisterStore,
+    device: &mut V,
     idle: Duration,
 ) -> &'static str {
     let Ok(mut signal) = FlagStop::new(rt.alloc()) else {
@@ -61,7 +62,7 @@ fn serve_listener<I: Framing, R: Net + AllocGlobal + Wait + Clock>(
         readiness,
         limits,
     );
-    match server.serve_until(rt, &mut store, Some(idle), &mut signal) {
+    match server.serve_until(rt, device, Some(idle), &mut signal) {
         Ok(_) => "stopped",
         Err(_) => "epoll fault",
     }
@@ -73,12 +74,15 @@ pub fn serve<R: Net + AllocGlobal + Wait + Clock>(
     task: Task,
     listener: TcpListener,
 ) -> &'static str {
-    let Ok(store) = open_store(rt.alloc(), task.mode == Mode::Rtu) else {
+    let Ok(mut store) = open_store(rt.alloc(), task.mode == Mode::Rtu) else {
         return "no memory";
     };
     let idle = Duration::from_secs(task.idle);
     match task.mode {
-        Mode::Tcp => serve_listener::<AduBuffer, R>(rt, listener, store, idle),
-        Mode::Rtu => serve_listener::<Inbox, R>(rt, listener, store, idle),
+        Mode::Tcp => {
+            let mut device = StandardAnswers { service: store };
+            serve_listener::<StreamBuffer, _, R>(rt, listener, &mut device, idle)
+        }
+        Mode::Rtu => serve_listener::<Inbox, _, R>(rt, listener, &mut store, idle),
     }
 }

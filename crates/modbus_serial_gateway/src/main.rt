@@ -9,7 +9,7 @@ mod words;
 
 use ending::NO_MEMORY_LINE;
 use listen::serve;
-use modbus_about::{About, FAILED, USAGE, asked, tell};
+use modbus_about::{About, FAILED, USAGE, asked, fill_closed_streams, tell};
 use modbus_adapter::{EchoedLink, PacedLink, pause_of};
 use modbus_client::Client;
 use modbus_frame::Slave;
@@ -98,6 +98,7 @@ fn open_line(
 }
 
 fn main(rt: HostRuntime) -> ExitCode {
+    let _filled = fill_closed_streams(&rt);
     let wish = match wish_of(&rt) {
         Ok(wish) => wish,
         Err(error) if error.kind() == ErrorKind::OutOfMemory => {
