@@ -1,4 +1,5 @@
 pub mod Deadline
+pub mod DeadlineLine
 pub mod Echo
 pub mod Paced
 pub mod Taking

@@ -55,7 +55,11 @@ impl<'c, C, L> Model for DeadlineLink<'c, C, L> {
 }
 
 /// What is left of the time of a call that began then, by now; `None` where there is no deadline, or the clock could not be read.
-fn time_left(deadline: Option<Duration>, start: &Moment, now: &Moment) -> Option<Duration>
+pub(crate) fn time_left(
+    deadline: Option<Duration>,
+    start: &Moment,
+    now: &Moment,
+) -> Option<Duration>
     ensures { option_map as_nanos result
         ≡ nanos_left (option_map as_nanos deadline) start.now now.now }
 {
@@ -83,7 +87,7 @@ fn shorter(a: Option<Duration>, b: Option<Duration>) -> Option<Duration>
 }
 
 /// Whether no time is left.
-fn is_none_left(left: Option<Duration>) -> bool
+pub(crate) fn is_none_left(left: Option<Duration>) -> bool
     ensures { result ≡ is_none_left (option_map as_nanos left) }
 {
     match left {

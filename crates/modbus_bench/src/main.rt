@@ -13,7 +13,7 @@ mod store;
 mod watch;
 mod words;
 
-use modbus_about::{FAILED, USAGE, tell};
+use modbus_about::{FAILED, USAGE, fill_closed_streams, tell};
 use std::process::ExitCode;
 use watch::watch_device;
 use words::{Task, task_of};
@@ -22,10 +22,11 @@ use words::{Task, task_of};
 const HELP: &str =
     "usage: modbus_bench rate THREADS MILLISECONDS | calls THREADS EACH | sorted ITEMS | plain ITEMS
        modbus_bench watch tcp|patient|rtu|once-tcp|once-rtu ADDRESS COUNT MILLIS [RETRIES [PAUSE]]
-       modbus_bench watch serial|echoed|ascii TERMINAL COUNT MILLIS [0 PAUSE]
+       modbus_bench watch serial|echoed|deadline|ascii TERMINAL COUNT MILLIS [0 PAUSE]
 ";
 
 fn main(rt: HostRuntime) -> ExitCode {
+    let _filled = fill_closed_streams(&rt);
     match task_of(&rt) {
         Some(Task::Calls(threads, limit)) => {
             store::tell(&rt, store::calls(&rt, rt.alloc(), threads, limit))

@@ -1,7 +1,7 @@
 //! Reads of one register after another.
 
 use crate::words::{Device, Form, Mode, Watched};
-use modbus_adapter::EchoedLink;
+use modbus_adapter::{DeadlineClient, DeadlineLine, EchoedLink};
 use modbus_client::{Client, Reader, rtu, tcp};
 use modbus_frame::{Error, ExceptionCode, Slave};
 use modbus_idle::{PortLine, WatchedConnector};
@@ -87,6 +87,20 @@ fn watch_echoed(rt: &HostRuntime, link: Port, task: &Watched) -> io::Result<()> 
     watch(rt, &mut client, task)
 }
 
+/// The same where each call, the line's falling silent before it too, ends by a deadline.
+fn watch_deadline(rt: &HostRuntime, link: Port, task: &Watched) -> io::Result<()> {
+    let limit = Duration::from_millis(task.millis);
+    let line = DeadlineLine::new(rt, link, Some(limit));
+    let mut client = SerialClient::new(rt.alloc(), line, UNIT, silence());
+    client.set_timeout(Some(limit));
+    let mut client = DeadlineClient::new(client);
+    watch(rt, &mut client, task)?;
+    if let Some(reason) = client.client().unsettled() {
+        eprintln!(rt; "modbus_bench: the line did not settle: {reason:?}")?;
+    }
+    Ok(())
+}
+
 /// The same in the ASCII mode.
 fn watch_ascii(rt: &HostRuntime, link: Port, task: &Watched) -> io::Result<()> {
     let limit = Duration::from_millis(task.millis);
@@ -102,6 +116,7 @@ fn watch_line(rt: &HostRuntime, mode: Mode, terminal: &str, task: &Watched) -> i
     match mode {
         Mode::Rtu => watch_rtu(rt, link, task),
         Mode::Echoed => watch_echoed(rt, link, task),
+        Mode::Deadline => watch_deadline(rt, link, task),
         Mode::Ascii => watch_ascii(rt, link, task),
     }
 }

@@ -29,6 +29,8 @@ pub enum Mode {
     Rtu,
     /// RTU frames, through an adapter that gives back what is sent.
     Echoed,
+    /// RTU frames, with a deadline for each call.
+    Deadline,
     /// The ASCII mode.
     Ascii,
 }
@@ -102,6 +104,7 @@ fn mode_of(text: &str) -> Option<Mode> {
     match text {
         "serial" => Some(Mode::Rtu),
         "echoed" => Some(Mode::Echoed),
+        "deadline" => Some(Mode::Deadline),
         "ascii" => Some(Mode::Ascii),
         _ => None,
     }

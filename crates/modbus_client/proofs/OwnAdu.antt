@@ -17,7 +17,7 @@ use Rattle.modbus_tcp.specs.Stream.{no_length, foreign, IsRest, BeginsWith}
 use Rattle.modbus_client.specs.declared.protocol.Reply.{Reply}
 use Rattle.modbus_client.specs.declared.protocol.LookError.{LookError}
 use Rattle.modbus_client.specs.declared.protocol.LookError.TheVariants as look
-use Rattle.modbus_client.specs.Protocol.{Found, waiting, reply, broken, IsOfMessage}
+use Rattle.modbus_client.specs.Protocol.{Meaning, Found, waiting, reply, broken, IsOfMessage}
 use Rattle.modbus_client.specs.Matches.{Answer}
 use Rattle.modbus_client.specs.Call.{LooksAs}
 use Rattle.modbus_client.specs.Calls.{CallEndsAs, Exchanged}
@@ -83,20 +83,20 @@ module _ (asked : HeaderSeen) where
         under (reply held seen pdu) (header, begins, is) = is ∙ none (message header pdu) held begins
         under (broken held fault) finds = tt
 
-    pub looks_own : (new : List ℕ) (result : Result (Option Reply) LookError) → LooksAs tcp_protocol asked left cuts new result → LooksAs matching_protocol asked bytes cuts new result
-    looks_own new (Ok None) finds = finds_own (waiting new) finds
-    looks_own new (Ok (Some found)) (pdu, finds, means) = (pdu, finds_own (reply new found.header pdu) finds, means)
-    looks_own new (Err (look.Broken fault)) finds = finds_own (broken new fault) finds
-    looks_own new (Err (look.Refused reason)) (header, pdu, finds, means) = (header, pdu, finds_own (reply new header pdu) finds, means)
-    looks_own new (Err look.NoMemory) (rest, header, pdu, finds, carries) = (rest, header, pdu, finds_own (reply rest header pdu) finds, carries)
+    pub looks_own : (reading : Meaning) (new : List ℕ) (result : Result (Option Reply) LookError) → LooksAs (record tcp_protocol { means = reading }) asked left cuts new result → LooksAs (record matching_protocol { means = reading }) asked bytes cuts new result
+    looks_own reading new (Ok None) finds = finds_own (waiting new) finds
+    looks_own reading new (Ok (Some found)) (pdu, finds, means) = (pdu, finds_own (reply new found.header pdu) finds, means)
+    looks_own reading new (Err (look.Broken fault)) finds = finds_own (broken new fault) finds
+    looks_own reading new (Err (look.Refused reason)) (header, pdu, finds, means) = (header, pdu, finds_own (reply new header pdu) finds, means)
+    looks_own reading new (Err look.NoMemory) (rest, header, pdu, finds, carries) = (rest, header, pdu, finds_own (reply rest header pdu) finds, carries)
 
-    pub counts_own : (dropped : ℕ) → dropped ≡ adus_in adus → (new : List ℕ) (result : Result (Option Reply) LookError) → LooksAs tcp_protocol asked left cuts new result → CountsOthers asked bytes cuts dropped
+    pub counts_own : (reading : Meaning) (dropped : ℕ) → dropped ≡ adus_in adus → (new : List ℕ) (result : Result (Option Reply) LookError) → LooksAs (record tcp_protocol { means = reading }) asked left cuts new result → CountsOthers asked bytes cuts dropped
     unfolding finds_own
-    counts_own dropped tells new (Ok None) finds = record { found = waiting new; finds = finds_own (waiting new) finds; tells = tells }
-    counts_own dropped tells new (Ok (Some found)) (pdu, finds, means) = record { found = reply new found.header pdu; finds = finds_own (reply new found.header pdu) finds; tells = tells }
-    counts_own dropped tells new (Err (look.Broken fault)) finds = record { found = broken new fault; finds = finds_own (broken new fault) finds; tells = tells }
-    counts_own dropped tells new (Err (look.Refused reason)) (header, pdu, finds, means) = record { found = reply new header pdu; finds = finds_own (reply new header pdu) finds; tells = tells }
-    counts_own dropped tells new (Err look.NoMemory) (rest, header, pdu, finds, carries) = record { found = reply rest header pdu; finds = finds_own (reply rest header pdu) finds; tells = tells }
+    counts_own reading dropped tells new (Ok None) finds = record { found = waiting new; finds = finds_own (waiting new) finds; tells = tells }
+    counts_own reading dropped tells new (Ok (Some found)) (pdu, finds, means) = record { found = reply new found.header pdu; finds = finds_own (reply new found.header pdu) finds; tells = tells }
+    counts_own reading dropped tells new (Err (look.Broken fault)) finds = record { found = broken new fault; finds = finds_own (broken new fault) finds; tells = tells }
+    counts_own reading dropped tells new (Err (look.Refused reason)) (header, pdu, finds, means) = record { found = reply new header pdu; finds = finds_own (reply new header pdu) finds; tells = tells }
+    counts_own reading dropped tells new (Err look.NoMemory) (rest, header, pdu, finds, carries) = record { found = reply rest header pdu; finds = finds_own (reply rest header pdu) finds; tells = tells }
 
   -- with no byte nothing is dropped
   pub none_dropped : CountsOthers asked [] [] 0

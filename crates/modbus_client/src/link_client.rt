@@ -4,22 +4,25 @@ ghost use Rattle.std.specs.Io.{ReadsAtMost};
 ghost use Rattle.modbus_link.specs.Line.{meaning_of};
 ghost use Rattle.modbus_link.specs.Outside.{Rose, Advances, ReadIsTold};
 ghost use Rattle.modbus_link.specs.Polled.{at_once, Waited};
-ghost use Rattle.modbus_frame.specs.Meaning.{meaning};
+ghost use Rattle.modbus_frame.specs.Meaning.{meaning, Custom};
 ghost use Rattle.modbus_client.specs.State.{attached_client, with_next_header, next_header};
 ghost use Rattle.modbus_client.specs.Sends.{stays_connected};
 ghost use Rattle.modbus_client.specs.Calls.{Called, SentAlone, IsComplete};
 ghost use Rattle.modbus_client.specs.Ends.{Disconnected, Limited};
+ghost use Rattle.modbus_client.specs.Raw.{read_raw};
 
 use crate::client::Client;
 use crate::drive::{exchange, send};
 use crate::idle::IdleLink;
 use crate::protocol::Protocol;
+use crate::raw::{AsItCame, RawProtocol};
 use bytes::BytesMut;
 use modbus_frame::{
     Error, Request, Response, Result, ShutdownFault, Slave, SlaveContext, TransportError,
 };
 use modbus_link::{Failed, Link, Polled};
 use std::alloc::Global;
+use std::borrow::CowSlice;
 use std::marker::Model;
 use std::time::Duration;
 
@@ -166,6 +169,42 @@ impl<P: Protocol, L: Link> LinkClient<P, L> {
         if self.is_connected {
             self.link.set_timeout(duration);
         }
+    }
+}
+
+impl<P: RawProtocol, L: Link> LinkClient<P, L> {
+    /// Makes a call whose reply is given as it came: a `Custom` response with its function code and the bytes behind it, or the exception.
+    ///
+    /// # Errors
+    /// Those of `call`; `InvalidResponse` only where the reply has no function code, or an exception no code.
+    pub fn ask_raw(&mut self, request: &Request<'_>) -> Result<Response>
+        ensures { Called (read_raw P.protocol) P.heading (meaning_of L.input L.output L.line)
+            self.old (meaning request.now) result self.new }
+    {
+        let header = self.draw()?;
+        let answer = exchange::<AsItCame<P>, L>(
+            self.alloc,
+            &mut self.link,
+            header,
+            request,
+            self.turns,
+            &mut self.held,
+            &mut self.dropped,
+        );
+        self.is_connected = !is_write_fault(&answer);
+        answer
+    }
+
+    /// Asks for a function by its code, with the bytes that follow it in the PDU, and gives those of the reply as they came: a `Custom`
+    /// response of that code, or the exception.
+    ///
+    /// # Errors
+    /// Those of `ask_raw`. An answer of another function is `FunctionCodeMismatch`.
+    pub fn call_raw(&mut self, function: u8, data: &[u8]) -> Result<Response>
+        ensures { Called (read_raw P.protocol) P.heading (meaning_of L.input L.output L.line)
+            self.old (Custom function data.now) result self.new }
+    {
+        self.ask_raw(&Request::Custom(function, CowSlice::Borrowed(data)))
     }
 }
 

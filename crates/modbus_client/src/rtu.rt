@@ -8,6 +8,7 @@ ghost use Rattle.modbus_client.specs.Polled.{OpensPolled};
 pub use crate::line::{LineFrames, RawLineFrames};
 use crate::link_client::LinkClient;
 use crate::protocol::{LookError, Protocol, Reply};
+use crate::raw::{RawProtocol, take_raw_frame};
 use bytes::BytesMut;
 use modbus_frame::rtu::Header;
 use modbus_frame::{EncodeError, Error, HeaderSeen, Request, Slave, TransportError};
@@ -88,6 +89,29 @@ impl Protocol for Frames {
     fn laws() {
         modbus_rtu::laws::responses_by_front();
         modbus_rtu::laws::responses_in_pieces();
+    }
+}
+
+impl RawProtocol for Frames {
+    fn look_raw(
+        &mut self,
+        alloc: Global,
+        _asked: HeaderSeen,
+        held: &mut BytesMut,
+    ) -> std::result::Result<Option<Reply>, LookError> {
+        modbus_rtu::laws::responses_by_front();
+        match take_raw_frame(alloc, held) {
+            Ok(None) => Ok(None),
+            Ok(Some(adu)) => Ok(Some(Reply {
+                header: Self::seen(adu.hdr),
+                result: adu.pdu.0,
+            })),
+            Err(RtuError::TooManyRetries) => {
+                Err(LookError::Broken(TransportError::TooManyRetries))
+            }
+            Err(RtuError::Invalid(reason)) => Err(LookError::Refused(reason)),
+            Err(RtuError::NoMemory) => Err(LookError::NoMemory),
+        }
     }
 }
 

@@ -11,6 +11,7 @@ ghost use Rattle.modbus_client.specs.Connects.{Connects, connector_of};
 
 use crate::link_client::LinkClient;
 use crate::protocol::{LookError, Protocol, Reply};
+use crate::raw::{RawProtocol, take_raw_adu};
 use crate::tcp::Adus;
 use bytes::BytesMut;
 use modbus_frame::tcp::Header;
@@ -136,6 +137,20 @@ impl Protocol for OwnAdus {
     fn laws() {
         modbus_tcp::laws::one_front();
         modbus_tcp::laws::adu_stays();
+    }
+}
+
+impl RawProtocol for OwnAdus {
+    fn look_raw(
+        &mut self,
+        alloc: Global,
+        asked: HeaderSeen,
+        held: &mut BytesMut,
+    ) -> std::result::Result<Option<Reply>, LookError> {
+        modbus_tcp::laws::one_front();
+        let dropped = drop_others(asked, held);
+        self.dropped = self.dropped.saturating_add(dropped);
+        take_raw_adu(alloc, held)
     }
 }
 

@@ -4,31 +4,40 @@ use Rattle.std.specs.Option.{option_map}
 use Rattle.std.specs.declared.time.Duration.{Duration}
 use Rattle.modbus_frame.specs.Meaning.{Asked}
 use Rattle.modbus_frame.specs.declared.fault.ShutdownFault.{ShutdownFault}
+use Rattle.modbus_client.specs.Protocol.{Protocol}
+use Rattle.modbus_client.specs.Raw.{read_raw}
 use Rattle.modbus_client.specs.Matches.{Answer}
 use Rattle.modbus_client.specs.State.{ClientState}
 use Rattle.modbus_client.specs.Ends.{Disconnected, Limited}
 use Rattle.modbus_reconnect.specs.Resends.{may_follow}
 use Rattle.modbus_reconnect.specs.State.{ReconnectingState, Meaning}
-use Rattle.modbus_reconnect.specs.Tries.{Tried}
+use Rattle.modbus_reconnect.specs.Tries.{TriedBy}
 
 -- so many tries were made, one after another, after each of which there may be another one
-abbrev pub TriesInVain : {H I C L : Type 0} → Meaning H I C L → Asked → ℕ → ReconnectingState C I L → ReconnectingState C I L → Type 0
-TriesInVain m asked zero old new = new ≡ old
-TriesInVain {I = I} {C = C} {L = L} m asked (suc count) old new = (last : ReconnectingState C I L) × (answer : Answer)
-    × TriesInVain m asked count old last × Tried m last asked answer new × IsTrue (may_follow old.resend asked answer)
+abbrev pub TriesInVain : {H I C L : Type 0} → Meaning H I C L → Protocol H → Asked → ℕ → ReconnectingState C I L → ReconnectingState C I L → Type 0
+TriesInVain m P asked zero old new = new ≡ old
+TriesInVain {I = I} {C = C} {L = L} m P asked (suc count) old new = (last : ReconnectingState C I L) × (answer : Answer)
+    × TriesInVain m P asked count old last × TriedBy m P last asked answer new × IsTrue (may_follow old.resend asked answer)
 
 -- A call makes tries until one gives an answer that none may follow, or as many as it may. It answers what the last of them did, and counts
--- them.
-pub record CallsOnce {H I C L : Type 0} (m : Meaning H I C L) (old : ReconnectingState C I L) (asked : Asked) (answer : Answer) (new : ReconnectingState C I L) : Type 0 where
+-- them. The replies are looked for, and read, as `P` says.
+pub record CallsBy {H I C L : Type 0} (m : Meaning H I C L) (P : Protocol H) (old : ReconnectingState C I L) (asked : Asked) (answer : Answer) (new : ReconnectingState C I L) : Type 0 where
   -- the tries before the last one
   pub earlier : ℕ
   pub before : ReconnectingState C I L
   pub after : ReconnectingState C I L
-  pub in_vain : TriesInVain m asked earlier old before
-  pub tried : Tried m before asked answer after
+  pub in_vain : TriesInVain m P asked earlier old before
+  pub tried : TriedBy m P before asked answer after
   pub within : earlier ≤ old.retries
   pub last : IsTrue (may_follow old.resend asked answer) → earlier ≡ old.retries
   pub counts : new ≡ record after { tries = earlier + 1 }
+
+-- a call whose reply is read as a response; and one whose reply is given as it came
+abbrev pub CallsOnce : {H I C L : Type 0} → Meaning H I C L → ReconnectingState C I L → Asked → Answer → ReconnectingState C I L → Type 0
+CallsOnce m = CallsBy m m.protocol
+
+abbrev pub CallsRawOnce : {H I C L : Type 0} → Meaning H I C L → ReconnectingState C I L → Asked → Answer → ReconnectingState C I L → Type 0
+CallsRawOnce m = CallsBy m (read_raw m.protocol)
 
 -- the client that is there is disconnected; where there is none nothing is done
 abbrev pub DisconnectsIfSome : {H I C L : Type 0} → Meaning H I C L → Option (ClientState I L) → Result (Unit {0}) ShutdownFault → Type 0

@@ -21,12 +21,21 @@ read_raw m = record m {
   silent = record m.silent { means = raw_result_of };
 }
 
+-- a line with which nothing was done: what its parts mean stays
+pub record IsSameLine {H I L : Type 0} (m : LineMeaning H I L) (before line : L) : Type 0 where
+  pub source : m.link.input line ≡ m.link.input before
+  pub sink : m.link.output line ≡ m.link.output before
+  pub state : m.link.line line ≡ m.link.line before
+  pub silences : m.silences line ≡ m.silences before
+  pub looks : m.looks line ≡ m.looks before
+
 -- Nothing is owed on a line: it was settled, and each call since was answered by its own reply, with no byte left over, or sent nothing, and
--- each look since found nothing.
+-- each look since found nothing. It may have been told that a call begins.
 pub data OwesNothing {H I L : Type 0} (m : LineMeaning H I L) : L → Type 0 where
   settled : (before line : L) (silences limit dropped : ℕ)
       → 0 < silences → SettlesLine m silences limit before line (Ok dropped) → OwesNothing m line
   looked : (before line : L) → OwesNothing m before → LooksAt m before line (Ok 0) → OwesNothing m line
+  begun : (before line : L) → OwesNothing m before → IsSameLine m before line → OwesNothing m line
   called : (before line : L) (q : LineQuestion H) (held : List ℕ) (answer : Answer)
       → OwesNothing m before → EndsWait m q before line held answer → IsTrue (leaves_nothing q.asked answer held) → OwesNothing m line
   called_raw : (before line : L) (q : LineQuestion H) (held : List ℕ) (answer : Answer)
@@ -105,3 +114,12 @@ CallsStanding m = CallsReading m m
 
 abbrev pub CallsRaw : {H I L : Type 0} → LineMeaning H I L → SettlingState I L → Asked → Answer → SettlingState I L → Type 0
 CallsRaw m = CallsReading m (read_raw m)
+
+-- A call, or a request that is only sent, by a client whose line is told first that it begins. What stands before it stands after it.
+pub record BeginsCall {A : Type 0} {H I L : Type 0} (m : LineMeaning H I L) (begins : L → L → Type 0) (Does : SettlingState I L → Asked → A → SettlingState I L → Type 0)
+    (old : SettlingState I L) (asked : Asked) (answer : A) (new : SettlingState I L) : Type 0 where
+  pub begun : SettlingState I L
+  pub begins_line : begins old.link begun.link
+  pub rest : begun ≡ record old { link = begun.link }
+  pub does : Does begun asked answer new
+  pub stands : IsStanding m old → IsStanding m new

@@ -49,21 +49,25 @@ Uses m old (Some client) used connector = (used ≡ Some client) × (connector �
 Uses m old None (Some client) connector = OpensClient m old.connector old.address old.settings (Ok client) connector
 Uses m old None None connector = (failed : Failed) × OpensClient m old.connector old.address old.settings (Err failed) connector
 
--- with no client nothing is sent
-abbrev pub TriesOn : {H I C L : Type 0} → Meaning H I C L → ReconnectingState C I L → Option (ClientState I L) → Asked → Answer → Option (ClientState I L) → Type 0
-TriesOn m old None asked answer kept = (answer ≡ Err (Transport NotConnected)) × (kept ≡ None)
-TriesOn m old (Some client) asked answer kept =
-    IsReady m old.address old.settings client × CallsOn m.protocol m.heading m.link client (nat_lt 0 old.left) asked answer kept
+-- with no client nothing is sent; the reply is looked for, and read, as `P` says
+abbrev pub TriesOn : {H I C L : Type 0} → Meaning H I C L → Protocol H → ReconnectingState C I L → Option (ClientState I L) → Asked → Answer → Option (ClientState I L) → Type 0
+TriesOn m P old None asked answer kept = (answer ≡ Err (Transport NotConnected)) × (kept ≡ None)
+TriesOn m P old (Some client) asked answer kept =
+    IsReady m old.address old.settings client × CallsOn P m.heading m.link client (nat_lt 0 old.left) asked answer kept
 
 -- whether there is one
 abbrev pub is_some : {A : Type 0} → Option A → Bool
 is_some None = false
 is_some (Some value) = true
 
--- One try: all else stays.
-pub record Tried {H I C L : Type 0} (m : Meaning H I C L) (old : ReconnectingState C I L) (asked : Asked) (answer : Answer) (new : ReconnectingState C I L) : Type 0 where
+-- One try, by a protocol that finds replies in the same places: all else stays.
+pub record TriedBy {H I C L : Type 0} (m : Meaning H I C L) (P : Protocol H) (old : ReconnectingState C I L) (asked : Asked) (answer : Answer) (new : ReconnectingState C I L) : Type 0 where
   pub used : Option (ClientState I L)
   pub uses : Uses m old old.client used new.connector
-  pub tries : TriesOn m old used asked answer new.client
+  pub tries : TriesOn m P old used asked answer new.client
   pub left : new.left ≡ left_after (is_some new.client) answer old.patience old.left
   pub rest : new ≡ record old { connector = new.connector; client = new.client; left = new.left }
+
+-- one whose reply is read as the client's protocol does
+abbrev pub Tried : {H I C L : Type 0} → Meaning H I C L → ReconnectingState C I L → Asked → Answer → ReconnectingState C I L → Type 0
+Tried m = TriedBy m m.protocol

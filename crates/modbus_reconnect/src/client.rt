@@ -9,6 +9,8 @@ ghost use Rattle.modbus_reconnect.specs.Tries.{Uses, Tried};
 ghost use Rattle.modbus_reconnect.specs.LooksFirst.{LooksFirst};
 ghost use Rattle.modbus_reconnect.specs.Calls.{CallsOnce, Disconnects, Limits, with_slave, with_turns};
 
+mod raw;
+
 use crate::idle::{LookFirst, LookOnce};
 use crate::once::{CallOnce, TryOnce};
 use crate::opening::open;

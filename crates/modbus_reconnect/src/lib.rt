@@ -5,6 +5,7 @@
 //! bytes of an earlier request. Each is a `Client`, so it has the typed calls of `Reader` and `Writer`, and goes into a `Context`.
 #![tactic(auto)]
 
+mod call_line;
 mod client;
 mod idle;
 mod idle_memory;
@@ -12,6 +13,7 @@ mod looking;
 mod once;
 mod opening;
 mod owing;
+mod raw;
 mod reply;
 mod resend;
 mod rtu_over_tcp;
@@ -21,6 +23,7 @@ mod silences;
 mod telling;
 mod waiting;
 
+pub use crate::call_line::CallLine;
 pub use crate::client::ReconnectingClient;
 pub use crate::idle_memory::IdleMemoryLink;
 pub use crate::owing::leaves_nothing;

@@ -1,19 +1,22 @@
 //! A client of slaves behind a connection that carries RTU frames.
 ghost use Rattle.std.specs.Prelude.{◌≡◌, ◌↔◌, IsNone, IfSome};
 ghost use Rattle.modbus_link.specs.Line.{meaning_of};
+ghost use Rattle.modbus_frame.specs.Meaning.{Custom};
 ghost use Rattle.modbus_client.specs.Connects.{connector_of};
 ghost use Rattle.modbus_client.specs.Rtu.{rtu_protocol, rtu_heading};
 ghost use Rattle.modbus_reconnect.specs.State.{unconnected_client, meaning_by};
 ghost use Rattle.modbus_reconnect.specs.Calls.{Disconnects, Limits, with_slave, with_turns};
-ghost use Rattle.modbus_reconnect.specs.LooksFirst.{CallsLooked};
+ghost use Rattle.modbus_reconnect.specs.LooksFirst.{CallsLooked, CallsRawLooked};
 
 use crate::client::ReconnectingClient;
 use crate::idle::LookFirst;
+use crate::raw::AskRaw;
 use crate::resend::Resend;
 use modbus_client::{Client, IdleLink, rtu};
 use modbus_frame::{Request, Response, Result, ShutdownFault, Slave, SlaveContext};
 use modbus_link::{Connector, Link};
 use std::alloc::Global;
+use std::borrow::CowSlice;
 use std::marker::Model;
 use std::net::SocketAddr;
 use std::time::Duration;
@@ -97,6 +100,30 @@ where
         ensures { result.now ≡ self.now.connector }
     {
         self.client.connector()
+    }
+}
+
+impl<C: Connector> RtuOverTcpClient<C>
+where
+    C::Link: Link + IdleLink + Send + Drop,
+{
+    /// Asks for a function by its code, with the bytes that follow it in the PDU, and gives those of the reply as they came: a `Custom`
+    /// response of that code, or the exception. The link is looked at first, as for a `call`.
+    ///
+    /// A function that tells no length has no reply here, since no silence ends a frame on a connection.
+    ///
+    /// # Errors
+    /// Those of `call`; `InvalidResponse` only where a reply has no function code or no exception code. An answer of another function is
+    /// `FunctionCodeMismatch`.
+    pub fn call_raw(&mut self, function: u8, data: &[u8]) -> Result<Response>
+        ensures { CallsRawLooked
+            (meaning_by rtu_protocol rtu_heading (connector_of C.connects C.faults)
+            (meaning_of C.Link.input C.Link.output C.Link.line)) C.Link.looks
+            self.old (Custom function data.now) result self.new }
+    {
+        self.client.look_first();
+        self.client
+            .ask_raw(&Request::Custom(function, CowSlice::Borrowed(data)))
     }
 }
 

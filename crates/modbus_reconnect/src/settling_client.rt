@@ -8,14 +8,16 @@ ghost use Rattle.modbus_reconnect.specs.SettleState.{line_by, unsettled_client};
 ghost use Rattle.modbus_reconnect.specs.Looks.{ClearsLine};
 ghost use Rattle.modbus_reconnect.specs.Owes.{leaves_nothing};
 ghost use Rattle.modbus_reconnect.specs.Replies.{fitted};
-ghost use Rattle.modbus_reconnect.specs.OnLine.{time_or, quiet_time, quiet_silences, ClearsIf, AsksOn, CallsStanding, CallsRaw, read_raw};
+ghost use Rattle.modbus_reconnect.specs.OnLine.{quiet_time, quiet_silences, ClearsIf, AsksOn, CallsStanding, CallsRaw, read_raw};
 ghost use Rattle.modbus_reconnect.specs.Tells.{SendsStanding};
+
+mod begin;
 
 use crate::looking::look_at;
 use crate::owing::leaves_nothing;
 use crate::reply::fitted;
 use crate::settling::{Unsettled, settle};
-use crate::silences::silences_for;
+use crate::silences::{silences_for, time_or};
 use crate::telling::{is_sent, told_of};
 use crate::waiting::ask;
 use modbus_client::rtu::{LineFrames, RawLineFrames};
@@ -31,16 +33,6 @@ use std::time::Duration;
 
 /// How many bytes of a line may be dropped until it is silent, until a client is told otherwise.
 const LIMIT: usize = 4096;
-
-/// The time that was told, or else another one.
-fn time_or(time: Option<Duration>, other: Duration) -> Duration
-    ensures { result ≡ time_or time other }
-{
-    match time {
-        Some(time) => time,
-        None => other,
-    }
-}
 
 /// A client of the slaves of one line, as a serial line, which tells silence.
 ///

@@ -1,5 +1,6 @@
 //! How long a line is waited for, in silences of a link that tells them.
 ghost use Rattle.std.specs.Prelude.{◌≡◌};
+ghost use Rattle.modbus_reconnect.specs.OnLine.{time_or};
 ghost use Rattle.modbus_reconnect.specs.Silences.{silences_for};
 
 use std::time::Duration;
@@ -15,5 +16,15 @@ pub(crate) fn silences_for(time: Option<Duration>, silence: Duration) -> u64
     match u64::try_from(before) {
         Ok(before) => before.saturating_add(1),
         Err(_) => u64::MAX,
+    }
+}
+
+/// The time that was told, or else another one.
+pub(crate) fn time_or(time: Option<Duration>, other: Duration) -> Duration
+    ensures { result ≡ time_or time other }
+{
+    match time {
+        Some(time) => time,
+        None => other,
     }
 }

@@ -76,8 +76,23 @@ fn retries_of(words: &str) -> Option<(u32, Resend)> {
     Some((retries, resend_of(resend)?))
 }
 
-/// What a step does to an RTU client over a connector, which also has `retries=1:reads`.
+/// Asks such a client for the function of a PDU, whose reply is given as it came.
+fn rtu_raw(text: &mut Text, client: &mut RtuOverTcpClient<Links>, word: &str) -> bool {
+    let Some(pdu) = bytes_of(text.alloc, word) else {
+        return false;
+    };
+    match pdu.as_slice() {
+        [function, data @ ..] => text.push_shown(client.call_raw(*function, data)),
+        [] => return false,
+    }
+    true
+}
+
+/// What a step does to an RTU client over a connector, which also has `retries=1:reads` and `raw=11`.
 fn rtu_step(text: &mut Text, client: &mut RtuOverTcpClient<Links>, word: &str) -> bool {
+    if let Some(pdu) = word.strip_prefix("raw=") {
+        return rtu_raw(text, client, pdu);
+    }
     let Some(retries) = word.strip_prefix("retries=") else {
         return step(text, client, word);
     };
@@ -125,8 +140,23 @@ fn over_rtu(text: &mut Text, client: &mut RtuOverTcpClient<Links>, words: &str) 
     is_done
 }
 
-/// What a step does to a TCP client over a connector, which also has `patience=2`.
+/// Asks such a client for the function of a PDU, whose reply is given as it came.
+fn tcp_raw(text: &mut Text, client: &mut TcpClient<Links>, word: &str) -> bool {
+    let Some(pdu) = bytes_of(text.alloc, word) else {
+        return false;
+    };
+    match pdu.as_slice() {
+        [function, data @ ..] => text.push_shown(client.call_raw(*function, data)),
+        [] => return false,
+    }
+    true
+}
+
+/// What a step does to a TCP client over a connector, which also has `patience=2` and `raw=11`.
 fn tcp_step(text: &mut Text, client: &mut TcpClient<Links>, word: &str) -> bool {
+    if let Some(pdu) = word.strip_prefix("raw=") {
+        return tcp_raw(text, client, pdu);
+    }
     let Some(patience) = word.strip_prefix("patience=") else {
         return step(text, client, word);
     };

@@ -22,9 +22,9 @@ tries-init g c = record { made = zero; rounds = refl; asks = refl; vain = refl }
 pub returns-then-not-lets_follow : goal.returns-then-not-lets_follow
 returns-then-not-lets_follow g c =
     ends_by_answer
-    (meaning_by g.P.Protocol.protocol g.P.Protocol.heading (connector_of g.C.Connector.connects g.C.Connector.faults) (meaning_of g.C.Link.Ends.input g.C.Link.Ends.output g.C.Link.Ends.line))
+    (meaning_by g.P.Protocol.protocol g.P.Protocol.heading (connector_of g.C.Connector.connects g.C.Connector.faults) (meaning_of g.C.Link.Ends.input g.C.Link.Ends.output g.C.Link.Ends.line)) g.P.Protocol.protocol
     _ (meaning c.args.request) c.tries.invariant.made c.args.self.now c.tries.self c.try_once-answer.new.self _ c.try_once-answer.result c.self-in-tries.inside.resend c.lets_follow.result
-    c.tries.invariant.asks c.tries.invariant.vain (tried_of _ _ _ _ _ _ c.tries.invariant.asks c.try_once-answer.ensures)
+    c.tries.invariant.asks c.tries.invariant.vain (tried_of _ _ _ _ _ _ _ c.tries.invariant.asks c.try_once-answer.ensures)
     (ap (λ (state : ReconnectingState g.row.C.Denot g.row.P-Ids.Denot g.row.C-Link.Denot). state.resend) c.self-in-tries.view_is) c.lets_follow.ensures
     c.if-not-lets_follow.true
     (below _ _ _ _ c.tries-test.true c.tries.invariant.rounds
@@ -37,25 +37,25 @@ tries-preserved g c = record {
   rounds = next _ _ c.tries.invariant.rounds;
   asks = c.tries.invariant.asks;
   vain = one_more
-      (meaning_by g.P.Protocol.protocol g.P.Protocol.heading (connector_of g.C.Connector.connects g.C.Connector.faults) (meaning_of g.C.Link.Ends.input g.C.Link.Ends.output g.C.Link.Ends.line))
+      (meaning_by g.P.Protocol.protocol g.P.Protocol.heading (connector_of g.C.Connector.connects g.C.Connector.faults) (meaning_of g.C.Link.Ends.input g.C.Link.Ends.output g.C.Link.Ends.line)) g.P.Protocol.protocol
       _ (meaning c.args.request) c.tries.invariant.made c.args.self.now c.tries.self c.try_once-answer.new.self c.try_once-answer.result c.self-in-tries.inside.resend c.lets_follow.result
-      c.tries.invariant.asks c.tries.invariant.vain (tried_of _ _ _ _ _ _ c.tries.invariant.asks c.try_once-answer.ensures)
+      c.tries.invariant.asks c.tries.invariant.vain (tried_of _ _ _ _ _ _ _ c.tries.invariant.asks c.try_once-answer.ensures)
       (ap (λ (state : ReconnectingState g.row.C.Denot g.row.P-Ids.Denot g.row.C-Link.Denot). state.resend) c.self-in-tries.view_is) c.lets_follow.ensures
       c.if-not-lets_follow.false;
 }
 
 pub returns : goal.returns
 returns g c =
-    let tried = tried_of _ _ _ _ (meaning c.args.request) _ c.tries.invariant.asks c.try_once-answer-2.ensures in
+    let tried = tried_of _ _ _ _ _ (meaning c.args.request) _ c.tries.invariant.asks c.try_once-answer-2.ensures in
     let all = ended _ _ _ _ c.tries.auto.earlier-end c.tries-test.false c.tries.invariant.rounds
     (ap (λ (state : ReconnectingState g.row.C.Denot g.row.P-Ids.Denot g.row.C-Link.Denot). state.retries) c.self.view_is) in
     let retries = ap (λ (state : ReconnectingState g.row.C.Denot g.row.P-Ids.Denot g.row.C-Link.Denot). state.retries) c.self-2.view_is
     ∙ retries_after
-    (meaning_by g.P.Protocol.protocol g.P.Protocol.heading (connector_of g.C.Connector.connects g.C.Connector.faults) (meaning_of g.C.Link.Ends.input g.C.Link.Ends.output g.C.Link.Ends.line))
+    (meaning_by g.P.Protocol.protocol g.P.Protocol.heading (connector_of g.C.Connector.connects g.C.Connector.faults) (meaning_of g.C.Link.Ends.input g.C.Link.Ends.output g.C.Link.Ends.line)) g.P.Protocol.protocol
     (meaning c.args.request) c.tries.invariant.made c.args.self.now c.tries.self c.try_once-answer-2.new.self c.try_once-answer-2.result
     c.tries.invariant.vain tried in
     ends_by_count
-    (meaning_by g.P.Protocol.protocol g.P.Protocol.heading (connector_of g.C.Connector.connects g.C.Connector.faults) (meaning_of g.C.Link.Ends.input g.C.Link.Ends.output g.C.Link.Ends.line))
+    (meaning_by g.P.Protocol.protocol g.P.Protocol.heading (connector_of g.C.Connector.connects g.C.Connector.faults) (meaning_of g.C.Link.Ends.input g.C.Link.Ends.output g.C.Link.Ends.line)) g.P.Protocol.protocol
     (meaning c.args.request) c.tries.invariant.made c.args.self.now c.tries.self c.try_once-answer-2.new.self _ c.try_once-answer-2.result
     c.tries.invariant.vain tried all
     (counted _ _ _ _ c.self-2.view_is (c.from-2.ensures ∙ retries ∙ sym all))

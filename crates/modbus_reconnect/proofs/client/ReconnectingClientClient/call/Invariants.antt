@@ -13,5 +13,5 @@ invariant-tries g l = record {
   rounds : l.earlier ≡ made;
   asks : meaning l.request ≡ meaning l.fn.request;
   vain : TriesInVain (meaning_by g.P.Protocol.protocol g.P.Protocol.heading (connector_of g.C.Connector.connects g.C.Connector.faults) (meaning_of g.C.Link.Ends.input g.C.Link.Ends.output g.C.Link.Ends.line))
-      (meaning l.fn.request) made l.fn.self l.self;
+      g.P.Protocol.protocol (meaning l.fn.request) made l.fn.self l.self;
 }

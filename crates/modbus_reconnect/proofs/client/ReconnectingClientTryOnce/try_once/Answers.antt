@@ -11,7 +11,7 @@ pub invariant_of-self-2 : goal.invariant_of-self-2
 invariant_of-self-2 g c = record {
   ready = kept_is_ready
       (meaning_by g.P.Protocol.protocol g.P.Protocol.heading (connector_of g.C.Connector.connects g.C.Connector.faults) (meaning_of g.C.Link.Ends.input g.C.Link.Ends.output g.C.Link.Ends.line))
-      c.self.inside.address
+      g.P.Protocol.protocol.means c.self.inside.address
       (record { slave = c.self.inside.slave.0; turns = c.self.inside.turns; timeout = c.self.inside.timeout })
       c.in-Some.client _ (meaning c.args.request.now) c.call_once-answer.result.0 c.call_once-answer.result.1
       (λ some. c.self.invariant.waits.more (some_left _ some))
