@@ -6,10 +6,11 @@ use Rattle.std.specs.declared.net.SocketAddr.{SocketAddr}
 use Rattle.std.specs.declared.time.Duration.{Duration}
 use Rattle.modbus_link.specs.declared.outside.Failed.{Failed}
 use Rattle.modbus_link.specs.Outside.{Input, Rose}
-use Rattle.modbus_link.specs.Memory.{faults_after}
+use Rattle.modbus_link.specs.Memory.{next_count, faults_after}
 use Rattle.modbus_link.specs.Line.{Line}
+use Rattle.modbus_adapter.specs.Moments.{Reading, no_reading, ReadsClock}
 
--- a link over another one, with a deadline; moments are what a clock told, in nanoseconds since its start, or nothing
+-- a link over another one, with a deadline
 pub record DeadlineState (L : Type 0) : Type 0 where
   pub link : L
   -- how long a call may take; any time where there is none
@@ -19,8 +20,10 @@ pub record DeadlineState (L : Type 0) : Type 0 where
   -- whether the next write begins a call
   pub is_ended : Bool
   -- when the call began, and when the last read or write did
-  pub start : Option ℕ
-  pub last : Option ℕ
+  pub start : Reading
+  pub last : Reading
+  -- how often its clock was read
+  pub readings : ℕ
   -- how many of its reads failed, and how many of its writes; they stay at the last number of a counter
   pub read_faults : ℕ
   pub write_faults : ℕ
@@ -32,8 +35,9 @@ deadline_at_start link deadline = record {
   deadline = deadline;
   timeout = None;
   is_ended = true;
-  start = None;
-  last = None;
+  start = no_reading;
+  last = no_reading;
+  readings = 0;
   read_faults = 0;
   write_faults = 0;
 }
@@ -56,7 +60,7 @@ least None b = b
 
 -- what was left of the call at the last read or write
 abbrev pub left_of : {L : Type 0} → DeadlineState L → Option ℕ
-left_of it = nanos_left (option_map as_nanos it.deadline) it.start it.last
+left_of it = nanos_left (option_map as_nanos it.deadline) it.start.at it.last.at
 
 -- the deadline had passed by then
 abbrev pub is_over : {L : Type 0} → DeadlineState L → Bool
@@ -73,12 +77,19 @@ pub record WithinDeadline {L : Type 0} (line : L → Line) (old new : DeadlineSt
 -- One read, behind which a write begins a call.
 pub record DeadlineReads {L : Type 0} (line : L → Line) (old new : DeadlineState L) (before after : ℕ) (result : Result ℕ Failed) : Type 0 where
   pub within : WithinDeadline line old new before after result
-  pub counts : new ≡ record old { link = new.link; last = new.last; is_ended = true; read_faults = faults_after result old.read_faults }
+  -- the clock was read for it
+  pub reads_clock : ReadsClock old.readings new.readings new.last
+  pub counts : new ≡ record old { link = new.link; last = new.last; readings = new.readings; is_ended = true; read_faults = faults_after result old.read_faults }
 
--- what began then goes on, unless a new call begins
-abbrev pub Goes : Bool → Option ℕ → Option ℕ → Type 0
-Goes true start now = Unit {0}
-Goes false start now = now ≡ start
+-- The clock is read for the beginning of a call, where one begins.
+abbrev pub BeginsIfEnded : {L : Type 0} → Bool → DeadlineState L → DeadlineState L → Type 0
+BeginsIfEnded true old new = ReadsClock old.readings new.readings new.start × (new ≡ record old { start = new.start; readings = new.readings })
+BeginsIfEnded false old new = new ≡ old
+
+-- A call that begins is one for whose beginning the clock was read, and what began goes on else. Then the clock was read for the write.
+abbrev pub Goes : {L : Type 0} → Bool → DeadlineState L → DeadlineState L → Type 0
+Goes true old new = ReadsClock old.readings (next_count old.readings) new.start × ReadsClock (next_count old.readings) new.readings new.last
+Goes false old new = (new.start ≡ old.start) × ReadsClock old.readings new.readings new.last
 
 -- a call ends where it fails
 abbrev pub is_failed : {T E : Type 0} → Result T E → Bool
@@ -88,9 +99,16 @@ is_failed (Err error) = true
 -- One write: it begins a call where the one before had ended, as it has after a read, or where a read or a write failed.
 pub record DeadlineWrites {L : Type 0} (line : L → Line) (old new : DeadlineState L) (before after : ℕ) (result : Result ℕ Failed) : Type 0 where
   pub within : WithinDeadline line old new before after result
-  pub goes : Goes old.is_ended old.start new.start
+  pub goes : Goes old.is_ended old new
   pub ended : new.is_ended ≡ is_failed result
-  pub counts : new ≡ record old { link = new.link; start = new.start; last = new.last; is_ended = new.is_ended; write_faults = faults_after result old.write_faults }
+  pub counts : new ≡ record old {
+    link = new.link;
+    start = new.start;
+    last = new.last;
+    readings = new.readings;
+    is_ended = new.is_ended;
+    write_faults = faults_after result old.write_faults;
+  }
 
 -- what a link that tells its bytes means over another one: it may fail at any time, as its own count tells
 abbrev pub input_over : Input → ℕ → Input

@@ -2,18 +2,21 @@
 //!
 //! The timeout of a link bounds each read and each write. A peer that sends a byte from time to time holds a call for as many reads as it
 //! may make then. A deadline bounds them all.
-ghost use Rattle.std.specs.Prelude.{◌≡◌, ◌<◌, length, not, true, false, IsTrue, IfOk, OnErr};
+ghost use Rattle.std.specs.Prelude.{◌≡◌, ◌<◌, ◌≤◌, length, not, true, false, IsTrue, IfOk, OnErr};
 ghost use Rattle.std.specs.Option.{option_map};
 ghost use Rattle.std.specs.Duration.{as_nanos};
 ghost use Rattle.std.specs.Io.{ReadsAtMost, WritesAtMost};
 ghost use Rattle.modbus_link.specs.Outside.{Rose, Advances, Extends, ReadIsTold, bytes_appended, front_of};
 ghost use Rattle.modbus_link.specs.Line.{Shuts};
-ghost use Rattle.modbus_link.specs.Memory.{next_count};
+ghost use Rattle.modbus_link.specs.Memory.{next_count, faults_after};
+ghost use Rattle.modbus_link.specs.Polled.{at_once, Waited};
 ghost use Rattle.modbus_field.specs.BurstLink.{output_over};
-ghost use Rattle.modbus_adapter.specs.Deadline.{deadline_at_start, nanos_left, is_none_left, least, left_of, is_over, input_over, line_over, DeadlineReads, DeadlineWrites, IsWithDeadline, ConnectsWithDeadline};
+ghost use Rattle.modbus_adapter.specs.Moments.{ReadsClock};
+ghost use Rattle.modbus_adapter.specs.Deadline.{deadline_at_start, nanos_left, is_none_left, least, left_of, is_over, input_over, line_over, BeginsIfEnded, DeadlineReads, DeadlineWrites, IsWithDeadline, ConnectsWithDeadline};
 
-use crate::moment::Moment;
-use modbus_link::{Connector, Ends, Failed, Link, Sink, Source};
+use crate::moment::{Moment, Watch};
+use modbus_client::IdleLink;
+use modbus_link::{Connector, Ends, Failed, Link, Polled, Sink, Source};
 use std::marker::Model;
 use std::net::SocketAddr;
 use std::time::{Clock, Duration};
@@ -25,7 +28,7 @@ use std::time::{Clock, Duration};
 /// nothing is read or written. Where the clock can't be read, a read or a write goes on.
 #[derive(Drop)]
 pub struct DeadlineLink<'c, C, L> {
-    clock: &'c C,
+    watch: Watch<'c, C>,
     link: L,
     deadline: Option<Duration>,
     timeout: Option<Duration>,
@@ -49,6 +52,7 @@ impl<'c, C, L> Model for DeadlineLink<'c, C, L> {
       is_ended = it.is_ended;
       start = it.start;
       last = it.last;
+      readings = it.watch;
       read_faults = it.read_faults;
       write_faults = it.write_faults;
     } };
@@ -61,7 +65,7 @@ pub(crate) fn time_left(
     now: &Moment,
 ) -> Option<Duration>
     ensures { option_map as_nanos result
-        ≡ nanos_left (option_map as_nanos deadline) start.now now.now }
+        ≡ nanos_left (option_map as_nanos deadline) start.now.at now.now.at }
 {
     match (deadline, now.since(start)) {
         (Some(deadline), Some(took)) => Some(deadline.saturating_sub(took)),
@@ -102,7 +106,7 @@ impl<'c, C: Clock, L: Link> DeadlineLink<'c, C, L> {
         ensures { result ≡ deadline_at_start link deadline }
     {
         DeadlineLink {
-            clock,
+            watch: Watch::new(clock),
             link,
             deadline,
             timeout: None,
@@ -128,19 +132,33 @@ impl<'c, C: Clock, L: Link> DeadlineLink<'c, C, L> {
         &self.link
     }
 
+    /// Reads the clock where a call begins, which its next write begins.
+    fn begin(&mut self)
+        ensures { BeginsIfEnded self.old.is_ended self.old self.new }
+    {
+        if self.is_ended {
+            self.start = self.watch.read();
+        }
+    }
+
     /// Reads the clock, and lets the link take as long as is left. Whether something is.
     fn admit(&mut self) -> bool
         ensures admits { not result ≡ is_over self.new }
         ensures over { result ≡ false → self.new.link ≡ self.old.link }
         ensures limit { result ≡ true → option_map as_nanos (L.line self.new.link).timeout
             ≡ least (option_map as_nanos self.old.timeout) (left_of self.new) }
-        ensures rest { self.new ≡ record self.old { link = self.new.link; last = self.new.last } }
+        ensures reads_clock { ReadsClock self.old.readings self.new.readings self.new.last }
+        ensures rest { self.new ≡ record self.old {
+          link = self.new.link;
+          last = self.new.last;
+          readings = self.new.readings;
+        } }
         ensures source { L.input self.new.link ≡ L.input self.old.link }
         ensures sink { L.output self.new.link ≡ L.output self.old.link }
         ensures line { line_over (L.line self.new.link) self.old.timeout
             ≡ line_over (L.line self.old.link) self.old.timeout }
     {
-        self.last = Moment::now(self.clock);
+        self.last = self.watch.read();
         let left = time_left(self.deadline, &self.start, &self.last);
         if is_none_left(left) {
             return false;
@@ -217,9 +235,7 @@ impl<'c, C: Clock, L: Link> Sink for DeadlineLink<'c, C, L> {
         ensures writes { DeadlineWrites L.line self.old self.new (L.output self.old.link).faults
             (L.output self.new.link).faults result }
     {
-        if self.is_ended {
-            self.start = Moment::now(self.clock);
-        }
+        self.begin();
         self.is_ended = true;
         if !self.admit() {
             self.write_faults = self.write_faults.saturating_add(1);
@@ -255,6 +271,47 @@ impl<'c, C: Clock, L: Link> Link for DeadlineLink<'c, C, L> {
         ensures set { self.new ≡ record self.old { timeout = duration } }
     {
         self.timeout = duration;
+    }
+}
+
+impl<'c, C: Clock, L: Link + IdleLink> IdleLink for DeadlineLink<'c, C, L> {
+    ghost looks = { λ it. L.looks it.link };
+
+    /// Looks at the link, which waits for nothing: a deadline is for what waits, and begins with the first write of a call.
+    ///
+    /// # Errors
+    /// `Failed` where the link failed.
+    fn look(&mut self, room: &mut [u8]) -> Result<Polled<usize>, Failed>
+        requires { 0 < length room.old }
+        ensures bound { ReadsAtMost (at_once result) room.new }
+        ensures source { Advances (input_over (L.input self.old.link) self.old.read_faults)
+            (input_over (L.input self.new.link) self.new.read_faults) }
+        ensures told { IsTrue (L.input self.old.link).told
+            → ReadIsTold (input_over (L.input self.old.link) self.old.read_faults)
+            (input_over (L.input self.new.link) self.new.read_faults) room.old room.new
+            (at_once result) }
+        ensures cause { OnErr result (Rose self.old.read_faults self.new.read_faults) }
+        ensures looked { Waited result (L.looks self.old.link) (L.looks self.new.link) }
+        ensures later { L.looks self.old.link ≤ L.looks self.new.link }
+        ensures sink { output_over (L.output self.new.link) self.new.write_faults
+            ≡ output_over (L.output self.old.link) self.old.write_faults }
+        ensures line { line_over (L.line self.new.link) self.new.timeout
+            ≡ line_over (L.line self.old.link) self.old.timeout }
+
+        ensures fails { OnErr result (Rose (L.input self.old.link).faults
+            (L.input self.new.link).faults) }
+        ensures counts { self.new ≡ record self.old {
+          link = self.new.link;
+          read_faults = faults_after result self.old.read_faults;
+        } }
+    {
+        match self.link.look(room) {
+            Ok(told) => Ok(told),
+            Err(Failed) => {
+                self.read_faults = self.read_faults.saturating_add(1);
+                Err(Failed)
+            }
+        }
     }
 }
 

@@ -7,11 +7,12 @@ ghost use Rattle.std.specs.Io.{ReadsAtMost, WritesAtMost};
 ghost use Rattle.modbus_link.specs.Outside.{Rose, Advances, Extends, ReadIsTold, bytes_appended, front_of};
 ghost use Rattle.modbus_link.specs.Polled.{at_once, Waited};
 ghost use Rattle.modbus_field.specs.BurstLink.{output_over};
+ghost use Rattle.modbus_adapter.specs.Moments.{ReadsClock};
 ghost use Rattle.modbus_adapter.specs.Deadline.{input_over};
 ghost use Rattle.modbus_adapter.specs.DeadlineLine.{deadline_line_at_start, is_line_over, DeadlineLineReads, DeadlineLineWrites, BeginsDeadline};
 
 use crate::deadline::{is_none_left, time_left};
-use crate::moment::Moment;
+use crate::moment::{Moment, Watch};
 use modbus_link::{Ends, Failed, Polled, PolledLink, TimedLink};
 use modbus_reconnect::{CallLine, IdleLink};
 use std::marker::Model;
@@ -24,7 +25,7 @@ use std::time::{Clock, Duration};
 /// Where the clock can't be read they go on.
 #[derive(Drop)]
 pub struct DeadlineLine<'c, C, L> {
-    clock: &'c C,
+    watch: Watch<'c, C>,
     link: L,
     deadline: Option<Duration>,
     start: Moment,
@@ -44,6 +45,7 @@ impl<'c, C, L> Model for DeadlineLine<'c, C, L> {
       deadline = it.deadline;
       start = it.start;
       last = it.last;
+      readings = it.watch;
       read_faults = it.read_faults;
       write_faults = it.write_faults;
     } };
@@ -55,7 +57,7 @@ impl<'c, C: Clock, L> DeadlineLine<'c, C, L> {
         ensures { result ≡ deadline_line_at_start link deadline }
     {
         DeadlineLine {
-            clock,
+            watch: Watch::new(clock),
             link,
             deadline,
             start: Moment::none(),
@@ -82,9 +84,10 @@ impl<'c, C: Clock, L> DeadlineLine<'c, C, L> {
     /// Reads the clock. Whether the deadline of the call has passed.
     fn is_over(&mut self) -> bool
         ensures over { result ≡ is_line_over self.new }
-        ensures rest { self.new ≡ record self.old { last = self.new.last } }
+        ensures reads_clock { ReadsClock self.old.readings self.new.readings self.new.last }
+        ensures rest { self.new ≡ record self.old { last = self.new.last; readings = self.new.readings } }
     {
-        self.last = Moment::now(self.clock);
+        self.last = self.watch.read();
         is_none_left(time_left(self.deadline, &self.start, &self.last))
     }
 }
@@ -219,6 +222,6 @@ impl<'c, C: Clock, L: TimedLink + IdleLink> CallLine for DeadlineLine<'c, C, L> 
 
     /// The deadline of a call runs from now on.
     fn begin(&mut self) {
-        self.start = Moment::now(self.clock);
+        self.start = self.watch.read();
     }
 }

@@ -2,15 +2,15 @@
 //!
 //! Frames on a serial line are told apart by a silence of 3.5 characters (MODBUS over Serial Line V1.02, section 2.5.1.1). A request that
 //! follows a reply at once is taken for the rest of it by the other devices.
-ghost use Rattle.std.specs.Prelude.{◌≡◌, ◌*◌, ◌<◌, ◌≤◌, None, length, IsTrue, IfOk, OnErr};
+ghost use Rattle.std.specs.Prelude.{◌≡◌, ◌*◌, ◌<◌, ◌≤◌, length, IsTrue, IfOk, OnErr};
 ghost use Rattle.std.specs.Duration.{as_nanos};
 ghost use Rattle.std.specs.Io.{ReadsAtMost, WritesAtMost};
 ghost use Rattle.modbus_link.specs.Outside.{Rose, Advances, Extends, ReadIsTold, bytes_appended, front_of};
 ghost use Rattle.modbus_link.specs.Polled.{at_once, Waited};
 ghost use Rattle.modbus_field.specs.BurstLink.{CountsSilence};
-ghost use Rattle.modbus_adapter.specs.Paced.{pause_micros, pause_left, PacedReads, PacedWrites};
+ghost use Rattle.modbus_adapter.specs.Paced.{pause_micros, pause_left, paced_at_start, PacedReads, PacedWrites};
 
-use crate::moment::Moment;
+use crate::moment::{Moment, Watch};
 use crate::nap::Nap;
 use modbus_field::burst::CountedLink;
 use modbus_link::{Ends, Failed, Polled, PolledLink, TimedLink};
@@ -61,7 +61,7 @@ pub(crate) fn left_of(pause: Duration, since: &Option<Moment>, moment: &Moment) 
 /// A link over another one, of which the first write behind a read first sleeps what is left of a pause since bytes were read.
 #[derive(Drop)]
 pub struct PacedLink<'r, R, L> {
-    clock: &'r R,
+    watch: Watch<'r, R>,
     link: L,
     pause: Duration,
     since: Option<Moment>,
@@ -75,16 +75,16 @@ impl<'r, R, L> Model for PacedLink<'r, R, L> {
 
     ghost Value = { PacedState L };
 
-    ghost view = { λ it. record { link = it.link; pause = it.pause; since = it.since; wrote = it.wrote; slept = it.slept } };
+    ghost view = { λ it. record { link = it.link; pause = it.pause; since = it.since; wrote = it.wrote; readings = it.watch; slept = it.slept } };
 }
 
 impl<'r, R: Clock, L> PacedLink<'r, R, L> {
     /// A link over this one, with this pause by this clock.
     pub fn new(clock: &'r R, link: L, pause: Duration) -> PacedLink<'r, R, L>
-        ensures { result ≡ record { link = link; pause = pause; since = None; wrote = None; slept = 0 } }
+        ensures { result ≡ paced_at_start link pause }
     {
         PacedLink {
-            clock,
+            watch: Watch::new(clock),
             link,
             pause,
             since: None,
@@ -107,7 +107,7 @@ impl<'r, R: Clock, L> PacedLink<'r, R, L> {
     {
         match told {
             Ok(Polled::Ready(0)) => {}
-            Ok(Polled::Ready(_)) => self.since = Some(Moment::now(self.clock)),
+            Ok(Polled::Ready(_)) => self.since = Some(self.watch.read()),
             Ok(Polled::Pending) => {}
             Err(_) => {}
         }
@@ -118,9 +118,9 @@ impl<'r, R: Clock, L> PacedLink<'r, R, L> {
         ensures same { self.new.link ≡ self.old.link }
         ensures paced { PacedWrites self.old self.new }
     {
-        self.wrote = Moment::now(self.clock);
+        self.wrote = self.watch.read();
         let left = left_of(self.pause, &self.since, &self.wrote);
-        self.slept = Nap::take(self.clock, left);
+        self.slept = Nap::take(self.watch.clock(), left);
         self.since = None;
     }
 }

@@ -4,10 +4,11 @@
 //! goes then.
 ghost use Rattle.std.specs.Prelude.{◌≡◌};
 ghost use Rattle.std.specs.Duration.{as_nanos};
+ghost use Rattle.modbus_adapter.specs.Moments.{ReadsClock};
 ghost use Rattle.modbus_adapter.specs.Paced.{pause_left};
 ghost use Rattle.modbus_adapter.specs.Paused.{paused_at_start, KeepsFailure, ConnectsPaused};
 
-use crate::moment::Moment;
+use crate::moment::{Moment, Watch};
 use crate::nap::Nap;
 use crate::paced::left_of;
 use modbus_link::{Connector, Failed};
@@ -20,7 +21,7 @@ use std::time::{Clock, Duration};
 /// What is left is told by the clock, and all of it where that can't be read.
 #[derive(Drop)]
 pub struct PausedConnector<'c, C, K> {
-    clock: &'c C,
+    watch: Watch<'c, C>,
     connector: K,
     pause: Duration,
     failed: Option<Moment>,
@@ -34,16 +35,16 @@ impl<'c, C, K> Model for PausedConnector<'c, C, K> {
 
     ghost Value = { PausedState K };
 
-    ghost view = { λ it. record { connector = it.connector; pause = it.pause; failed = it.failed; asked = it.asked; slept = it.slept } };
+    ghost view = { λ it. record { connector = it.connector; pause = it.pause; failed = it.failed; asked = it.asked; readings = it.watch; slept = it.slept } };
 }
 
 /// When a connection failed, if it did.
-fn when_failed<C: Clock, L>(clock: &C, given: &Result<L, Failed>) -> Option<Moment>
-    ensures { KeepsFailure given.now result }
+fn when_failed<C: Clock, L>(watch: &mut Watch<'_, C>, given: &Result<L, Failed>) -> Option<Moment>
+    ensures { KeepsFailure given.now watch.old watch.new result }
 {
     match given {
         Ok(_) => None,
-        Err(_) => Some(Moment::now(clock)),
+        Err(_) => Some(watch.read()),
     }
 }
 
@@ -53,7 +54,7 @@ impl<'c, C: Clock, K> PausedConnector<'c, C, K> {
         ensures { result ≡ paused_at_start connector pause }
     {
         PausedConnector {
-            clock,
+            watch: Watch::new(clock),
             connector,
             pause,
             failed: None,
@@ -73,11 +74,16 @@ impl<'c, C: Clock, K> PausedConnector<'c, C, K> {
     fn keep_pause(&mut self)
         ensures slept { self.new.slept ≡ pause_left (as_nanos self.old.pause) self.old.failed
             self.new.asked }
-        ensures rest { self.new ≡ record self.old { asked = self.new.asked; slept = self.new.slept } }
+        ensures reads_clock { ReadsClock self.old.readings self.new.readings self.new.asked }
+        ensures rest { self.new ≡ record self.old {
+          asked = self.new.asked;
+          readings = self.new.readings;
+          slept = self.new.slept;
+        } }
     {
-        self.asked = Moment::now(self.clock);
+        self.asked = self.watch.read();
         let left = left_of(self.pause, &self.failed, &self.asked);
-        self.slept = Nap::take(self.clock, left);
+        self.slept = Nap::take(self.watch.clock(), left);
     }
 }
 
@@ -95,7 +101,7 @@ impl<'c, C: Clock, K: Connector> Connector for PausedConnector<'c, C, K> {
     fn connect(&mut self, addr: SocketAddr, timeout: Option<Duration>) -> Result<K::Link, Failed> {
         self.keep_pause();
         let given = self.connector.connect(addr, timeout);
-        self.failed = when_failed(self.clock, &given);
+        self.failed = when_failed(&mut self.watch, &given);
         given
     }
 }

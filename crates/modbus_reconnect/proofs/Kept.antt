@@ -6,7 +6,6 @@ use Rattle.modbus_link.specs.Line.{Line, LinkMeaning}
 use Rattle.modbus_frame.specs.Meaning.{Asked}
 use Rattle.modbus_frame.specs.declared.fault.ShutdownFault.{ShutdownFault}
 use Rattle.modbus_client.specs.Protocol.{Protocol, Heading}
-use Rattle.modbus_client.specs.Protocol as reading
 use Rattle.modbus_client.specs.Matches.{Answer}
 use Rattle.modbus_client.specs.State.{ClientState}
 use Rattle.modbus_client.specs.Calls.{Called}
@@ -16,7 +15,7 @@ use Rattle.modbus_frame.specs.declared.fault.TransportError.TheVariants.{ReadFau
 use Rattle.modbus_reconnect.specs.Owes.{leaves_nothing, is_kept}
 use Rattle.modbus_reconnect.specs.Replies.{fitted}
 use Rattle.modbus_reconnect.specs.State.{Settings, ReconnectingState, Meaning}
-use Rattle.modbus_reconnect.specs.Stands.{TellsReplies, IsReady, IsReadyIfSome, called, waited, directed, limited}
+use Rattle.modbus_reconnect.specs.Stands.{TellsReplies, Reading, read_by, IsReady, IsReadyIfSome, called, waited, directed, limited}
 use Rattle.modbus_reconnect.specs.Tries.{CallsOn}
 use Rattle.modbus_reconnect.proofs.Settled.{nothing_stays}
 use Rattle.modbus_reconnect.proofs.Late.{kept_why}
@@ -48,11 +47,11 @@ gives_up P N M on after gone lent asked answer result e c told is patient someth
   gives_up = λ _. record { result = result; gone = gone; disconnected = d };
 }
 
-called_is_ready : {H I C L : Type 0} (m : Meaning H I C L) (address : SocketAddr) (settings : Settings) (means : reading.Meaning) (on after : ClientState I L) (asked : Asked) (answer : Answer)
-    → IsReady m address settings on → Called (record m.protocol { means = means }) m.heading m.link on asked answer after → leaves_nothing asked answer after.held ≡ true
+called_is_ready : {H I C L : Type 0} (m : Meaning H I C L) (address : SocketAddr) (settings : Settings) (reading : Reading) (on after : ClientState I L) (asked : Asked) (answer : Answer)
+    → IsReady m address settings on → Called (read_by reading m.protocol) m.heading m.link on asked answer after → leaves_nothing asked answer after.held ≡ true
     → IsReady m address settings after
-called_is_ready m address settings means on after asked answer ready c leaves = record {
-  owes_nothing = called on after means asked answer ready.owes_nothing c leaves;
+called_is_ready m address settings reading on after asked answer ready c leaves = record {
+  owes_nothing = called on after reading asked answer ready.owes_nothing c leaves;
   connected = c.connected ready.connected ∙ nothing_stays asked answer after.held leaves;
   slave = c.keeps.slave ∙ ready.slave;
   turns = c.keeps.turns ∙ ready.turns;
@@ -65,24 +64,24 @@ kept_by m address settings after true ready = ready refl
 kept_by m address settings after false ready = tt
 
 -- so is one that a reply is late for, where replies are told by their headers
-waited_is_ready : {H I C L : Type 0} (m : Meaning H I C L) (address : SocketAddr) (settings : Settings) (means : reading.Meaning) (on after : ClientState I L) (asked : Asked)
-    → TellsReplies m.protocol → IsReady m address settings on → Called (record m.protocol { means = means }) m.heading m.link on asked (Err (Transport ReadFault)) after → after.held ≡ [] → IsReady m address settings after
-waited_is_ready m address settings means on after asked tells ready c none = record {
-  owes_nothing = waited on after means asked tells ready.owes_nothing c none;
+waited_is_ready : {H I C L : Type 0} (m : Meaning H I C L) (address : SocketAddr) (settings : Settings) (reading : Reading) (on after : ClientState I L) (asked : Asked)
+    → TellsReplies m.protocol → IsReady m address settings on → Called (read_by reading m.protocol) m.heading m.link on asked (Err (Transport ReadFault)) after → after.held ≡ [] → IsReady m address settings after
+waited_is_ready m address settings reading on after asked tells ready c none = record {
+  owes_nothing = waited on after reading asked tells ready.owes_nothing c none;
   connected = c.connected ready.connected;
   slave = c.keeps.slave ∙ ready.slave;
   turns = c.keeps.turns ∙ ready.turns;
   timed = ap (λ (line : Line). line.timeout) c.line ∙ ready.timed;
 }
 
--- the client that a call leaves is ready, where it leaves one, whatever the PDU of its reply was read as
-pub kept_is_ready : {H I C L : Type 0} (m : Meaning H I C L) (means : reading.Meaning) (address : SocketAddr) (settings : Settings) (on : ClientState I L) (patient : Bool) (asked : Asked) (answer : Answer) (kept : Option (ClientState I L))
-    → (patient ≡ true → TellsReplies m.protocol) → IsReady m address settings on → CallsOn (record m.protocol { means = means }) m.heading m.link on patient asked answer kept → IsReadyIfSome m address settings kept
-kept_is_ready {I = I} {L = L} m means address settings on patient asked answer kept tells ready c =
+-- the client that a call leaves is ready, where it leaves one, whichever way its reply was read
+pub kept_is_ready : {H I C L : Type 0} (m : Meaning H I C L) (reading : Reading) (address : SocketAddr) (settings : Settings) (on : ClientState I L) (patient : Bool) (asked : Asked) (answer : Answer) (kept : Option (ClientState I L))
+    → (patient ≡ true → TellsReplies m.protocol) → IsReady m address settings on → CallsOn (read_by reading m.protocol) m.heading m.link on patient asked answer kept → IsReadyIfSome m address settings kept
+kept_is_ready {I = I} {L = L} m reading address settings on patient asked answer kept tells ready c =
     subst (λ (state : Option (ClientState I L)). IsReadyIfSome m address settings state) (sym c.keeps)
     (kept_by m address settings c.after _ (λ keeps. elim (kept_why patient asked c.found c.after.held keeps) [
-      | inl nothing ↦ called_is_ready m address settings means on c.after asked c.found ready c.called nothing
-      | inr late ↦ waited_is_ready m address settings means on c.after asked (tells late.0) ready (subst (λ (found : Answer). Called (record m.protocol { means = means }) m.heading m.link on asked found c.after) late.1 c.called) late.2
+      | inl nothing ↦ called_is_ready m address settings reading on c.after asked c.found ready c.called nothing
+      | inr late ↦ waited_is_ready m address settings reading on c.after asked (tells late.0) ready (subst (λ (found : Answer). Called (read_by reading m.protocol) m.heading m.link on asked found c.after) late.1 c.called) late.2
     ]))
 
 -- all that stays of a client whose own client was taken: what was ready is

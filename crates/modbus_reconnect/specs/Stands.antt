@@ -9,7 +9,7 @@ use Rattle.modbus_frame.specs.declared.fault.Error.TheVariants.{Transport}
 use Rattle.modbus_frame.specs.declared.fault.HeaderSeen.{HeaderSeen}
 use Rattle.modbus_frame.specs.declared.fault.TransportError.TheVariants.{ReadFault}
 use Rattle.modbus_client.specs.Protocol.{Protocol, reply}
-use Rattle.modbus_client.specs.Protocol as reading
+use Rattle.modbus_client.specs.Raw.{read_raw}
 use Rattle.modbus_client.specs.Matches.{Answer}
 use Rattle.modbus_client.specs.State.{ClientState, attached_client}
 use Rattle.modbus_client.specs.Calls.{Called}
@@ -36,18 +36,27 @@ pub record IsFoundIdle {L : Type 0} (M : LinkMeaning L) (before after : L) : Typ
   pub sink : M.output after ≡ M.output before
   pub line : M.line after ≡ M.line before
 
+-- What a call gives of the PDU of its reply: what the client's protocol reads it as, or the PDU as it came.
+pub data Reading : Type 0 where
+  by_function : Reading
+  as_it_came : Reading
+
+abbrev pub read_by : {H : Type 0} → Reading → Protocol H → Protocol H
+read_by by_function P = P
+read_by as_it_came P = read_raw P
+
 -- Nothing is owed on the link of this client that could be taken for the reply: the connector gave the link for this address, and each call
 -- since was answered by its own reply, with no byte left over, or sent nothing; or it was late, where replies are told by their headers.
--- Whatever the PDUs of replies were read as, they stand in the same places.
+-- A reply stands in the same place, whether its PDU is read by its function code or given as it came.
 -- Between the calls its slave, its turns and its timeout were set, and it was looked at and nothing was found.
 pub data OwesNothing {H I C L : Type 0} (m : Meaning H I C L) (address : SocketAddr) : ClientState I L → Type 0 where
   made : (old new : C) (settings : Settings) (given : L) (client : ClientState I L)
       → m.connector.connects old address settings.timeout (Ok given) new → IsFresh m settings given client → OwesNothing m address client
-  called : (before client : ClientState I L) (means : reading.Meaning) (asked : Asked) (answer : Answer)
-      → OwesNothing m address before → Called (record m.protocol { means = means }) m.heading m.link before asked answer client
+  called : (before client : ClientState I L) (reading : Reading) (asked : Asked) (answer : Answer)
+      → OwesNothing m address before → Called (read_by reading m.protocol) m.heading m.link before asked answer client
       → IsTrue (leaves_nothing asked answer client.held) → OwesNothing m address client
-  waited : (before client : ClientState I L) (means : reading.Meaning) (asked : Asked) → TellsReplies m.protocol
-      → OwesNothing m address before → Called (record m.protocol { means = means }) m.heading m.link before asked (Err (Transport ReadFault)) client
+  waited : (before client : ClientState I L) (reading : Reading) (asked : Asked) → TellsReplies m.protocol
+      → OwesNothing m address before → Called (read_by reading m.protocol) m.heading m.link before asked (Err (Transport ReadFault)) client
       → client.held ≡ [] → OwesNothing m address client
   directed : (before client : ClientState I L) (slave turns : ℕ)
       → OwesNothing m address before → client ≡ record before { slave = slave; turns = turns } → OwesNothing m address client

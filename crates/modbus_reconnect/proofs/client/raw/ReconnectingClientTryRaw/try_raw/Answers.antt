@@ -1,9 +1,9 @@
 use Rattle.std.proofs.Common.{◌∙◌, Some, None}
 use Rattle.modbus_link.specs.Line.{meaning_of}
-use Rattle.modbus_client.specs.Raw.{raw_result_of}
 use Rattle.modbus_client.specs.Connects.{connector_of}
 use Rattle.modbus_reconnect.specs.State.{meaning_by}
 use Rattle.modbus_frame.specs.Meaning.{meaning}
+use Rattle.modbus_reconnect.specs.Stands.{as_it_came}
 use Rattle.modbus_reconnect.proofs.Kept.{kept_is_ready, moved}
 use Rattle.modbus_reconnect.proofs.Late.{some_left, waits_after}
 use Rattle.modbus_reconnect.proofs.client.raw.ReconnectingClientTryRaw.try_raw.Goals as goal
@@ -12,7 +12,7 @@ pub invariant_of-self-2 : goal.invariant_of-self-2
 invariant_of-self-2 g c = record {
   ready = kept_is_ready
       (meaning_by g.P.Protocol.protocol g.P.Protocol.heading (connector_of g.C.Connector.connects g.C.Connector.faults) (meaning_of g.C.Link.Ends.input g.C.Link.Ends.output g.C.Link.Ends.line))
-      raw_result_of c.self.inside.address
+      as_it_came c.self.inside.address
       (record { slave = c.self.inside.slave.0; turns = c.self.inside.turns; timeout = c.self.inside.timeout })
       c.in-Some.client _ (meaning c.args.request.now) c.call_raw_once-answer.result.0 c.call_raw_once-answer.result.1
       (λ some. c.self.invariant.waits.more (some_left _ some))
