@@ -1,3 +1,5 @@
 pub mod Accepts
 pub mod Found
 pub mod Polls
+pub mod Setbacks
+pub mod Tokens

@@ -8,8 +8,10 @@
 mod acceptor;
 mod mio_readiness;
 mod readiness;
+mod setback;
 mod tcp_acceptor;
 mod tcp_link;
+mod token;
 
 pub use acceptor::{PolledAcceptor, ScheduledAcceptor};
 pub use mio_readiness::MioReadiness;

@@ -4,22 +4,20 @@ ghost use Rattle.modbus_link.specs.Outside.{Rose};
 ghost use Rattle.modbus_ready.specs.Found.{nothing_found};
 
 use crate::readiness::{Readiness, Ready};
+use crate::setback::{Setback, setback_of};
 use crate::tcp_acceptor::PolledTcpAcceptor;
 use crate::tcp_link::PolledTcpLink;
-use mio::{Events, Poll, Token};
+use crate::token::{take_events, token_of};
+use mio::{Events, Poll};
 use modbus_link::Failed;
 use std::alloc::{AllocGlobal, Global};
 use std::io;
-use std::io::ErrorKind;
 use std::marker::Model;
 use std::net::Net;
 use std::time::Duration;
 
 /// How many events one wait takes at most.
 const EVENTS: usize = 1024;
-
-/// The token of the acceptor, which no key is.
-const PEER: Token = Token(usize::MAX);
 
 /// A source of readiness over epoll, which tells each change once (edge-triggered).
 ///
@@ -77,28 +75,10 @@ impl MioReadiness {
         ensures later { self.old.faults ≤ self.new.faults }
         ensures cause { OnErr result (Rose self.old.faults self.new.faults) }
     {
-        match acceptor.register(self.poll.registry(), PEER) {
+        match acceptor.register(self.poll.registry(), token_of(Ready::Peer)) {
             Ok(()) => Ok(()),
             Err(_) => Err(self.count_fault()),
         }
-    }
-
-    // Keeps what the poll found; nothing, and false, where memory is refused.
-    fn take_events(&mut self) -> bool
-        ensures faults { self.new.faults ≡ self.old.faults }
-        ensures nothing { result ≡ false → self.new.found ≡ [] }
-    {
-        for event in &self.events {
-            let ready = match event.token() {
-                PEER => Ready::Peer,
-                Token(key) => Ready::Link(key),
-            };
-            if self.ready.push(ready).is_err() {
-                self.ready.clear();
-                return false;
-            }
-        }
-        true
     }
 }
 
@@ -108,7 +88,7 @@ impl Readiness<PolledTcpLink> for MioReadiness {
     ghost found = { λ it. it.found };
 
     fn watch(&mut self, link: &mut PolledTcpLink, key: usize) -> Result<(), Failed> {
-        match link.register(self.poll.registry(), Token(key)) {
+        match link.register(self.poll.registry(), token_of(Ready::Link(key))) {
             Ok(()) => Ok(()),
             Err(_) => Err(self.count_fault()),
         }
@@ -121,15 +101,14 @@ impl Readiness<PolledTcpLink> for MioReadiness {
     fn wait(&mut self, timeout: Option<Duration>) -> Result<(), Failed> {
         self.ready.clear();
         match self.poll.poll(&mut self.events, timeout) {
-            Ok(()) => {
-                if self.take_events() {
-                    Ok(())
-                } else {
-                    Err(self.count_fault())
-                }
-            }
-            Err(error) if error.kind() == ErrorKind::Interrupted => Ok(()),
-            Err(_) => Err(self.count_fault()),
+            Ok(()) => match take_events(&self.events, &mut self.ready) {
+                Ok(()) => Ok(()),
+                Err(_) => Err(self.count_fault()),
+            },
+            Err(error) => match setback_of(error.kind()) {
+                Setback::Again => Ok(()),
+                _ => Err(self.count_fault()),
+            },
         }
     }
 

@@ -5,6 +5,7 @@ ghost use Rattle.modbus_ready.specs.Accepts.{tally_by};
 ghost use Rattle.modbus_ready.specs.Polls.{GivesNewLink};
 
 use crate::acceptor::PolledAcceptor;
+use crate::setback::{Setback, setback_of_accept};
 use crate::tcp_link::PolledTcpLink;
 use mio::net::{TcpListener, TcpStream};
 use mio::{Interest, Registry, Token};
@@ -60,8 +61,8 @@ fn accept_once(listener: &TcpListener) -> IoResult<TcpStream> {
     for _ in 0..u64::MAX {
         match listener.accept() {
             Ok((stream, _)) => return Ok(stream),
-            Err(error) => match error.kind() {
-                ErrorKind::ConnectionAborted | ErrorKind::Interrupted => {}
+            Err(error) => match setback_of_accept(error.kind()) {
+                Setback::Again => {}
                 _ => return Err(error),
             },
         }
@@ -88,11 +89,13 @@ impl PolledAcceptor for PolledTcpAcceptor {
                 self.given = self.given.saturating_add(1);
                 Ok(Polled::Ready(PolledTcpLink::new(stream)))
             }
-            Err(error) if error.kind() == ErrorKind::WouldBlock => Ok(Polled::Pending),
-            Err(_) => {
-                self.faults = self.faults.saturating_add(1);
-                Err(Failed)
-            }
+            Err(error) => match setback_of_accept(error.kind()) {
+                Setback::NotReady => Ok(Polled::Pending),
+                _ => {
+                    self.faults = self.faults.saturating_add(1);
+                    Err(Failed)
+                }
+            },
         }
     }
 }

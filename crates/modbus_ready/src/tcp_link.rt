@@ -7,8 +7,10 @@ ghost use Rattle.modbus_link.specs.Outside.{Advances, Extends, untold_input, unt
 ghost use Rattle.modbus_link.specs.Polled.{at_once};
 ghost use Rattle.modbus_ready.specs.Polls.{polled_tcp_at_start, after_read, after_write};
 
+use crate::setback::{Setback, setback_of};
+use crate::token::both_ways;
 use mio::net::TcpStream;
-use mio::{Interest, Registry, Token};
+use mio::{Registry, Token};
 use modbus_link::{Ends, Failed, Polled, PolledLink};
 use std::io::{Error, ErrorKind, Read, Result as IoResult, Write};
 use std::marker::Model;
@@ -39,7 +41,7 @@ fn read_once(stream: &mut TcpStream, room: &mut [u8]) -> IoResult<usize>
 {
     for _ in 0..u64::MAX {
         match stream.read(room) {
-            Err(error) if error.kind() == ErrorKind::Interrupted => {}
+            Err(error) if setback_of(error.kind()) == Setback::Again => {}
             result => return result,
         }
     }
@@ -52,7 +54,7 @@ fn write_once(stream: &mut TcpStream, piece: &[u8]) -> IoResult<usize>
 {
     for _ in 0..u64::MAX {
         match stream.write(piece) {
-            Err(error) if error.kind() == ErrorKind::Interrupted => {}
+            Err(error) if setback_of(error.kind()) == Setback::Again => {}
             result => return result,
         }
     }
@@ -81,8 +83,7 @@ impl PolledTcpLink {
     pub fn register(&mut self, registry: &Registry, token: Token) -> Result<(), Failed>
         ensures { self.new ≡ self.old }
     {
-        let both_ways = Interest::READABLE | Interest::WRITABLE;
-        match registry.register(&mut self.stream, token, both_ways) {
+        match registry.register(&mut self.stream, token, both_ways()) {
             Ok(()) => Ok(()),
             Err(_) => Err(Failed),
         }
@@ -112,7 +113,7 @@ impl PolledLink for PolledTcpLink {
     {
         match read_once(&mut self.stream, room) {
             Ok(count) => Ok(Polled::Ready(count)),
-            Err(error) if error.kind() == ErrorKind::WouldBlock => {
+            Err(error) if setback_of(error.kind()) == Setback::NotReady => {
                 self.not_ready = self.not_ready.saturating_add(1);
                 Ok(Polled::Pending)
             }
@@ -138,7 +139,7 @@ impl PolledLink for PolledTcpLink {
     {
         match write_once(&mut self.stream, piece) {
             Ok(count) if count > 0 || piece.is_empty() => Ok(Polled::Ready(count)),
-            Err(error) if error.kind() == ErrorKind::WouldBlock => {
+            Err(error) if setback_of(error.kind()) == Setback::NotReady => {
                 self.not_ready = self.not_ready.saturating_add(1);
                 Ok(Polled::Pending)
             }

@@ -1,0 +1,16 @@
+-- What an error of a socket that does not block comes to.
+use Rattle.std.specs.declared.io.ErrorKind.{ErrorKind}
+use Rattle.std.specs.declared.io.ErrorKind.TheVariants as kind
+use Rattle.modbus_ready.specs.declared.setback.Setback.{Setback}
+use Rattle.modbus_ready.specs.declared.setback.Setback.TheVariants.{Again, NotReady, Failed}
+
+-- of a wait, a read or a write: a signal interrupts it, and it is made again
+abbrev pub setback_of : ErrorKind → Setback
+setback_of kind.Interrupted = Again
+setback_of kind.WouldBlock = NotReady
+setback_of _ = Failed
+
+-- of an accept: a peer may give its connection up before it is accepted, and the next one is
+abbrev pub setback_of_accept : ErrorKind → Setback
+setback_of_accept kind.ConnectionAborted = Again
+setback_of_accept other = setback_of other
