@@ -1,13 +1,24 @@
 -- Histories of what happened to many connections.
-use Rattle.std.proofs.Common.{◌≡◌, ◌≢◌, inl, inr, ℕ, ◌==◌, Bool, List, [], ◌∷◌, ◌++◌, Option, Some, None, IsSome, refl, sym, ap, ◌∙◌, subst, append_assoc, append-nil, eq-eqb, ne_eqb}
+use Rattle.std.proofs.Common.{◌≡◌, ◌≢◌, inl, inr, ℕ, ◌+◌, ◌==◌, Bool, true, false, List, [], ◌∷◌, ◌++◌, length, Option, Some, None, IsSome, refl, sym, ap, ◌∙◌, subst, append_assoc, append-nil, eq-eqb, ne_eqb, arith}
 use Rattle.std.proofs.lemmas.Bool.{cases_eq}
 use Rattle.std.specs.Prelude.{if◌then◌else◌}
 use Rattle.modbus_service.specs.Answering.{Answering}
 use Rattle.modbus_server.specs.Framing.{Framing}
 use Rattle.modbus_hub.specs.declared.turn.Turn.{Turn}
 use Rattle.modbus_hub.specs.Turn.{Said, RunOver}
-use Rattle.modbus_hub.specs.Events.{Event, came, refused, told, turned, dropped, Account, KeyAccount, told_more, after_turn, account_after, account_of, by_key, HasAnyTurn, links_of}
-use Rattle.modbus_hub.specs.Seats.{PolledMeaning, RunsOn, IsTurnOf, StaysOrTurns, DropsNone, ServesInTurn}
+use Rattle.modbus_hub.specs.Events.{Event, came, refused, told, turned, dropped, Account, KeyAccount, told_more, after_turn, account_after, account_of, by_key, HasAnyTurn, TurnsAmong, turns_of, links_of}
+use Rattle.modbus_hub.specs.Seats.{PolledMeaning, AsksNone, RunsOn, IsTurnOf, StaysOrTurns, DropsNone, ServesInTurn}
+
+none_more : (n : ℕ) → n ≡ 0 + n
+none_more n = omega arith
+
+count_more : (b : Bool) (n m k : ℕ) → n ≡ m + k → (if b then n + 1 else n) ≡ (if b then m + 1 else m) + k
+count_more true n m k e = omega (arith, e)
+count_more false n m k e = e
+
+turns_told : (L : Type 0) (key j : ℕ) (xs : List Said) → turns_of {L = L} key (by_key j xs) ≡ 0
+turns_told L key j [] = refl
+turns_told L key j (x ∷ xs) = turns_told L key j xs
 
 module _ {L : Type 0} where
   pub at_key : (key j : ℕ) (here there : KeyAccount L) → j ≡ key → (if j == key then here else there) ≡ here
@@ -20,13 +31,20 @@ module _ {L : Type 0} where
   account_more key account [] ys = refl
   account_more key account (x ∷ xs) ys = account_more key (account_after key account x) xs ys
 
+  account_as : (account : Account L) (own own' : List Said) (n n' : ℕ) → own ≡ own' → n ≡ n'
+      → Some (record account { own = own; in_turn = n }) ≡ Some (record account { own = own'; in_turn = n' })
+  account_as account own own' n n' e f =
+      ap (λ (l : List Said). Some (record account { own = l; in_turn = n })) e ∙ ap (λ (m : ℕ). Some (record account { own = own'; in_turn = m })) f
+
   -- the account of a key after what its connection was told
-  pub account_told : (key : ℕ) (account : Account L) (fresh : List Said) → account_of key (Some account) (by_key key fresh) ≡ Some (record account { own = account.own ++ fresh })
-  account_told key account [] = ap (λ (l : List Said). Some (record account { own = l })) (sym (append-nil account.own))
+  pub account_told : (key : ℕ) (account : Account L) (fresh : List Said)
+      → account_of key (Some account) (by_key key fresh) ≡ Some (record account { own = account.own ++ fresh; in_turn = account.in_turn + length fresh })
+  account_told key account [] =
+      account_as account account.own (account.own ++ []) account.in_turn (account.in_turn + length {A = Said} []) (sym (append-nil account.own)) (omega arith)
   account_told key account (x ∷ xs) =
       ap (λ (a : KeyAccount L). account_of key a (by_key key xs)) (at_key key key (told_more x (Some account)) (Some account) refl)
-      ∙ account_told key (record account { own = account.own ++ x ∷ [] }) xs
-      ∙ ap (λ (l : List Said). Some (record account { own = l })) (append_assoc account.own (x ∷ []) xs)
+      ∙ account_told key (record account { own = account.own ++ x ∷ []; in_turn = account.in_turn + 1 }) xs
+      ∙ account_as account ((account.own ++ x ∷ []) ++ xs) (account.own ++ x ∷ xs) (account.in_turn + 1 + length xs) (account.in_turn + length (x ∷ xs)) (append_assoc account.own (x ∷ []) xs) (omega arith)
 
   -- and after what another was told
   pub account_other : (key j : ℕ) (account : KeyAccount L) (fresh : List Said) → j ≢ key → account_of key account (by_key j fresh) ≡ account
@@ -54,6 +72,63 @@ module _ {L : Type 0} where
   pub turn_after : (key : ℕ) (xs ys : List (Event L)) → HasAnyTurn key xs → HasAnyTurn key (xs ++ ys)
   turn_after key xs ys (earlier, later, link, turn, e) =
       (earlier, later ++ ys, link, turn, ap (λ (l : List (Event L)). l ++ ys) e ∙ append_assoc earlier (turned key link turn ∷ later) ys)
+
+  pub turns_more : (key : ℕ) (xs ys : List (Event L)) → turns_of key (xs ++ ys) ≡ turns_of key xs + turns_of key ys
+  turns_more key [] ys = none_more (turns_of key ys)
+  turns_more key (came j link ∷ xs) ys = turns_more key xs ys
+  turns_more key (refused cause link ∷ xs) ys = turns_more key xs ys
+  turns_more key (told j x ∷ xs) ys = turns_more key xs ys
+  turns_more key (turned j link turn ∷ xs) ys = count_more (j == key) (turns_of key (xs ++ ys)) (turns_of key xs) (turns_of key ys) (turns_more key xs ys)
+  turns_more key (dropped j ∷ xs) ys = turns_more key xs ys
+
+  -- what happens without the service is no turn
+  pub turns_aside : (key : ℕ) (earlier more : List (Event L)) → AsksNone earlier more → turns_of key more ≡ 0
+  turns_aside key earlier [] none = refl
+  turns_aside key earlier (came j link ∷ more) (vacant, none) = turns_aside key (earlier ++ came j link ∷ []) more none
+  turns_aside key earlier (refused cause link ∷ more) none = turns_aside key (earlier ++ refused cause link ∷ []) more none
+  turns_aside key earlier (dropped j ∷ more) none = turns_aside key (earlier ++ dropped j ∷ []) more none
+  turns_aside key earlier (told j x ∷ more) none = absurd none
+  turns_aside key earlier (turned j link turn ∷ more) none = absurd none
+
+  last_turn : (key j : ℕ) (last : L) (turn : Turn) (b : Bool) → (j == key) ≡ b → turns_of key (turned j last turn ∷ []) ≡ (if b then 1 else 0)
+  last_turn key j last turn b e = ap (λ (c : Bool). if c then 1 else 0) e
+
+  -- the turn of one key is one
+  pub turn_among : (key : ℕ) (turn : Option Turn) (history more : List (Event L)) → IsTurnOf key turn history more → TurnsAmong (λ k. k ≡ key) more
+  turn_among key None history more (none, account) k = inl (ap (turns_of k) none)
+  turn_among key (Some turn) history more (fresh, last, e) k =
+      let sum = turns_more k (by_key key fresh) (turned key last turn ∷ []) in
+      let before = turns_told L k key fresh in
+      let all = ap (turns_of k) e in
+      elim (cases_eq k key) [
+        | inl same ↦ let one = last_turn k key last turn true (eq-eqb key k (sym same)) in inr (same, omega (arith, all, sum, before, one))
+        | inr differs ↦ let none = last_turn k key last turn false (ne_eqb key k (λ f. differs (sym f))) in inl (omega (arith, all, sum, before, none))
+      ]
+
+  pub among_as : (P Q : ℕ → Type 0) (xs : List (Event L)) → TurnsAmong P xs → ((key : ℕ) → P key → Q key) → TurnsAmong Q xs
+  among_as P Q xs first says key =
+      elim (first key) [
+        | inl none ↦ inl none
+        | inr one ↦ inr (says key one.0, one.1)
+      ]
+
+  -- turns of some, and then of others
+  pub among_both : (P Q R : ℕ → Type 0) (xs ys : List (Event L)) → TurnsAmong P xs → TurnsAmong Q ys → ((key : ℕ) → P key → R key) → ((key : ℕ) → Q key → R key)
+      → ((key : ℕ) → P key → Q key → ⊥) → TurnsAmong R (xs ++ ys)
+  among_both P Q R xs ys first second left right apart key =
+      let sum = turns_more key xs ys in
+      elim (first key) [
+        | inl none ↦
+            elim (second key) [
+              | inl nothing ↦ inl (omega (arith, sum, none, nothing))
+              | inr one ↦ inr (right key one.0, omega (arith, sum, none, one.1))
+            ]
+        | inr had ↦
+            elim (second key) [
+              | inl nothing ↦ inr (left key had.0, omega (arith, sum, had.1, nothing))
+              | inr one ↦ absurd (apart key had.0 one.0)
+            ]
+      ]
 
   -- where nothing happens each connection stays
   pub stays_none : (history : List (Event L)) → StaysOrTurns history []
@@ -127,7 +202,7 @@ module _ (F : Framing) {S : Type 0} (A : Answering S) {L : Type 0} (M : PolledMe
       → RunsOn F A M earlier a (by_key key fresh) b
   runs_told key account [] earlier a b here run = run
   runs_told key account (x ∷ xs) earlier a b here (next, step, rest) =
-      let on : account_of key None (earlier ++ told key x ∷ []) ≡ Some (record account { own = account.own ++ x ∷ [] }) =
+      let on : account_of key None (earlier ++ told key x ∷ []) ≡ Some (record account { own = account.own ++ x ∷ []; in_turn = account.in_turn + 1 }) =
       account_more key None earlier (told key x ∷ []) ∙ ap (λ (slot : KeyAccount L). account_of key slot (told key x ∷ [])) here
       ∙ at_key key key (told_more x (Some account)) (Some account) refl in
-      (next, (is_some account (account_of key None earlier) here, step), runs_told key (record account { own = account.own ++ x ∷ [] }) xs (earlier ++ told key x ∷ []) next b on rest)
+      (next, (is_some account (account_of key None earlier) here, step), runs_told key (record account { own = account.own ++ x ∷ []; in_turn = account.in_turn + 1 }) xs (earlier ++ told key x ∷ []) next b on rest)

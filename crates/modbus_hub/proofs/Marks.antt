@@ -1,9 +1,9 @@
 -- What is known to be left, over all connections.
-use Rattle.std.proofs.Common.{◌≡◌, ◌≢◌, inl, inr, ◌<◌, ◌+◌, ℕ, Option, Some, None, Bool, true, false, if◌then◌else◌, refl, subst, arith, IsTrue}
+use Rattle.std.proofs.Common.{◌≡◌, ◌≢◌, inl, inr, ◌<◌, ◌+◌, ◌∙◌, ◌⊎◌, ℕ, Option, Some, None, Bool, true, false, if◌then◌else◌, refl, sym, ap, subst, arith, IsTrue}
 use Rattle.std.proofs.lemmas.Bool.{cases_eq}
-use Rattle.slab.specs.Slab.{get}
+use Rattle.slab.specs.Slab.{Slab, get}
 use Rattle.modbus_hub.specs.Events.{Place}
-use Rattle.modbus_hub.specs.Seats.{SeatsState, KeepsMarks, is_spent_at, kept}
+use Rattle.modbus_hub.specs.Seats.{SeatsState, IsOneLeft, KeepsMarks, MarksLeft, SameLeft, is_spent_at, kept}
 
 no_both : (b : Bool) → b ≡ false → b ≡ true → ⊥
 no_both b e f = cc
@@ -19,6 +19,41 @@ module _ {L : Type 0} where
       elim (cases_eq k key) [
         | inl same ↦ marks (subst (λ (n : ℕ). IsTrue (is_spent_at (get next.seats n))) same spent)
         | inr differs ↦ stays (below k (omega (arith, low, differs)) (subst (λ (slot : Option (Place L)). IsTrue (is_spent_at slot)) (others k differs) spent))
+      ]
+
+  -- one is left below a key
+  abbrev pub OneBelow : ℕ → SeatsState L → Type 0
+  OneBelow below seats = IsTrue seats.has_spent → (key : ℕ) × (key < below) × IsTrue (is_spent_at (get seats.seats key))
+
+  pub one_below : (now next : SeatsState L) (key : ℕ) → ((other : ℕ) → other ≢ key → get next.seats other ≡ get now.seats other)
+      → (IsTrue next.has_spent → IsTrue now.has_spent ⊎ IsTrue (is_spent_at (get next.seats key))) → OneBelow key now → OneBelow (key + 1) next
+  one_below now next key others knows below known =
+      elim (knows known) [
+        | inl before ↦
+            let on = below before in
+            let differs : on.0 ≢ key = λ e. omega (arith, on.1, e) in
+            (on.0, omega (arith, on.1), subst (λ (slot : Option (Place L)). IsTrue (is_spent_at slot)) (sym (others on.0 differs)) on.2)
+        | inr here ↦ (key, omega arith, here)
+      ]
+
+  pub same_both : (a b c : SeatsState L) → SameLeft a b → SameLeft b c → SameLeft a c
+  same_both a b c first second = (second.0 ∙ first.0, λ key. second.1 key ∙ first.1 key)
+
+  pub marks_same : (old new : SeatsState L) → SameLeft old new → MarksLeft old → MarksLeft new
+  marks_same old new same marks key spent = subst IsTrue (sym same.0) (marks key (subst IsTrue (same.1 key) spent))
+
+  pub one_same : (old new : SeatsState L) → SameLeft old new → IsOneLeft old → IsOneLeft new
+  one_same old new same one known =
+      let on = one (subst IsTrue same.0 known) in
+      (on.0, subst IsTrue (sym (same.1 on.0)) on.1)
+
+  -- a new connection has had no turn
+  pub same_admitted : (olds news : Slab (Place L)) (key : ℕ) → is_spent_at (get news key) ≡ false → get olds key ≡ None
+      → ((other : ℕ) → other ≢ key → get news other ≡ get olds other) → (k : ℕ) → is_spent_at (get news k) ≡ is_spent_at (get olds k)
+  same_admitted olds news key fresh vacant others k =
+      elim (cases_eq k key) [
+        | inl same ↦ subst (λ (n : ℕ). is_spent_at (get news n) ≡ is_spent_at (get olds n)) (sym same) (fresh ∙ sym (ap is_spent_at vacant))
+        | inr differs ↦ ap is_spent_at (others k differs)
       ]
 
   pub marks_at : (old new : SeatsState L) (key : ℕ) → ((other : ℕ) → other ≢ key → get new.seats other ≡ get old.seats other) → (IsTrue old.has_spent → IsTrue new.has_spent)

@@ -1,11 +1,16 @@
 -- Reads of a link that is lent to one turn, counted by its cuts.
-use Rattle.std.proofs.Common.{◌≡◌, ℕ, ◌+◌, ◌-◌, ◌<◌, List, [], ◌∷◌, Bool, true, false, length, refl, sym, ap, subst, arith, IsTrue, ne_eqb}
+use Rattle.std.proofs.Common.{◌≡◌, inl, inr, ◌⊎◌, ℕ, ◌+◌, ◌-◌, ◌<◌, ◌≤◌, List, [], ◌∷◌, Bool, true, false, length, refl, sym, ap, ◌∙◌, subst, arith, IsTrue, ne_eqb}
 use Rattle.std.specs.Prelude.{if◌then◌else◌}
 use Rattle.std.proofs.lemmas.List.{length-take, length-drop, length-map}
 use Rattle.modbus_link.specs.declared.outside.Cut.{Cut}
 use Rattle.modbus_link.specs.Outside.{cut_at, outside, Input, Output, Advances, Gives, cuts_made, one_cut, input_through, output_through}
 use Rattle.modbus_link.specs.Passes.{Passes}
 use Rattle.modbus_link.specs.Through.{tail_of}
+use Rattle.modbus_link.specs.Line.{LinkMeaning}
+use Rattle.modbus_hub.specs.declared.turn.Turn.{Turn}
+use Rattle.modbus_hub.specs.declared.turn.Turn.TheVariants.{Spent}
+use Rattle.modbus_hub.specs.declared.turn.TurnLimits.{TurnLimits}
+use Rattle.modbus_hub.specs.Turn.{IsWithin}
 use Rattle.modbus_hub.specs.Rationed.{reads_in_all, left_behind, rationed_input}
 
 pub cuts_counted : (a b : Input) → Gives a b → length b.cuts ≡ length a.cuts + length (cuts_made a b)
@@ -61,4 +66,52 @@ through n m p n' m' p' a b k l q q' fed made sent s = record {
   cuts = s.cuts;
   wrote = s.wrote;
   rises = s.rises;
+}
+
+abbrev first_of : List ℕ → ℕ
+first_of [] = 0
+first_of (x ∷ xs) = x
+
+where_told : (told : Bool) (n : ℕ) → IsTrue told → (if told then n else 0) ≡ n
+where_told true n e = refl
+where_told false n e = absurd (no_both e)
+  where
+    no_both : false ≡ true → ⊥
+    no_both e = cc
+
+-- of what a turn was given: the reads that gave bytes, with those that are left, are all
+module _ (a b : Input) (left left' refused refused' name name' : ℕ) (s : Advances (rationed_input left refused name a) (rationed_input left' refused' name' b)) where
+  pub counted : IsTrue a.told → length (cuts_made a b) + left' ≡ left
+  counted told =
+      let same : reads_in_all left' b ≡ reads_in_all left a = ap first_of s.names in
+      let before : reads_in_all left a ≡ length a.cuts + left = where_told a.told (length a.cuts + left) told in
+      let after : reads_in_all left' b ≡ length b.cuts + left' = where_told b.told (length b.cuts + left') (s.told ∙ told) in
+      let g = s.content told in
+      let made = cuts_counted a b (record { left = g.left; given = g.given; cuts = g.cuts; rising = g.rising }) in
+      let all : length b.cuts + left' ≡ length a.cuts + left = sym after ∙ same ∙ before in omega (arith, made, all)
+
+  -- none is left where one was refused
+  pub none_left : refused ≡ 0 → 0 < refused' → left' ≡ 0
+  none_left none some =
+      let same : left_behind left' refused' ≡ left_behind left refused = ap (λ (l : List ℕ). first_of (tail_of l)) s.names in
+      let before : left_behind left refused ≡ 0 = rw none refl in
+      let after : left_behind left' refused' ≡ left' = ap (λ (b : Bool). if b then 0 else left') (ne_eqb refused' 0 (λ e. omega (arith, e, some))) in
+      sym after ∙ same ∙ before
+
+-- a turn over a link that was lent to it keeps to its limits
+pub keeps_within : {L : Type 0} (M : LinkMeaning L) (limits : TurnLimits) (a b : L) (taken : ℕ) (turn : Turn) (left left' refused refused' name name' : ℕ)
+    → Advances (rationed_input left refused name (M.input a)) (rationed_input left' refused' name' (M.input b)) → left ≡ limits.reads → refused ≡ 0
+    → taken ≤ limits.messages → (turn ≡ Spent → (taken ≡ limits.messages) ⊎ (0 < refused')) → IsWithin M limits a b taken turn
+keeps_within M limits a b taken turn left left' refused refused' name name' s all none few spent = record {
+  reads = λ told.
+      let c = counted (M.input a) (M.input b) left left' refused refused' name name' s told in omega (arith, c, all);
+  messages = few;
+  spent = λ e.
+      elim (spent e) [
+        | inl most ↦ inl most
+        | inr some ↦
+            inr (λ told.
+            let c = counted (M.input a) (M.input b) left left' refused refused' name name' s told in
+            let empty = none_left (M.input a) (M.input b) left left' refused refused' name name' s none some in omega (arith, c, all, empty))
+      ];
 }

@@ -1,5 +1,6 @@
 -- One round after another, and the links that came in them.
-use Rattle.std.proofs.Common.{◌≡◌, ◌⊎◌, inl, inr, ℕ, List, [], ◌∷◌, ◌++◌, Option, Some, None, IsSome, Result, Ok, Err, Bool, true, false, IsTrue, ◌≤◌, ◌+◌, ◌-◌, ◌^◌, length, refl, sym, ap, ◌∙◌, subst, arith, length-append}
+use Rattle.std.proofs.Common.{◌≡◌, ◌⊎◌, inl, inr, ℕ, List, [], ◌∷◌, ◌++◌, Option, Some, None, IsSome, Result, Ok, Err, Bool, true, false, IsTrue, ◌≤◌, ◌<◌, ◌+◌, ◌==◌, length, refl, sym, ap, ◌∙◌, subst, arith, length-append, eq-eqb, ne_eqb, take, drop, get_or}
+use Rattle.std.proofs.lemmas.List.{take-append-drop, take_more}
 use Rattle.std.proofs.Math.Nat.{le_trans, le_refl}
 use Rattle.modbus_link.specs.Memory.{next_count}
 use Rattle.modbus_link.specs.declared.outside.Failed.{Failed}
@@ -9,28 +10,77 @@ use Rattle.modbus_hub.specs.declared.turn.Turn.{Turn}
 use Rattle.modbus_hub.specs.Accepts.{with_given, GivesByPolls, GivesLinks, EndsIn, GivesUntil, IsNobody, IsFault}
 use Rattle.modbus_ready.specs.declared.readiness.Ready.{Ready}
 use Rattle.modbus_ready.specs.declared.readiness.Ready.TheVariants.{Peer, Link}
-use Rattle.modbus_hub.specs.Events.{Event, Refusal, no_watch, no_memory, came, refused, told, turned, dropped, KeyAccount, account_of, by_key, HasAnyTurn, links_of, counted_if, counted_over}
-use Rattle.modbus_hub.specs.Seats.{SeatsState, IsTurnOf, DropsNone, ServesInTurn, IsDrop}
-use Rattle.modbus_hub.specs.Turns.{ServerState, IsPeerFound, IsFound, TurnsFound, ServesFound, CountsDrops, Brings, ServesLeft, PeersCome, Comes, AcceptsWaiting, AcceptsAsked, AcceptsNext, TakesRound}
-use Rattle.modbus_hub.proofs.Histories.{links_more, none_both, turn_before, turn_after, stays_none, serves_both, turn_serves}
+use Rattle.modbus_hub.specs.Events.{Event, Place, Refusal, no_watch, no_memory, came, refused, told, turned, dropped, KeyAccount, account_of, by_key, HasAnyTurn, TurnsAmong, links_of, counted_if, counted_over}
+use Rattle.slab.specs.Slab.{get}
+use Rattle.modbus_link.specs.Line.{LinkMeaning}
+use Rattle.modbus_server.specs.Framing.{Framing}
+use Rattle.modbus_hub.specs.Seats.{SeatsState, AllStand, AsksNone, IsTurnOf, DropsNone, ServesInTurn, IsDrop, IsFound, IsLeft, IsOneLeft, IsTold, is_spent_at}
+use Rattle.modbus_hub.specs.Turns.{ServerState, IsPeerFound, IsDue, TurnsFound, TurnsLeft, ServesFound, ServesNext, CountsDrops, Brings, ServesLeft, PeersCome, Comes, AcceptsWaiting, AcceptsUpTo, AcceptsAsked, AcceptsNext, TakesRound, accepts_a_round}
+use Rattle.modbus_hub.proofs.Histories.{among_as, among_both, links_more, none_both, turn_among, turn_before, turn_after, turns_aside, stays_none, serves_both, turn_serves}
+use Rattle.modbus_hub.proofs.Seating.{there_if_spent}
 
 counted_up : (a b : ℕ) → a ≤ b → next_count a ≤ next_count b
 counted_up a b h = grind (arith)
 
 -- a server of these parts
-abbrev pub state : {A S L : Type 0} → A → S → SeatsState L → ℕ → Bool → ServerState A S L
-state acceptor readiness seats unseated is_asked = record { acceptor = acceptor; readiness = readiness; seats = seats; unseated = unseated; is_asked = is_asked }
+abbrev pub state : {A S L : Type 0} → A → S → SeatsState L → ℕ → Bool → Bool → ServerState A S L
+state acceptor readiness seats unseated is_asked is_crowded =
+    record { acceptor = acceptor; readiness = readiness; seats = seats; unseated = unseated; is_asked = is_asked; is_crowded = is_crowded }
 
 no_link : (key : ℕ) → Peer ≡ Link key → ⊥
 no_link key e = cc
 
-found_in : (key : ℕ) (first second : List Ready) → IsFound key (first ++ second) → IsFound key first ⊎ IsFound key second
+pub found_in : (key : ℕ) (first second : List Ready) → IsFound key (first ++ second) → IsFound key first ⊎ IsFound key second
 found_in key [] second is = inr is
 found_in key (ready ∷ first) second (inl e) = inl (inl e)
 found_in key (ready ∷ first) second (inr is) =
     elim (found_in key first second is) [
       | inl there ↦ inl (inr there)
       | inr there ↦ inr there
+    ]
+
+-- those that were found, with others
+pub found_before : (key : ℕ) (first second : List Ready) → IsFound key first → IsFound key (first ++ second)
+found_before key [] second is = absurd is
+found_before key (ready ∷ first) second (inl e) = inl e
+found_before key (ready ∷ first) second (inr is) = inr (found_before key first second is)
+
+pub found_after : (key : ℕ) (first second : List Ready) → IsFound key second → IsFound key (first ++ second)
+found_after key [] second is = is
+found_after key (ready ∷ first) second is = inr (found_after key first second is)
+
+pub link_key : (j key : ℕ) → Link j ≡ Link key → j ≡ key
+link_key j key e = cc
+
+-- one tells of a link, and so does one before it
+told_of : (key : ℕ) (earlier : List Ready) (ready : Ready) → IsFound key (ready ∷ []) → IsFound key earlier → IsTold earlier ready
+told_of key earlier Peer (inl e) early = absurd (no_link key e)
+told_of key earlier (Link j) (inl e) early = subst (λ (n : ℕ). IsFound n earlier) (sym (link_key j key e)) early
+told_of key earlier ready (inr never) early = absurd never
+
+found_told : (key : ℕ) (earlier : List Ready) (ready : Ready) → IsFound key (ready ∷ []) → IsTold earlier ready → IsFound key earlier
+found_told key earlier Peer is tells = absurd tells
+found_told key earlier (Link j) (inl e) tells = subst (λ (n : ℕ). IsFound n earlier) (link_key j key e) tells
+found_told key earlier (Link j) (inr never) tells = absurd never
+
+-- one that is told of at a place
+pub found_at : (key : ℕ) (found : List Ready) (index : ℕ) → index < length found → get_or found index Peer ≡ Link key → IsFound key found
+found_at key found index low e =
+    subst (λ (l : List Ready). IsFound key l) (take-append-drop (index + 1) found)
+    (found_before key (take (index + 1) found) (drop (index + 1) found)
+    (subst (λ (l : List Ready). IsFound key l) (sym (take_more found index Peer low)) (found_after key (take index found) (get_or found index Peer ∷ []) (inl e))))
+
+-- where it is not at a place either
+pub found_more : (key : ℕ) (found : List Ready) (index : ℕ) → index < length found → (IsFound key (take index found) → ⊥) → (get_or found index Peer ≡ Link key → ⊥)
+    → IsFound key (take (index + 1) found) → ⊥
+found_more key found index low before here is =
+    elim (found_in key (take index found) (get_or found index Peer ∷ []) (subst (λ (l : List Ready). IsFound key l) (take_more found index Peer low) is)) [
+      | inl there ↦ before there
+      | inr there ↦
+          elim there [
+            | inl e ↦ here e
+            | inr never ↦ never
+          ]
     ]
 
 pub peer_in : (first second : List Ready) → IsPeerFound (first ++ second) → IsPeerFound first ⊎ IsPeerFound second
@@ -56,6 +106,7 @@ module _ {L : Type 0} where
           | inl e ↦ let same : k ≡ key = cc in absurd (not_some (account_of k None history) (subst (λ (n : ℕ). account_of n None history ≡ None) (sym same) account) here)
           | inr never ↦ absurd never
         ],
+    among_as (λ k. k ≡ key) (λ k. IsFound k (Link key ∷ [])) more (turn_among key None history more (none, account)) (λ k e. inl (ap Link (sym e))),
   )
   found_turn key (Some turn) history more (fresh, last, e) = (
     turn_serves key (Some turn) history more (fresh, last, e),
@@ -64,6 +115,7 @@ module _ {L : Type 0} where
           | inl same ↦ let there : k ≡ key = cc in subst (λ (n : ℕ). HasAnyTurn n more) (sym there) (by_key key fresh, [], last, turn, e)
           | inr never ↦ absurd never
         ],
+    among_as (λ k. k ≡ key) (λ k. IsFound k (Link key ∷ [])) more (turn_among key (Some turn) history more (fresh, last, e)) (λ k f. inl (ap Link (sym f))),
   )
 
   pub found_peer : (history : List (Event L)) → ServesFound (Peer ∷ []) history []
@@ -74,38 +126,97 @@ module _ {L : Type 0} where
           | inl e ↦ absurd (no_link key e)
           | inr never ↦ absurd never
         ],
+    λ key. inl refl,
   )
 
   pub found_nothing : (history : List (Event L)) → ServesFound [] history []
-  found_nothing history = ((refl, stays_none history, tt), λ key is here. absurd is)
+  found_nothing history = ((refl, stays_none history, tt), λ key is here. absurd is, λ key. inl refl)
 
-  -- those that were found, and then those
-  turns_both : (first second : List Ready) (history xs ys : List (Event L)) → ServesInTurn history xs → TurnsFound first history xs → TurnsFound second (history ++ xs) ys
-      → TurnsFound (first ++ second) history (xs ++ ys)
-  turns_both first second history xs ys serves had has key is here =
-      elim (found_in key first second is) [
+  turns_next : (earlier : List Ready) (ready : Ready) (history xs ys : List (Event L)) → ServesInTurn history xs → TurnsFound earlier history xs
+      → IsTold earlier ready ⊎ TurnsFound (ready ∷ []) (history ++ xs) ys → TurnsFound (earlier ++ ready ∷ []) history (xs ++ ys)
+  turns_next earlier ready history xs ys serves had has key is here =
+      elim (found_in key earlier (ready ∷ []) is) [
         | inl there ↦ turn_after key xs ys (had key there here)
         | inr there ↦
-            elim (serves.1 key here) [
-              | inl turns ↦ turn_after key xs ys turns
-              | inr stays ↦ turn_before key xs ys (has key there stays)
+            elim has [
+              | inl tells ↦ turn_after key xs ys (had key (found_told key earlier ready there tells) here)
+              | inr turns ↦
+                  elim (serves.1 key here) [
+                    | inl went ↦ turn_after key xs ys went
+                    | inr stays ↦ turn_before key xs ys (turns key there stays)
+                  ]
             ]
       ]
 
-  pub found_both : (first second : List Ready) (history xs ys : List (Event L)) → ServesFound first history xs → ServesFound second (history ++ xs) ys
-      → ServesFound (first ++ second) history (xs ++ ys)
-  found_both first second history xs ys had has = (serves_both history xs ys had.0 has.0, turns_both first second history xs ys had.0 had.1 has.1)
+  -- those that were found, and then the next
+  pub found_next : (earlier : List Ready) (ready : Ready) (history xs ys : List (Event L)) → ServesFound earlier history xs → ServesNext earlier ready (history ++ xs) ys
+      → ServesFound (earlier ++ ready ∷ []) history (xs ++ ys)
+  found_next earlier ready history xs ys first second = (
+    serves_both history xs ys first.0 second.0,
+    turns_next earlier ready history xs ys first.0 first.1 second.1,
+    among_both (λ key. IsFound key earlier) (λ key. IsFound key (ready ∷ []) × (IsTold earlier ready → ⊥)) (λ key. IsFound key (earlier ++ ready ∷ []))
+        xs ys first.2 second.2
+        (λ key is. found_before key earlier (ready ∷ []) is)
+        (λ key is. found_after key earlier (ready ∷ []) is.0)
+        (λ key is next. next.1 (told_of key earlier ready next.0 is)),
+  )
+
+  -- the next tells of a link that was told of before, or of none that was
+  pub next_told : (earlier : List Ready) (ready : Ready) (history : List (Event L)) → IsTold earlier ready → ServesNext earlier ready history []
+  next_told earlier ready history tells = ((refl, stays_none history, tt), inl tells, λ key. inl refl)
+
+  pub next_untold : (earlier : List Ready) (ready : Ready) (history more : List (Event L)) → (IsTold earlier ready → ⊥) → ServesFound (ready ∷ []) history more
+      → ServesNext earlier ready history more
+  next_untold earlier ready history more untold serves = (
+    serves.0,
+    inr serves.1,
+    among_as (λ key. IsFound key (ready ∷ [])) (λ key. IsFound key (ready ∷ []) × (IsTold earlier ready → ⊥)) more serves.2 (λ key is. (is, untold)),
+  )
+
+  -- a connection is as it was, unless it was found
+  pub others_next : (earlier : List Ready) (ready : Ready) (key : ℕ) (a b c : Option (Place L)) → IsFound key earlier ⊎ (b ≡ a) → IsFound key (ready ∷ []) ⊎ (c ≡ b)
+      → IsFound key (earlier ++ ready ∷ []) ⊎ (c ≡ a)
+  others_next earlier ready key a b c first second =
+      elim first [
+        | inl is ↦ inl (found_before key earlier (ready ∷ []) is)
+        | inr same ↦
+            elim second [
+              | inl is ↦ inl (found_after key earlier (ready ∷ []) is)
+              | inr still ↦ inr (still ∙ same)
+            ]
+      ]
 
   -- a round before the peers are accepted
-  abbrev pub ServesRound : SeatsState L → List Ready → List (Event L) → List (Event L) → Type 0
-  ServesRound seats found history more = ServesLeft seats history more × TurnsFound found history more
+  abbrev pub ServesDue : SeatsState L → List Ready → List (Event L) → List (Event L) → Type 0
+  ServesDue seats found history more = ServesInTurn history more × TurnsLeft seats more × TurnsFound found history more × TurnsAmong (λ key. IsDue found seats key) more
 
-  pub left_both : (seats : SeatsState L) (found : List Ready) (history xs ys : List (Event L)) → ServesLeft seats history xs → ServesFound found (history ++ xs) ys
-      → ServesRound seats found history (xs ++ ys)
-  left_both seats found history xs ys first second = (
-    (serves_both history xs ys first.0 second.0, λ left key spent. turn_after key xs ys (first.1 left key spent)),
-    turns_both [] found history xs ys first.0 (λ key is here. absurd is) second.1,
-  )
+  module _ (F : Framing) (M : LinkMeaning L) (seats now : SeatsState L) (found : List Ready) (stays : IsTrue seats.has_spent → IsTrue now.has_spent)
+      (others : (key : ℕ) → IsFound key found ⊎ (get now.seats key ≡ get seats.seats key)) where
+    pub due_both : (history xs ys : List (Event L)) → ServesFound found history xs × AllStand F M history seats.seats → ServesLeft found now (history ++ xs) ys
+        → ServesDue seats found history (xs ++ ys)
+    due_both history xs ys first second =
+        let had : (key : ℕ) → IsTrue (is_spent_at (get seats.seats key)) → IsFound key found → HasAnyTurn key (xs ++ ys) =
+        λ key spent is. turn_after key xs ys (first.0.1 key is (there_if_spent F M (account_of key None history) (get seats.seats key) (first.1 key) spent)) in (
+          serves_both history xs ys first.0.0 second.0,
+          λ known key spent.
+              elim (others key) [
+                | inl is ↦ had key spent is
+                | inr same ↦
+                    elim (second.1 (stays known) key (subst (λ (slot : Option (Place L)). IsTrue (is_spent_at slot)) (sym same) spent)) [
+                      | inl is ↦ had key spent is
+                      | inr went ↦ turn_before key xs ys went
+                    ]
+              ],
+          λ key is here. turn_after key xs ys (first.0.1 key is here),
+          among_both (λ key. IsFound key found) (λ key. IsLeft found key (get now.seats key)) (λ key. IsDue found seats key) xs ys first.0.2 second.2
+              (λ key is. inl is)
+              (λ key left.
+              elim (others key) [
+                | inl is ↦ inl is
+                | inr same ↦ inr (subst (λ (slot : Option (Place L)). IsTrue (is_spent_at slot)) same left.0)
+              ])
+              (λ key is left. left.1 is),
+        )
 
   pub drops_links : (history more : List (Event L)) → IsDrop history more → links_of more ≡ []
   drops_links history [] s = refl
@@ -278,8 +389,10 @@ module _ {A S L : Type 0} (accepts : A → Result (Polled L) Failed → A → Ty
   }
 
   -- peers came, and then they were accepted until nobody waits, or another may wait still
-  waits_after : (a now b : Server) (history xs ys : List (Event L)) → Came a now history xs → AcceptsWaiting accepts faults now b ys → AcceptsWaiting accepts faults a b (xs ++ ys)
-  waits_after a now b history xs ys first second =
+  waits_after : (a now b : Server) (history xs ys : List (Event L)) → Came a now history xs
+      → (length (links_of ys) ≡ accepts_a_round → length (links_of (xs ++ ys)) ≡ accepts_a_round) → AcceptsWaiting accepts faults now b ys
+      → AcceptsWaiting accepts faults a b (xs ++ ys)
+  waits_after a now b history xs ys first many second =
       let until : (P : Result (Polled L) Failed → Type 0) → GivesUntil P accepts now.acceptor (links_of ys) b.acceptor → GivesUntil P accepts a.acceptor (links_of (xs ++ ys)) b.acceptor =
       λ P gives. subst (λ (l : List L). GivesUntil P accepts a.acceptor l b.acceptor) (sym (links_more xs ys))
       (gives_until accepts P a.acceptor now.acceptor b.acceptor first.gives.0 (links_of xs) (links_of ys) first.gives.1 gives) in
@@ -294,7 +407,7 @@ module _ {A S L : Type 0} (accepts : A → Result (Polled L) Failed → A → Ty
                     inr (
                     elim other [
                       | inl fault ↦ inl (until IsFault fault)
-                      | inr many ↦ inr (omega (arith, many, ap length (links_more xs ys), length-append (links_of xs) (links_of ys)))
+                      | inr full ↦ inr (many full)
                     ]
                     )
               ],
@@ -316,29 +429,52 @@ module _ {A S L : Type 0} (accepts : A → Result (Polled L) Failed → A → Ty
     second.2 ∙ first.2,
   )
 
-  pub accepts_last : (count : ℕ) (a now b : Server) (history xs ys : List (Event L)) → AcceptsSome count a now history xs → AcceptsNext accepts faults false now b (history ++ xs) ys
-      → AcceptsAsked accepts faults a b history (xs ++ ys)
-  accepts_last count a now b history xs ys first second =
-      (accepts_both a now b history xs ys first.0 second.0, λ asked. waits_after a now b history xs ys first.0.0 (second.1 (subst IsTrue (sym first.2) asked)))
+  no_crowd : (n : ℕ) → n < accepts_a_round → false ≡ (n == accepts_a_round)
+  no_crowd n few = sym (ne_eqb n accepts_a_round (λ e. omega (arith, few, e)))
 
-  -- as many came as a counter counts
-  pub accepts_many : (count : ℕ) (a b : Server) (history more : List (Event L)) → 2 ^ 64 - 1 ≤ count → AcceptsSome count a b history more → AcceptsAsked accepts faults a b history more
+  a_crowd : (n : ℕ) → n ≡ accepts_a_round → true ≡ (n == accepts_a_round)
+  a_crowd n many = sym (eq-eqb n accepts_a_round many)
+
+  pub accepts_last : (count : ℕ) (a now b : Server) (history xs ys : List (Event L)) → count < accepts_a_round → AcceptsSome count a now history xs
+      → AcceptsNext accepts faults false now b (history ++ xs) ys → AcceptsUpTo accepts faults false a b history (xs ++ ys)
+  accepts_last count a now b history xs ys few first second =
+      let none : length (links_of ys) ≡ 0 = ap length second.1 in
+      let all : length (links_of (xs ++ ys)) ≡ count = omega (arith, ap length (links_more xs ys), length-append (links_of xs) (links_of ys), first.1, none) in (
+        accepts_both a now b history xs ys first.0 second.0,
+        omega (arith, all, few),
+        subst (λ (n : ℕ). false ≡ (n == accepts_a_round)) (sym all) (no_crowd count few),
+        λ asked. waits_after a now b history xs ys first.0.0 (λ full. absurd (omega (arith, full, none))) (second.2 (subst IsTrue (sym first.2) asked)),
+      )
+
+  -- as many came as may in a round
+  pub accepts_many : (count : ℕ) (a b : Server) (history more : List (Event L)) → count ≡ accepts_a_round → AcceptsSome count a b history more
+      → AcceptsUpTo accepts faults true a b history more
   accepts_many count a b history more many some =
-      (some.0, λ asked. inr (subst IsTrue (sym some.2) asked, inr (inr (omega (arith, many, some.1)))))
+      let all : length (links_of more) ≡ accepts_a_round = some.1 ∙ many in
+      (some.0, omega (arith, all), a_crowd (length (links_of more)) all, λ asked. inr (subst IsTrue (sym some.2) asked, inr (inr all)))
 
   pub round_of : (found : S → List Ready) (a now b : Server) (history xs ys : List (Event L)) → now.acceptor ≡ a.acceptor → faults a.readiness ≤ faults now.readiness
-      → now.unseated ≡ a.unseated → ServesRound a.seats (found b.readiness) history xs → (IsTrue a.is_asked ⊎ IsPeerFound (found b.readiness) → IsTrue now.is_asked)
-      → AcceptsAsked accepts faults now b (history ++ xs) ys
+      → now.unseated ≡ a.unseated → IsOneLeft b.seats → (IsTrue a.is_asked ⊎ IsPeerFound (found b.readiness) → IsTrue now.is_asked)
+      → ServesDue a.seats (found b.readiness) history xs
+      → AcceptsAsked accepts faults now b (history ++ xs) ys × AsksNone (history ++ xs) ys
       → TakesRound accepts faults found a b (Ok tt) history (xs ++ ys)
-  round_of found a now b history xs ys same later count first asks second = (
-    (comes_both a now b history xs ys (none_come a now history xs same later count first.0.0.0) second.0.0, none_both xs ys first.0.0.2 second.0.1),
-    λ left key spent. turn_after key xs ys (first.0.1 left key spent),
-    λ key is here. turn_after key xs ys (first.1 key is here),
-    λ asked. waits_after a now b history xs ys (none_come a now history xs same later count first.0.0.0) (second.1 (asks asked)),
-  )
+  round_of found a now b history xs ys same later count one asks first second =
+      let links : links_of (xs ++ ys) ≡ links_of ys = links_more xs ys ∙ ap (λ (l : List L). l ++ links_of ys) first.0.0 in
+      let came = none_come a now history xs same later count first.0.0 in record {
+        come = (comes_both a now b history xs ys came second.0.0.0, none_both xs ys first.0.2 second.0.0.1);
+        left = λ left key spent. turn_after key xs ys (first.1 left key spent);
+        told = λ key is here. turn_after key xs ys (first.2 key is here);
+        once = among_both (λ key. IsDue (found b.readiness) a.seats key) (λ key. ⊥) (λ key. IsDue (found b.readiness) a.seats key) xs ys first.3
+            (λ key. inl (turns_aside key (history ++ xs) ys second.1))
+            (λ key due. due) (λ key never. absurd never) (λ key due never. never);
+        one_left = one;
+        few = subst (λ (l : List L). length l ≤ accepts_a_round) (sym links) second.0.1;
+        crowded = subst (λ (l : List L). b.is_crowded ≡ (length l == accepts_a_round)) (sym links) second.0.2;
+        waits = λ asked. waits_after a now b history xs ys came (λ full. ap length links ∙ full) (second.0.3 (asks asked));
+      }
 
   pub then_drops : (found : S → List Ready) (a now b : Server) (history xs ys : List (Event L)) → b.acceptor ≡ now.acceptor → b.readiness ≡ now.readiness → b.unseated ≡ now.unseated
       → TakesRound accepts faults found a now (Ok tt) history xs → IsDrop (history ++ xs) ys → Came a b history (xs ++ ys)
   then_drops found a now b history xs ys same ready count first second =
       let later : faults now.readiness ≤ faults b.readiness = subst (λ (s : S). faults now.readiness ≤ faults s) (sym ready) (le_refl (faults now.readiness)) in
-      comes_both a now b history xs ys first.0.0 (none_come now b (history ++ xs) ys same later count (drops_links (history ++ xs) ys second))
+      comes_both a now b history xs ys first.come.0 (none_come now b (history ++ xs) ys same later count (drops_links (history ++ xs) ys second))

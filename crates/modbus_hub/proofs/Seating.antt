@@ -1,5 +1,5 @@
 -- Connections that take turns at one service, over one event after another.
-use Rattle.std.proofs.Common.{◌≡◌, ◌≢◌, inl, inr, ℕ, List, [], ◌∷◌, ◌++◌, Option, Some, None, refl, sym, ap, ◌∙◌, subst, append_assoc, append-nil, Ok, arith, Bool, true, false, IsTrue}
+use Rattle.std.proofs.Common.{◌≡◌, ◌≢◌, inl, inr, ℕ, ◌+◌, List, [], ◌∷◌, ◌++◌, length, Option, Some, None, IsSome, refl, sym, ap, ◌∙◌, subst, append_assoc, append-nil, Ok, arith, Bool, true, false, IsTrue}
 use Rattle.std.proofs.lemmas.Bool.{cases_eq}
 use Rattle.std.proofs.lemmas.List.Elements.{All-nil}
 use Rattle.modbus_link.specs.Line.{LinkMeaning}
@@ -9,11 +9,12 @@ use Rattle.modbus_server.specs.Exchanges.{ReplyFits}
 use Rattle.modbus_service.specs.Answering.{Answering}
 use Rattle.modbus_hub.specs.declared.turn.Turn.{Turn}
 use Rattle.modbus_hub.specs.declared.turn.Turn.TheVariants.{Waiting, Spent, Over}
-use Rattle.modbus_hub.specs.Turn.{SeatStands, TurnLeaves, TakesTurn, is_going_on, is_spent, ends_of}
+use Rattle.modbus_hub.specs.declared.turn.TurnLimits.{TurnLimits}
+use Rattle.modbus_hub.specs.Turn.{SeatStands, TurnLeaves, TakesTurn, IsWithin, is_going_on, is_spent, ends_of}
 use Rattle.slab.specs.Slab.{Slab, get, Updates}
-use Rattle.modbus_hub.specs.Events.{Event, Refusal, came, refused, told, turned, dropped, Place, Account, begun_with, KeyAccount, after_turn, account_of, by_key, HasAnyTurn}
-use Rattle.modbus_hub.specs.Seats.{PolledMeaning, polled_by, turns, EndsTurn, RunsOn, AsksNone, IsSeatedAs, AllStand, SeatsStay, AreSeated, SeatsGoOn, IsTurnOf, ServesInTurn, Admits, IsDrop, UsesUp, is_spent_at}
-use Rattle.modbus_hub.proofs.Histories.{at_key, off_key, account_more, account_told, account_other, runs_both, runs_told, turn_serves}
+use Rattle.modbus_hub.specs.Events.{Event, Refusal, came, refused, told, turned, dropped, Place, Account, begun_with, KeyAccount, after_turn, account_of, by_key, HasAnyTurn, TurnsAmong}
+use Rattle.modbus_hub.specs.Seats.{PolledMeaning, polled_by, turns, EndsSo, EndsTurn, RunsOn, AsksNone, IsSeatedAs, AllStand, SeatsStay, AreSeated, SeatsGoOn, IsTurnOf, ServesInTurn, Admits, IsDrop, is_spent_at}
+use Rattle.modbus_hub.proofs.Histories.{at_key, off_key, account_more, account_told, account_other, runs_both, runs_told, turn_among, turn_serves}
 use Rattle.modbus_link.specs.Outside.{Rose}
 
 -- the seat that a turn leaves
@@ -26,18 +27,18 @@ left_by (Over result) place = None
 pub updates_both : {X : Type 0} (a b c : Slab X) (key : ℕ) (x y : Option X) → Updates a b key x → Updates b c key y → Updates a c key y
 updates_both a b c key x y first second = record { changed = second.changed; others = λ other differs. second.others other differs ∙ first.others other differs }
 
--- a turn has as many reads as before
-pub go_under : (F : Framing) {S : Type 0} (A : Answering S) {L : Type 0} (link : LinkMeaning L) (not_ready : L → ℕ) (now then : ℕ) (P : List (Event L) → List (Event L) → Type 0)
+-- a turn has the same limits as before
+pub go_under : (F : Framing) {S : Type 0} (A : Answering S) {L : Type 0} (link : LinkMeaning L) (not_ready : L → ℕ) (now then : TurnLimits) (P : List (Event L) → List (Event L) → Type 0)
     (a b : Slab (Place L)) (s t : S) → now ≡ then → SeatsGoOn F A (polled_by link not_ready now) P a b s t → SeatsGoOn F A (polled_by link not_ready then) P a b s t
-go_under F A link not_ready now then P a b s t e goes = subst (λ (n : ℕ). SeatsGoOn F A (polled_by link not_ready n) P a b s t) e goes
+go_under F A link not_ready now then P a b s t e goes = subst (λ (n : TurnLimits). SeatsGoOn F A (polled_by link not_ready n) P a b s t) e goes
 
 -- a link came, and was dropped for this
 abbrev pub Refuses : {L : Type 0} → Refusal → L → List (Event L) → List (Event L) → Type 0
 Refuses cause link history more = more ≡ refused cause link ∷ []
 
--- the turn of a key is one of a connection that is there
+-- the turn of a key is one of a connection that is there, and no other had a turn
 abbrev pub Turned : {L : Type 0} → ℕ → List (Event L) → List (Event L) → Type 0
-Turned key history more = ServesInTurn history more × HasAnyTurn key more
+Turned key history more = ServesInTurn history more × HasAnyTurn key more × TurnsAmong (λ k. k ≡ key) more
 
 asks_both : {L : Type 0} (earlier xs ys : List (Event L)) → AsksNone earlier xs → AsksNone (earlier ++ xs) ys → AsksNone earlier (xs ++ ys)
 asks_both earlier [] ys first second = subst (λ (l : List (Event _)). AsksNone l ys) (append-nil earlier) second
@@ -62,10 +63,11 @@ module _ (F : Framing) {L : Type 0} (M : LinkMeaning L) where
     stands : SeatStands F M turns account.first account.own place.seat
     last : place.seat.link ≡ account.last
     spent : place.is_spent ≡ account.is_spent
+    between : account.in_turn ≡ 0
 
   seated_some : (account : KeyAccount L) (place : Place L) → Seated account (Some place) → Entry account place
   seated_some None place s = absurd s
-  seated_some (Some account) place (is_open, stands, last, spent) = record { account = account; is = refl; is_open = is_open; stands = stands; last = last; spent = spent }
+  seated_some (Some account) place (is_open, stands, last, spent, between) = record { account = account; is = refl; is_open = is_open; stands = stands; last = last; spent = spent; between = between }
 
   seated_none : (account : KeyAccount L) → Seated account None → account ≡ None
   seated_none None s = refl
@@ -153,7 +155,7 @@ module _ (F : Framing) {L : Type 0} (M : LinkMeaning L) where
         (none, tt),
         one_event (came key link) key olds news (Some place) history u all
             (λ k differs. off_key k key (Some (begun_with link)) (account_of k None history) (λ e. differs (sym e)))
-            (subst (λ (a : KeyAccount L). Seated a (Some place)) (sym account) (is_open, begun link place is held waiting left stands, is, unspent)),
+            (subst (λ (a : KeyAccount L). Seated a (Some place)) (sym account) (is_open, begun link place is held waiting left stands, is, unspent, refl)),
         refl,
       )
 
@@ -197,7 +199,7 @@ module _ (F : Framing) {L : Type 0} (M : LinkMeaning L) where
     where
       unmarked : (account : KeyAccount L) → Seated account (Some place) → Seated account (Some (record place { is_fresh = false }))
       unmarked None s = absurd s
-      unmarked (Some account) s = (s.0, s.1, s.2, s.3)
+      unmarked (Some account) s = (s.0, s.1, s.2, s.3, s.4)
 
   no_open : (b : Bool) → b ≡ false → b ≡ true → ⊥
   no_open b e f = cc
@@ -216,7 +218,18 @@ module _ (F : Framing) {L : Type 0} (M : LinkMeaning L) where
   turned_by key (Some turn) olds history more each spent (fresh, last, e) = (
     turn_serves key (Some turn) history more (fresh, last, e),
     (by_key key fresh, [], last, turn, e),
+    turn_among key (Some turn) history more (fresh, last, e),
   )
+
+  -- a connection whose last turn was cut off has an account
+  pub there_if_spent : (account : KeyAccount L) (slot : Option (Place L)) → Seated account slot → IsTrue (is_spent_at slot) → IsSome account
+  there_if_spent None None s spent = absurd (no_open false refl spent)
+  there_if_spent None (Some place) s spent = absurd s
+  there_if_spent (Some account) slot s spent = refl
+
+  -- what is told, and that it was no turn
+  pub stay_aside : (P : List (Event L) → List (Event L) → Type 0) (a b : Slab (Place L)) → SeatsStay F M P a b → SeatsStay F M (λ history more. P history more × AsksNone history more) a b
+  stay_aside P a b stays history all = let on = stays history all in (on.0, on.1, on.2, (on.3, on.1))
 
 module _ (F : Framing) {S : Type 0} (A : Answering S) {L : Type 0} (M : PolledMeaning L) where
   runs_aside : (earlier xs : List (Event L)) (s : S) → AsksNone earlier xs → RunsOn F A M earlier s xs s
@@ -254,6 +267,11 @@ module _ (F : Framing) {S : Type 0} (A : Answering S) {L : Type 0} (M : PolledMe
       → ((history more : List (Event L)) → P history more → Q history more) → SeatsGoOn F A M Q a b s t
   go_as P Q a b s t first says start history all = let on = first start history all in (on.0, on.1, says history on.0 on.2)
 
+  -- what is told, and how the connections stood before
+  pub go_standing : (P : List (Event L) → List (Event L) → Type 0) (a b : Slab (Place L)) (s t : S) → SeatsGoOn F A M P a b s t
+      → SeatsGoOn F A M (λ history more. P history more × AllStand F M.link history a) a b s t
+  go_standing P a b s t goes start history all = let on = goes start history all in (on.0, on.1, (on.2, all.each))
+
   -- there is no connection under the key that goes on
   pub is_absent : (key : ℕ) (olds news : Slab (Place L)) (s : S) → get olds key ≡ None → ((k : ℕ) → get news k ≡ get olds k) → SeatsGoOn F A M (IsTurnOf key None) olds news s s
   is_absent key olds news s none same =
@@ -275,26 +293,30 @@ module _ (F : Framing) {S : Type 0} (A : Answering S) {L : Type 0} (M : PolledMe
   -- the connection under a key had its turn
   module _ (key : ℕ) (olds news : Slab (Place L)) (old new : Place L) (before after : S) (here : get olds key ≡ Some old) where
     ends_so : (account : Account L) (ends : S) (turn : Turn) → old.seat.link ≡ account.last → (turn ≡ Waiting → Rose (M.not_ready old.seat.link) (M.not_ready new.seat.link))
-        → (turn ≡ Spent → UsesUp M.link M.reads old.seat.link new.seat.link) → TurnLeaves F A M.link turns account.first account.own new.seat ends after turn → EndsTurn F A M (Some account) new.seat.link ends after turn
-    ends_so account ends Waiting last waited used leaves = (leaves.0, subst (λ (l : L). Rose (M.not_ready l) (M.not_ready new.seat.link)) last (waited refl))
-    ends_so account ends Spent last waited used leaves = (leaves.0, subst (λ (l : L). UsesUp M.link M.reads l new.seat.link) last (used refl))
-    ends_so account ends (Over result) last waited used leaves = leaves
+        → TurnLeaves F A M.link turns account.first account.own new.seat ends after turn → EndsSo F A M account new.seat.link ends after turn
+    ends_so account ends Waiting last waited leaves = (leaves.0, subst (λ (l : L). Rose (M.not_ready l) (M.not_ready new.seat.link)) last (waited refl))
+    ends_so account ends Spent last waited leaves = leaves.0
+    ends_so account ends (Over result) last waited leaves = leaves
 
     sits_so : (account : Account L) (ends : S) (turn : Turn) → new.seat.process.connection.is_open ≡ is_going_on turn → new.is_spent ≡ is_spent turn
         → TurnLeaves F A M.link turns account.first account.own new.seat ends after turn → IsSeatedAs F M.link (after_turn new.seat.link turn (Some account)) (left_by turn new)
-    sits_so account ends Waiting is_open spent leaves = (is_open, leaves.1, refl, spent)
-    sits_so account ends Spent is_open spent leaves = (is_open, leaves.1, refl, spent)
+    sits_so account ends Waiting is_open spent leaves = (is_open, leaves.1, refl, spent, refl)
+    sits_so account ends Spent is_open spent leaves = (is_open, leaves.1, refl, spent, refl)
     sits_so account ends (Over result) is_open spent leaves = tt
 
-    pub served : (turn : Turn) → TakesTurn F A M.link old.seat new.seat before after turn → new.seat.process.connection.is_open ≡ is_going_on turn
-        → (turn ≡ Waiting → Rose (M.not_ready old.seat.link) (M.not_ready new.seat.link)) → (turn ≡ Spent → UsesUp M.link M.reads old.seat.link new.seat.link) → new.is_spent ≡ is_spent turn
+    pub served : (turn : Turn) → TakesTurn F A M.link M.limits old.seat new.seat before after turn → new.seat.process.connection.is_open ≡ is_going_on turn
+        → (turn ≡ Waiting → Rose (M.not_ready old.seat.link) (M.not_ready new.seat.link)) → new.is_spent ≡ is_spent turn
         → Updates olds news key (left_by turn new) → SeatsGoOn F A M (IsTurnOf key (Some turn)) olds news before after
-    served turn takes is_open waited used spent u start history all =
+    served turn takes is_open waited spent u start history all =
         let entry = seated_some F M.link (account_of key None history) old (subst (λ (p : Option (Place L)). IsSeatedAs F M.link (account_of key None history) p) here (all.each key)) in
         let was = entry.account in
         let fresh = takes.0 in
-        let on = takes.3 turns was.first was.own entry.stands in
-        let now : Account L = record was { own = was.own ++ fresh } in
+        let on = takes.5 turns was.first was.own entry.stands in
+        let now : Account L = record was { own = was.own ++ fresh; in_turn = was.in_turn + length fresh } in
+        let count : length fresh ≡ now.in_turn = let between = entry.between in omega (arith, between) in
+        let within : IsWithin M.link M.limits now.last new.seat.link now.in_turn turn =
+        subst (λ (n : ℕ). IsWithin M.link M.limits now.last new.seat.link n turn) count
+        (subst (λ (l : L). IsWithin M.link M.limits l new.seat.link (length fresh) turn) entry.last takes.3) in
         let last : List (Event L) = turned key new.seat.link turn ∷ [] in
         let more : List (Event L) = by_key key fresh ++ last in
         let then_told : account_of key None (history ++ by_key key fresh) ≡ Some now =
@@ -307,7 +329,7 @@ module _ (F : Framing) {S : Type 0} (A : Answering S) {L : Type 0} (M : PolledMe
         λ k differs. account_more k None history more ∙ account_more k (account_of k None history) (by_key key fresh) last
         ∙ ap (λ (a : KeyAccount L). account_of k a last) (account_other k key (account_of k None history) fresh (λ e. differs (sym e)))
         ∙ off_key k key (after_turn new.seat.link turn (account_of k None history)) (account_of k None history) (λ e. differs (sym e)) in
-        let ending = subst (λ (a : KeyAccount L). EndsTurn F A M a new.seat.link takes.1 after turn) (sym then_told) (ends_so now takes.1 turn entry.last waited used on) in (
+        let ending = subst (λ (a : KeyAccount L). EndsTurn F A M a new.seat.link takes.1 after turn) (sym then_told) (within, ends_so now takes.1 turn entry.last waited on) in (
           more,
           record {
             run = runs_both F A M [] history more start before after all.run

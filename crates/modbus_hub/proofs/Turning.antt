@@ -1,6 +1,6 @@
 -- One turn over the link that is lent to it, by what a poll promises.
-use Rattle.std.proofs.Common.{◌≡◌, ℕ, List, [], ◌∷◌, ◌++◌, refl, ap, ◌∙◌, subst, arith, Result}
-use Rattle.std.proofs.lemmas.List.{map-append}
+use Rattle.std.proofs.Common.{◌≡◌, ℕ, List, [], ◌∷◌, ◌++◌, length, refl, sym, ap, ◌∙◌, subst, arith, Result}
+use Rattle.std.proofs.lemmas.List.{map-append, length-map}
 use Rattle.modbus_link.specs.declared.polled.Polled.{Polled}
 use Rattle.modbus_link.specs.declared.polled.Polled.TheVariants.{Ready, Pending}
 use Rattle.modbus_link.specs.Line.{LinkMeaning}
@@ -11,9 +11,11 @@ use Rattle.modbus_server.specs.declared.error.ProcessError.{ProcessError}
 use Rattle.modbus_server.specs.Exchanges.{Exchange, Run}
 use Rattle.modbus_server.specs.Framing.{Framing}
 use Rattle.modbus_server.specs.Moment.{moment}
-use Rattle.modbus_server.specs.Polled.{polled, PolledPast, polled_past, polled_on, PolledTo, PolledRan, CompletesAfter}
+use Rattle.modbus_server.specs.Polled.{polled, PolledPast, polled_past, polled_on, Polls, PolledRan, CompletesAfter, Rests}
 use Rattle.modbus_hub.specs.declared.turn.Turn.TheVariants.{Waiting, Spent, Over}
-use Rattle.modbus_hub.specs.Turn.{Said, unframed, all_unframed, RunOver, SeatState, SeatStands, TakesTurn, ends_of}
+use Rattle.modbus_hub.specs.Turn.{Said, unframed, all_unframed, RunOver, SeatState, SeatStands, IsWithin, LeavesNone, TakesTurn, ends_of}
+use Rattle.modbus_hub.specs.declared.turn.TurnLimits.{TurnLimits}
+use Rattle.modbus_hub.specs.declared.turn.Turn.{Turn}
 use Rattle.modbus_hub.proofs.Rationing.{through}
 
 -- what holds of two links, by other names
@@ -33,11 +35,11 @@ module _ (F : Framing) {S : Type 0} (A : Answering S) {L : Type 0} (M : LinkMean
     abbrev to : Input
     to = input_through n' (input_through m' (input_through p' (M.input new.link)))
 
-    abbrev Polls : Polled (Result (Unit {0}) ProcessError) → Type 0
-    Polls answer = PolledTo F A (polled old.process.connection old.process.left) (polled new.process.connection new.process.left) (moment before from (output_through q (M.output old.link))) (moment after to (output_through q' (M.output new.link))) answer
+    abbrev Went : Polled (Result (Unit {0}) ProcessError) → Type 0
+    Went answer = Polls F A (polled old.process.connection old.process.left) (polled new.process.connection new.process.left) (moment before from (output_through q (M.output old.link))) (moment after to (output_through q' (M.output new.link))) answer
 
     -- of all that the connection stood for before the turn
-    module _ (answer : Polled (Result (Unit {0}) ProcessError)) (poll : Polls answer) (turns : ℕ) (first : L) (own : List Said) (s : SeatStands F M turns first own old) where
+    module _ (answer : Polled (Result (Unit {0}) ProcessError)) (poll : Went answer) (turns : ℕ) (first : L) (own : List Said) (s : SeatStands F M turns first own old) where
       abbrev behind : PolledPast F
       behind = polled_past turns s.bytes s.made s.written s.exchanges
 
@@ -51,7 +53,7 @@ module _ (F : Framing) {S : Type 0} (A : Answering S) {L : Type 0} (M : LinkMean
       all_told : all_unframed F onward.exchanges ≡ own ++ all_unframed F poll.fresh
       all_told = map-append (unframed F) s.exchanges poll.fresh ∙ ap (λ (l : List Said). l ++ all_unframed F poll.fresh) s.told
 
-    goes_on : (poll : Polls Pending) (turns : ℕ) (first : L) (own : List Said) → SeatStands F M turns first own old
+    goes_on : (poll : Went Pending) (turns : ℕ) (first : L) (own : List Said) → SeatStands F M turns first own old
         → (after ≡ poll.ends) × SeatStands F M turns first (own ++ all_unframed F poll.fresh) new
     goes_on poll turns first own s =
         let on = poll.goes_on (behind Pending poll turns first own s) s.stands in
@@ -68,18 +70,43 @@ module _ (F : Framing) {S : Type 0} (A : Answering S) {L : Type 0} (M : LinkMean
           },
         )
 
-    pub waits : Polls Pending → TakesTurn F A M old new before after Waiting
-    waits poll = (all_unframed F poll.fresh, poll.ends, run_over before poll.fresh poll.ends poll.run, goes_on poll)
+    -- what is said of how many messages were taken
+    as_told : (P : ℕ → Type 0) (fresh : List (Exchange F)) → P (length fresh) → P (length (all_unframed F fresh))
+    as_told P fresh p =
+        let same : length (all_unframed F fresh) ≡ length fresh = simp (length-map) in subst P (sym same) p
 
-    pub is_spent : Polls Pending → TakesTurn F A M old new before after Spent
-    is_spent poll = (all_unframed F poll.fresh, poll.ends, run_over before poll.fresh poll.ends poll.run, goes_on poll)
+    abbrev Within : TurnLimits → List (Exchange F) → Turn → Type 0
+    Within limits fresh turn = IsWithin M limits old.link new.link (length fresh) turn
 
-    pub is_over : ((behind : PolledPast F) (ends now : S) (first last : Outside) (result : Result (Unit {0}) ProcessError) → PolledRan F A behind ends now first last result → CompletesAfter F A behind ends first last result)
-        → (result : Result (Unit {0}) ProcessError) → Polls (Ready result) → TakesTurn F A M old new before after (Over result)
-    is_over completes result poll = (
+    pub waits : (limits : TurnLimits) (poll : Went Pending) → Within limits poll.fresh Waiting → Rests F new.process.connection → TakesTurn F A M limits old new before after Waiting
+    waits limits poll within rests = (
       all_unframed F poll.fresh,
       poll.ends,
       run_over before poll.fresh poll.ends poll.run,
+      as_told (λ n. IsWithin M limits old.link new.link n Waiting) poll.fresh within,
+      rests,
+      goes_on poll,
+    )
+
+    pub is_spent : (limits : TurnLimits) (poll : Went Pending) → Within limits poll.fresh Spent → LeavesNone F limits new.process (length poll.fresh) Spent
+        → TakesTurn F A M limits old new before after Spent
+    is_spent limits poll within none = (
+      all_unframed F poll.fresh,
+      poll.ends,
+      run_over before poll.fresh poll.ends poll.run,
+      as_told (λ n. IsWithin M limits old.link new.link n Spent) poll.fresh within,
+      as_told (λ n. LeavesNone F limits new.process n Spent) poll.fresh none,
+      goes_on poll,
+    )
+
+    pub is_over : ((behind : PolledPast F) (ends now : S) (first last : Outside) (result : Result (Unit {0}) ProcessError) → PolledRan F A behind ends now first last result → CompletesAfter F A behind ends first last result)
+        → (limits : TurnLimits) (result : Result (Unit {0}) ProcessError) (poll : Went (Ready result)) → Within limits poll.fresh (Over result) → TakesTurn F A M limits old new before after (Over result)
+    is_over completes limits result poll within = (
+      all_unframed F poll.fresh,
+      poll.ends,
+      run_over before poll.fresh poll.ends poll.run,
+      as_told (λ n. IsWithin M limits old.link new.link n (Over result)) poll.fresh within,
+      tt,
       λ turns first own s.
           let now = onward (Ready result) poll turns first own s in
           let ran : PolledRan F A now poll.ends after (ends_of M first) (ends_of M new.link) result = record {

@@ -1,5 +1,5 @@
 -- What happens to the connections of one thread, in order, and what that says of the connection under each key.
-use Rattle.std.specs.Prelude.{◌≡◌, ℕ, ◌==◌, List, [], ◌∷◌, ◌++◌, map, Option, Some, None, Bool, true, false, if◌then◌else◌}
+use Rattle.std.specs.Prelude.{◌≡◌, ◌⊎◌, ℕ, ◌+◌, ◌==◌, List, [], ◌∷◌, ◌++◌, map, Option, Some, None, Bool, true, false, if◌then◌else◌}
 use Rattle.modbus_link.specs.Memory.{next_count}
 use Rattle.modbus_hub.specs.declared.turn.Turn.{Turn}
 use Rattle.modbus_hub.specs.declared.turn.Turn.TheVariants.{Waiting, Spent, Over}
@@ -30,20 +30,21 @@ pub record Place (L : Type 0) : Type 0 where
   pub seat : SeatState L
   -- whether it had a turn, or came, since that was last asked
   pub is_fresh : Bool
-  -- whether the reads of its last turn were used up
+  -- whether its last turn was cut off by its limits
   pub is_spent : Bool
 
--- The account of a connection: the link with which it came, all that it was told since, its link after its last turn, and whether the reads
--- of that were used up.
+-- The account of a connection: the link with which it came, all that it was told since, how many messages that is since its last turn
+-- ended, its link after that, and whether that was cut off by its limits.
 pub record Account (L : Type 0) : Type 0 where
   pub first : L
   pub own : List Said
+  pub in_turn : ℕ
   pub last : L
   pub is_spent : Bool
 
 -- one that came with this link
 abbrev pub begun_with : {L : Type 0} → L → Account L
-begun_with link = record { first = link; own = []; last = link; is_spent = false }
+begun_with link = record { first = link; own = []; in_turn = 0; last = link; is_spent = false }
 
 -- of a key: none where there is no connection
 abbrev pub KeyAccount : Type 0 → Type 0
@@ -52,12 +53,12 @@ KeyAccount L = Option (Account L)
 -- it was told this too
 abbrev pub told_more : {L : Type 0} → Said → KeyAccount L → KeyAccount L
 told_more x None = None
-told_more x (Some account) = Some (record account { own = account.own ++ x ∷ [] })
+told_more x (Some account) = Some (record account { own = account.own ++ x ∷ []; in_turn = account.in_turn + 1 })
 
 -- its turn left this link
 abbrev pub left_with : {L : Type 0} → L → Bool → KeyAccount L → KeyAccount L
 left_with link spent None = None
-left_with link spent (Some account) = Some (record account { last = link; is_spent = spent })
+left_with link spent (Some account) = Some (record account { in_turn = 0; last = link; is_spent = spent })
 
 -- a connection that is over has no account any more
 abbrev pub after_turn : {L : Type 0} → L → Turn → KeyAccount L → KeyAccount L
@@ -84,6 +85,19 @@ by_key {L} key xs = map (λ (x : Said). let e : Event L = told key x in e) xs
 -- the connection under a key had a turn
 abbrev pub HasAnyTurn : {L : Type 0} → ℕ → List (Event L) → Type 0
 HasAnyTurn {L} key events = (earlier later : List (Event L)) × (link : L) × (turn : Turn) × (events ≡ earlier ++ turned key link turn ∷ later)
+
+-- how many turns the connections under a key had
+abbrev pub turns_of : {L : Type 0} → ℕ → List (Event L) → ℕ
+turns_of key [] = 0
+turns_of key (came j link ∷ es) = turns_of key es
+turns_of key (refused cause link ∷ es) = turns_of key es
+turns_of key (told j x ∷ es) = turns_of key es
+turns_of key (turned j link turn ∷ es) = if j == key then turns_of key es + 1 else turns_of key es
+turns_of key (dropped j ∷ es) = turns_of key es
+
+-- no connections had a turn but those under such keys, and each of these one
+abbrev pub TurnsAmong : {L : Type 0} → (ℕ → Type 0) → List (Event L) → Type 0
+TurnsAmong P events = (key : ℕ) → (turns_of key events ≡ 0) ⊎ (P key × (turns_of key events ≡ 1))
 
 -- the links that came, in order
 abbrev pub links_of : {L : Type 0} → List (Event L) → List L

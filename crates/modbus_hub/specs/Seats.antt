@@ -1,55 +1,64 @@
 -- What connections that take turns at one service stand for.
-use Rattle.std.specs.Prelude.{◌≡◌, ◌⊎◌, ℕ, ◌+◌, ◌-◌, ◌^◌, ◌≤◌, List, [], ◌∷◌, ◌++◌, length, Option, Some, None, IsSome, Result, Ok, Err, Bool, false, if◌then◌else◌, IsTrue}
+use Rattle.std.specs.Prelude.{◌≡◌, ◌⊎◌, ℕ, ◌+◌, ◌-◌, ◌^◌, ◌≤◌, List, [], ◌∷◌, ◌++◌, Option, Some, None, IsSome, Result, Ok, Err, Bool, false, if◌then◌else◌, IsTrue}
 use Rattle.modbus_link.specs.Line.{LinkMeaning}
-use Rattle.modbus_link.specs.Outside.{cuts_made, Rose}
+use Rattle.modbus_link.specs.Outside.{Rose}
 use Rattle.modbus_server.specs.Framing.{Framing}
 use Rattle.modbus_service.specs.Answering.{Answering}
 use Rattle.modbus_service.specs.Exchange.{GivesOutcome}
 use Rattle.modbus_hub.specs.declared.turn.Turn.{Turn}
 use Rattle.modbus_hub.specs.declared.turn.Turn.TheVariants.{Waiting, Spent, Over}
 use Rattle.modbus_hub.specs.Turn.{Said}
-use Rattle.modbus_hub.specs.Turn.{SeatStands, SeatEnds}
+use Rattle.modbus_hub.specs.Turn.{SeatStands, SeatEnds, IsWithin, TakesFew}
+use Rattle.modbus_hub.specs.declared.turn.TurnLimits.{TurnLimits}
 use Rattle.slab.specs.Slab.{Slab, get, slab_len}
-use Rattle.modbus_hub.specs.Events.{Event, came, refused, told, turned, dropped, no_memory, Place, KeyAccount, account_of, by_key, HasAnyTurn, links_of}
+use Rattle.modbus_ready.specs.declared.readiness.Ready.{Ready}
+use Rattle.modbus_ready.specs.declared.readiness.Ready.TheVariants.{Peer, Link}
+use Rattle.modbus_hub.specs.Events.{Event, came, refused, told, turned, dropped, no_memory, Place, Account, KeyAccount, account_of, by_key, HasAnyTurn, TurnsAmong, links_of}
 
 -- the connections of one thread
 pub record SeatsState (L : Type 0) : Type 0 where
   pub seats : Slab (Place L)
-  -- whether one may be left whose reads were used up
+  -- whether one may be left whose last turn was cut off by its limits
   pub has_spent : Bool
-  -- how many reads of a turn may give bytes
-  pub reads : ℕ
+  -- what a turn may take
+  pub limits : TurnLimits
   -- how many connections there may be at a time
   pub most : ℕ
 
 -- no more connections than there were, under the same limits
 abbrev pub NoMore : {L : Type 0} → SeatsState L → SeatsState L → Type 0
-NoMore old new = (new.reads ≡ old.reads) × (new.most ≡ old.most) × (slab_len new.seats ≤ slab_len old.seats)
+NoMore old new = (new.limits ≡ old.limits) × (new.most ≡ old.most) × (slab_len new.seats ≤ slab_len old.seats)
 
 -- one more at most
 abbrev pub OneMore : {L : Type 0} → SeatsState L → SeatsState L → Type 0
-OneMore old new = (new.reads ≡ old.reads) × (new.most ≡ old.most) × (slab_len new.seats ≤ slab_len old.seats + 1)
+OneMore old new = (new.limits ≡ old.limits) × (new.most ≡ old.most) × (slab_len new.seats ≤ slab_len old.seats + 1)
 
 -- no more than there may be
 abbrev pub KeepsLimit : {L : Type 0} → SeatsState L → SeatsState L → Type 0
-KeepsLimit old new = (new.reads ≡ old.reads) × (new.most ≡ old.most) × (slab_len old.seats ≤ old.most → slab_len new.seats ≤ new.most)
+KeepsLimit old new = (new.limits ≡ old.limits) × (new.most ≡ old.most) × (slab_len old.seats ≤ old.most → slab_len new.seats ≤ new.most)
+
+-- the link under this key was found ready
+abbrev pub IsFound : ℕ → List Ready → Type 0
+IsFound key [] = ⊥
+IsFound key (ready ∷ found) = (ready ≡ Link key) ⊎ IsFound key found
+
+-- this tells of a link that was found ready before
+abbrev pub IsTold : List Ready → Ready → Type 0
+IsTold earlier Peer = ⊥
+IsTold earlier (Link key) = IsFound key earlier
 
 -- how many reads of a connection may give bytes in all
 abbrev pub turns : ℕ
 turns = 2 ^ 64 - 1
 
--- Of a link that tells its content: so many of its reads gave bytes, no more and no fewer.
-abbrev pub UsesUp : {L : Type 0} → LinkMeaning L → ℕ → L → L → Type 0
-UsesUp M reads old new = IsTrue (M.input old).told → length (cuts_made (M.input old) (M.input new)) ≡ reads
-
--- what a contract knows of a link that is polled: its ends, how often it was not ready, and how many of its reads in a turn may give bytes
+-- what a contract knows of a link that is polled: its ends, how often it was not ready, and what a turn over it may take
 pub record PolledMeaning (L : Type 0) : Type 1 where
   pub link : LinkMeaning L
   pub not_ready : L → ℕ
-  pub reads : ℕ
+  pub limits : TurnLimits
 
-abbrev pub polled_by : {L : Type 0} → LinkMeaning L → (L → ℕ) → ℕ → PolledMeaning L
-polled_by link not_ready reads = record { link = link; not_ready = not_ready; reads = reads }
+abbrev pub polled_by : {L : Type 0} → LinkMeaning L → (L → ℕ) → TurnLimits → PolledMeaning L
+polled_by link not_ready limits = record { link = link; not_ready = not_ready; limits = limits }
 
 -- What happens after these events without the service: links come, under keys that have no connection, or are dropped, and connections are
 -- let go.
@@ -61,13 +70,13 @@ AsksNone earlier (dropped key ∷ es) = AsksNone (earlier ++ dropped key ∷ [])
 AsksNone earlier (e ∷ es) = ⊥
 
 module _ (F : Framing) {L : Type 0} (M : LinkMeaning L) where
-  -- there is a connection exactly where there is an account, and it stands for that
+  -- there is a connection exactly where there is an account, and it stands for that, between its turns
   abbrev pub IsSeatedAs : KeyAccount L → Option (Place L) → Type 0
   IsSeatedAs None None = Unit {0}
   IsSeatedAs None (Some place) = ⊥
   IsSeatedAs (Some account) None = ⊥
   IsSeatedAs (Some account) (Some place) = IsTrue place.seat.process.connection.is_open × SeatStands F M turns account.first account.own place.seat
-      × (place.seat.link ≡ account.last) × (place.is_spent ≡ account.is_spent)
+      × (place.seat.link ≡ account.last) × (place.is_spent ≡ account.is_spent) × (account.in_turn ≡ 0)
 
   -- after these events each connection stands for its account
   abbrev pub AllStand : List (Event L) → Slab (Place L) → Type 0
@@ -81,12 +90,17 @@ module _ (F : Framing) {L : Type 0} (M : LinkMeaning L) where
 module _ (F : Framing) {S : Type 0} (A : Answering S) {L : Type 0} (M : PolledMeaning L) where
   -- Where the connection with this account had a turn that ended so, the service goes from one state to another. It stays, but where the
   -- connection is over for want of memory, or since a response is too long: that was asked last, and is told to nobody. One that waits asked
-  -- its link, which was not ready. One whose reads were used up read as often as a turn may.
+  -- its link, which was not ready.
+  abbrev pub EndsSo : Account L → L → S → S → Turn → Type 0
+  EndsSo account last old new Waiting = (new ≡ old) × Rose (M.not_ready account.last) (M.not_ready last)
+  EndsSo account last old new Spent = new ≡ old
+  EndsSo account last old new (Over result) = SeatEnds F A M.link turns account.first account.own last old new result
+
+  -- The same, and the turn was within its limits: it took all that the connection was told since its turn before. One that was cut off took
+  -- as many messages, or as many reads, as a turn may.
   abbrev pub EndsTurn : KeyAccount L → L → S → S → Turn → Type 0
   EndsTurn None last old new turn = ⊥
-  EndsTurn (Some account) last old new Waiting = (new ≡ old) × Rose (M.not_ready account.last) (M.not_ready last)
-  EndsTurn (Some account) last old new Spent = (new ≡ old) × UsesUp M.link M.reads account.last last
-  EndsTurn (Some account) last old new (Over result) = SeatEnds F A M.link turns account.first account.own last old new result
+  EndsTurn (Some account) last old new turn = IsWithin M.link M.limits account.last last account.in_turn turn × EndsSo account last old new turn
 
   -- what an event after these does to the service
   abbrev pub Happens : List (Event L) → S → Event L → S → Type 0
@@ -140,22 +154,26 @@ module _ {L : Type 0} where
   abbrev pub ServesInTurn : List (Event L) → List (Event L) → Type 0
   ServesInTurn history more = (links_of more ≡ []) × StaysOrTurns history more × DropsNone more
 
-  -- the same, and the connection under a key had another turn, where the reads of its last turn were used up
-  abbrev pub TurnsIfSpent : ℕ → Option (Place L) → List (Event L) → List (Event L) → Type 0
-  TurnsIfSpent key slot history more = ServesInTurn history more × (IsTrue (is_spent_at slot) → HasAnyTurn key more)
+  -- the last turn of the connection under this key was cut off by its limits, and its link is not among those that were found ready
+  abbrev pub IsLeft : List Ready → ℕ → Option (Place L) → Type 0
+  IsLeft found key slot = IsTrue (is_spent_at slot) × (IsFound key found → ⊥)
 
-  -- the same, and each connection of which the reads were used up had another turn
-  abbrev pub ServesSpent : Slab (Place L) → List (Event L) → List (Event L) → Type 0
-  ServesSpent old history more = ServesInTurn history more × ((key : ℕ) → IsTrue (is_spent_at (get old key)) → HasAnyTurn key more)
+  -- no link came, and no connection went but by its turn; the connection under a key had another turn exactly where it is left so, and no
+  -- other had any
+  abbrev pub TurnsIfLeft : List Ready → ℕ → Option (Place L) → List (Event L) → List (Event L) → Type 0
+  TurnsIfLeft found key slot history more = ServesInTurn history more × (IsTrue (is_spent_at slot) → IsFound key found ⊎ HasAnyTurn key more)
+      × TurnsAmong (λ k. (k ≡ key) × IsLeft found key slot) more
+
+  -- The same of each connection: those whose last turn was cut off had another turn, but those whose links were found ready. No other had
+  -- any, and none had two.
+  abbrev pub ServesSpent : List Ready → Slab (Place L) → List (Event L) → List (Event L) → Type 0
+  ServesSpent found old history more = ServesInTurn history more × ((key : ℕ) → IsTrue (is_spent_at (get old key)) → IsFound key found ⊎ HasAnyTurn key more)
+      × TurnsAmong (λ key. IsLeft found key (get old key)) more
 
   -- a connection stays where it had a turn, or came, since this was last asked
   abbrev pub kept : Option (Place L) → Option (Place L)
   kept None = None
   kept (Some place) = if place.is_fresh then Some (record place { is_fresh = false }) else None
-
-  -- Of a link that tells its content: no more of its reads gave bytes than these.
-  abbrev pub TakesFew : LinkMeaning L → ℕ → L → L → Type 0
-  TakesFew M reads old new = IsTrue (M.input old).told → length (cuts_made (M.input old) (M.input new)) ≤ reads
 
   -- the same of the connection under a key, where it goes on
   abbrev pub TakesFewAt : LinkMeaning L → ℕ → Option (Place L) → Option (Place L) → Type 0
@@ -168,10 +186,18 @@ module _ {L : Type 0} where
   IsDrop history (dropped key ∷ more) = IsDrop history more
   IsDrop history (e ∷ more) = ⊥
 
--- where the reads of a connection were used up, it is known that one may be left
+-- where the last turn of a connection was cut off, it is known that one may be left
 abbrev pub MarksLeft : {L : Type 0} → SeatsState L → Type 0
 MarksLeft seats = (key : ℕ) → IsTrue (is_spent_at (get seats.seats key)) → IsTrue seats.has_spent
 
 -- the same, where it was so before
 abbrev pub KeepsMarks : {L : Type 0} → SeatsState L → SeatsState L → Type 0
 KeepsMarks old new = MarksLeft old → MarksLeft new
+
+-- where it is known that one may be left, the last turn of one was cut off
+abbrev pub IsOneLeft : {L : Type 0} → SeatsState L → Type 0
+IsOneLeft seats = IsTrue seats.has_spent → (key : ℕ) × IsTrue (is_spent_at (get seats.seats key))
+
+-- those whose last turn was cut off are the same, and so is what is known of them
+abbrev pub SameLeft : {L : Type 0} → SeatsState L → SeatsState L → Type 0
+SameLeft old new = (new.has_spent ≡ old.has_spent) × ((key : ℕ) → is_spent_at (get new.seats key) ≡ is_spent_at (get old.seats key))

@@ -1,13 +1,13 @@
 -- What a server of many connections on one thread does, round by round.
-use Rattle.std.specs.Prelude.{◌≡◌, ◌⊎◌, ℕ, ◌-◌, ◌^◌, ◌≤◌, List, [], ◌∷◌, ◌++◌, length, None, IsSome, Result, Ok, Err, Bool, true, false, IsTrue}
+use Rattle.std.specs.Prelude.{◌≡◌, ◌⊎◌, ℕ, ◌≤◌, ◌==◌, min, nat_lt, ◌&&◌, if◌then◌else◌, List, [], ◌∷◌, ◌++◌, length, Option, Some, None, IsSome, Result, Ok, Err, Bool, true, false, IsTrue}
 use Rattle.modbus_link.specs.declared.outside.Failed.{Failed}
 use Rattle.modbus_link.specs.declared.polled.Polled.{Polled}
 use Rattle.slab.specs.Slab.{get, slab_len}
 use Rattle.modbus_ready.specs.declared.readiness.Ready.{Ready}
-use Rattle.modbus_ready.specs.declared.readiness.Ready.TheVariants.{Peer, Link}
+use Rattle.modbus_ready.specs.declared.readiness.Ready.TheVariants.{Peer}
 use Rattle.modbus_hub.specs.Accepts.{GivesLinks, GivesUntil, IsNobody, IsFault}
-use Rattle.modbus_hub.specs.Events.{Event, no_watch, no_memory, account_of, HasAnyTurn, links_of, counted_over}
-use Rattle.modbus_hub.specs.Seats.{SeatsState, DropsNone, IsDrop, KeepsMarks, ServesInTurn, is_spent_at}
+use Rattle.modbus_hub.specs.Events.{Event, no_watch, no_memory, account_of, HasAnyTurn, TurnsAmong, links_of, counted_over}
+use Rattle.modbus_hub.specs.Seats.{SeatsState, DropsNone, IsDrop, IsFound, IsLeft, IsOneLeft, IsTold, KeepsMarks, ServesInTurn, is_spent_at}
 
 -- a server over such an acceptor and source of readiness, with such links
 pub record ServerState (A S L : Type 0) : Type 0 where
@@ -18,16 +18,36 @@ pub record ServerState (A S L : Type 0) : Type 0 where
   pub unseated : ℕ
   -- whether a peer may wait to be accepted
   pub is_asked : Bool
+  -- whether as many peers were accepted in the last round as are accepted in a round
+  pub is_crowded : Bool
 
 -- a round, as the state that it left, and what happened in it
 pub record Round (A S L : Type 0) : Type 0 where
   pub left : ServerState A S L
   pub happened : List (Event L)
 
--- the link under this key was found ready
-abbrev pub IsFound : ℕ → List Ready → Type 0
-IsFound key [] = ⊥
-IsFound key (ready ∷ found) = (ready ≡ Link key) ⊎ IsFound key found
+-- how many peers are accepted in a round at most
+abbrev pub accepts_a_round : ℕ
+accepts_a_round = 64
+
+-- after how many nanoseconds an accept that failed is tried again
+abbrev pub retry : ℕ
+retry = 50_000_000
+
+-- the shorter of two times, where the first may be any time
+abbrev pub shorter_of : Option ℕ → ℕ → ℕ
+shorter_of None other = other
+shorter_of (Some time) other = min time other
+
+-- a peer may wait, and there are fewer connections than there may be
+abbrev pub can_accept : {A S L : Type 0} → ServerState A S L → Bool
+can_accept it = it.is_asked && nat_lt (slab_len it.seats.seats) it.seats.most
+
+-- How long a wait may take that is to take so many nanoseconds, or any time: none where a connection is left whose last turn was cut off,
+-- or more peers can be accepted than were in a round; and not past the next try where an accept failed.
+abbrev pub patience_of : {A S L : Type 0} → ServerState A S L → Option ℕ → Option ℕ
+patience_of it timeout =
+    if it.seats.has_spent then Some 0 else if can_accept it then Some (if it.is_crowded then 0 else shorter_of timeout retry) else timeout
 
 -- a peer was found to wait
 abbrev pub IsPeerFound : List Ready → Type 0
@@ -38,17 +58,30 @@ IsPeerFound (ready ∷ found) = (ready ≡ Peer) ⊎ IsPeerFound found
 abbrev pub TurnsFound : {L : Type 0} → List Ready → List (Event L) → List (Event L) → Type 0
 TurnsFound found history more = (key : ℕ) → IsFound key found → IsSome (account_of key None history) → HasAnyTurn key more
 
--- the same, no link came, and no connection went but by its turn
+-- the same, no link came, and no connection went but by its turn; no other had a turn, and none had two
 abbrev pub ServesFound : {L : Type 0} → List Ready → List (Event L) → List (Event L) → Type 0
-ServesFound found history more = ServesInTurn history more × TurnsFound found history more
+ServesFound found history more = ServesInTurn history more × TurnsFound found history more × TurnsAmong (λ key. IsFound key found) more
 
--- each connection whose reads were used up had another turn
+-- where this is told after those, the same of the link that it tells of, unless they told of it
+abbrev pub ServesNext : {L : Type 0} → List Ready → Ready → List (Event L) → List (Event L) → Type 0
+ServesNext earlier ready history more = ServesInTurn history more
+    × (IsTold earlier ready ⊎ TurnsFound (ready ∷ []) history more)
+    × TurnsAmong (λ key. IsFound key (ready ∷ []) × (IsTold earlier ready → ⊥)) more
+
+-- each connection whose last turn was cut off had another turn
 abbrev pub TurnsLeft : {L : Type 0} → SeatsState L → List (Event L) → Type 0
 TurnsLeft seats more = IsTrue seats.has_spent → (key : ℕ) → IsTrue (is_spent_at (get seats.seats key)) → HasAnyTurn key more
 
--- the same, no link came, and no connection went but by its turn
-abbrev pub ServesLeft : {L : Type 0} → SeatsState L → List (Event L) → List (Event L) → Type 0
-ServesLeft seats history more = ServesInTurn history more × TurnsLeft seats more
+-- The same, but of those whose links were found ready. No link came, and no connection went but by its turn; no other had a turn, and none
+-- had two.
+abbrev pub ServesLeft : {L : Type 0} → List Ready → SeatsState L → List (Event L) → List (Event L) → Type 0
+ServesLeft found seats history more = ServesInTurn history more
+    × (IsTrue seats.has_spent → (key : ℕ) → IsTrue (is_spent_at (get seats.seats key)) → IsFound key found ⊎ HasAnyTurn key more)
+    × TurnsAmong (λ key. IsLeft found key (get seats.seats key)) more
+
+-- the link under this key was found ready, or the last turn of its connection had been cut off
+abbrev pub IsDue : {L : Type 0} → List Ready → SeatsState L → ℕ → Type 0
+IsDue found seats key = IsFound key found ⊎ IsTrue (is_spent_at (get seats.seats key))
 
 -- Each link that was dropped at once is counted, by its cause: by the source of readiness, with its other faults, where it could not be
 -- watched; and by the server, with nothing else, where memory was refused for its connection.
@@ -74,33 +107,53 @@ module _ {A S L : Type 0} (accepts : A → Result (Polled L) Failed → A → Ty
   PeersCome old new history more = Comes old new history more × DropsNone more
 
   -- Peers were accepted until nobody waits. Or another may wait still, since there are as many connections as there may be, the acceptor
-  -- failed, or as many links came as a `u64` counts.
+  -- failed, or as many links came as may in a round.
   abbrev pub AcceptsWaiting : ServerState A S L → ServerState A S L → List (Event L) → Type 0
   AcceptsWaiting old new more = GivesUntil IsNobody accepts old.acceptor (links_of more) new.acceptor ⊎ (
       IsTrue new.is_asked
-      × ((new.seats.most ≤ slab_len new.seats.seats) ⊎ GivesUntil IsFault accepts old.acceptor (links_of more) new.acceptor ⊎ (2 ^ 64 - 1 ≤ length (links_of more)))
+      × ((new.seats.most ≤ slab_len new.seats.seats) ⊎ GivesUntil IsFault accepts old.acceptor (links_of more) new.acceptor ⊎ (length (links_of more) ≡ accepts_a_round))
       )
 
-  -- peers came, and where one may wait they were accepted so
-  abbrev pub AcceptsAsked : ServerState A S L → ServerState A S L → List (Event L) → List (Event L) → Type 0
-  AcceptsAsked old new history more = PeersCome old new history more × (IsTrue old.is_asked → AcceptsWaiting old new more)
+  -- peers came, no more than may in a round, with whether it was as many; where one may wait they were accepted so
+  abbrev pub AcceptsUpTo : Bool → ServerState A S L → ServerState A S L → List (Event L) → List (Event L) → Type 0
+  AcceptsUpTo is_crowded old new history more = PeersCome old new history more × (length (links_of more) ≤ accepts_a_round)
+      × (is_crowded ≡ (length (links_of more) == accepts_a_round)) × (IsTrue old.is_asked → AcceptsWaiting old new more)
 
-  -- one came, and another may wait as before
+  -- the same, and it is kept whether it was as many
+  abbrev pub AcceptsAsked : ServerState A S L → ServerState A S L → List (Event L) → List (Event L) → Type 0
+  AcceptsAsked old new history more = AcceptsUpTo new.is_crowded old new history more
+
+  -- one came, and another may wait as before; or none came
   abbrev pub AcceptsNext : Bool → ServerState A S L → ServerState A S L → List (Event L) → List (Event L) → Type 0
   AcceptsNext true old new history more = PeersCome old new history more × (length (links_of more) ≡ 1) × (new.is_asked ≡ old.is_asked)
-  AcceptsNext false old new history more = AcceptsAsked old new history more
+  AcceptsNext false old new history more = PeersCome old new history more × (links_of more ≡ []) × (IsTrue old.is_asked → AcceptsWaiting old new more)
 
-  -- One round: the links that came are just those that the acceptor gave, each connection whose reads were used up before had another
-  -- turn, and so had each whose link the source of readiness found ready. Where a peer may have waited before, or was found to, peers
-  -- were accepted until none waits, or another may wait still. None was let go. A round that fails is none.
+  -- One round, at whose beginning these were found ready.
+  pub record ServesRound (found : List Ready) (old new : ServerState A S L) (history more : List (Event L)) : Type 0 where
+    -- the links that came are just those that the acceptor gave, and none was let go
+    pub come : PeersCome old new history more
+    -- each connection whose last turn was cut off had another turn, and so had each whose link was found ready
+    pub left : TurnsLeft old.seats more
+    pub told : TurnsFound found history more
+    -- no other had a turn, and none had two
+    pub once : TurnsAmong (λ key. IsDue found old.seats key) more
+    -- where one may be left whose last turn was cut off, there is one
+    pub one_left : IsOneLeft new.seats
+    -- no more peers came than may in a round, and it is kept whether it was as many
+    pub few : length (links_of more) ≤ accepts_a_round
+    pub crowded : new.is_crowded ≡ (length (links_of more) == accepts_a_round)
+    -- where a peer may have waited before, or was found to, peers were accepted until none waits, or another may wait still
+    pub waits : IsTrue old.is_asked ⊎ IsPeerFound found → AcceptsWaiting old new more
+
+  -- a round; one that fails is none
   abbrev pub TakesRound : (S → List Ready) → ServerState A S L → ServerState A S L → Result (Unit {0}) Failed → List (Event L) → List (Event L) → Type 0
-  TakesRound found old new (Ok done) history more = PeersCome old new history more × TurnsLeft old.seats more × TurnsFound (found new.readiness) history more
-      × (IsTrue old.is_asked ⊎ IsPeerFound (found new.readiness) → AcceptsWaiting old new more)
+  TakesRound found old new (Ok done) history more = ServesRound (found new.readiness) old new history more
   TakesRound found old new (Err failed) history more = (more ≡ []) × (new.acceptor ≡ old.acceptor) × (new.unseated ≡ old.unseated)
 
   -- connections were let go, and nothing else changed
   abbrev pub LetsGo : ServerState A S L → ServerState A S L → List (Event L) → List (Event L) → Type 0
   LetsGo old new history more = IsDrop history more × (new.acceptor ≡ old.acceptor) × (new.readiness ≡ old.readiness) × (new.unseated ≡ old.unseated) × (new.is_asked ≡ old.is_asked)
+      × (new.is_crowded ≡ old.is_crowded)
 
   -- a round, and then, where that was due, idle connections were let go; what is left stays marked
   abbrev pub RoundAndDrops : (S → List Ready) → ServerState A S L → ServerState A S L → List (Event L) → List (Event L) → Type 0

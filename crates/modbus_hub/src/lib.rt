@@ -15,4 +15,4 @@ mod turn;
 pub use seat::Seat;
 pub use seats::{Limits, Seats};
 pub use server::EventServer;
-pub use turn::{Turn, take_turn};
+pub use turn::{Turn, TurnLimits, take_turn};

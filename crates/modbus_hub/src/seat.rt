@@ -2,12 +2,11 @@
 ghost use Rattle.std.specs.Prelude.{◌≡◌, [], ◌-◌, true, false, IsTrue, IfOk};
 ghost use Rattle.modbus_link.specs.Line.{meaning_of};
 ghost use Rattle.modbus_link.specs.Outside.{Rose};
-ghost use Rattle.modbus_server.specs.Polled.{Rests};
-ghost use Rattle.modbus_hub.specs.declared.turn.Turn.TheVariants.{Waiting, Spent};
-ghost use Rattle.modbus_hub.specs.Turn.{is_going_on, is_spent, TakesTurn};
-ghost use Rattle.modbus_hub.specs.Seats.{turns, TakesFew, UsesUp};
+ghost use Rattle.modbus_hub.specs.declared.turn.Turn.TheVariants.{Waiting};
+ghost use Rattle.modbus_hub.specs.Turn.{is_going_on, is_spent, TakesFew, TakesTurn};
+ghost use Rattle.modbus_hub.specs.Seats.{turns};
 
-use crate::turn::{Turn, take_turn};
+use crate::turn::{Turn, TurnLimits, take_turn};
 use modbus_link::PolledLink;
 use modbus_server::{Answerer, Framing, PolledProcess};
 use std::alloc::{AllocError, Global};
@@ -22,7 +21,8 @@ pub struct Seat<I: Framing, L> {
     is_spent: bool,
 }
 
-/// A contract sees the link, what its server keeps, whether it was served of late, and whether the reads of its last turn were used up.
+/// A contract sees the link, what its server keeps, whether it was served of late, and whether its last turn was cut off by its
+/// limits.
 impl<I: Framing, L> Model for Seat<I, L> {
     ghost use Rattle.modbus_hub.specs.Events.{Place};
 
@@ -65,7 +65,7 @@ impl<I: Framing, L: PolledLink + Drop> Seat<I, L> {
         self.process.is_open()
     }
 
-    /// Whether the reads of its last turn were used up.
+    /// Whether its last turn was cut off by its limits.
     pub fn is_spent(&self) -> bool
         ensures { result ≡ self.now.is_spent }
     {
@@ -73,23 +73,19 @@ impl<I: Framing, L: PolledLink + Drop> Seat<I, L> {
     }
 
     /// Takes its turn: serves the link as far as it is ready, as `take_turn` does.
-    pub fn serve<V: Answerer>(&mut self, service: &mut V, reads: u64) -> Turn
+    pub fn serve<V: Answerer>(&mut self, service: &mut V, limits: TurnLimits) -> Turn
         requires { IsTrue self.old.seat.process.connection.is_open }
         ensures open { self.new.seat.process.connection.is_open ≡ is_going_on result }
-        ensures turn { TakesTurn I.framing V.answering (meaning_of L.input L.output L.line)
+        ensures turn { TakesTurn I.framing V.answering (meaning_of L.input L.output L.line) limits
             self.old.seat self.new.seat service.old service.new result }
-        ensures rests { IsTrue (is_going_on result)
-            → Rests I.framing self.new.seat.process.connection }
         ensures waited { result ≡ Waiting
             → Rose (L.not_ready self.old.seat.link) (L.not_ready self.new.seat.link) }
-        ensures bounded { TakesFew (meaning_of L.input L.output L.line) reads self.old.seat.link
-            self.new.seat.link }
-        ensures used { result ≡ Spent → UsesUp (meaning_of L.input L.output L.line) reads
+        ensures bounded { TakesFew (meaning_of L.input L.output L.line) limits.reads
             self.old.seat.link self.new.seat.link }
         ensures fresh { self.new.is_fresh ≡ true }
         ensures spent { self.new.is_spent ≡ is_spent result }
     {
-        let turn = take_turn(&mut self.process, &mut self.link, service, reads);
+        let turn = take_turn(&mut self.process, &mut self.link, service, limits);
         self.is_fresh = true;
         self.is_spent = matches!(turn, Turn::Spent);
         turn

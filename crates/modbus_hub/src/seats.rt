@@ -1,13 +1,15 @@
 //! The connections of one thread.
-ghost use Rattle.std.specs.Prelude.{◌≡◌, ◌≢◌, ◌↔◌, ℕ, ◌==◌, ◌≤◌, [], Some, IsTrue, IfOk};
+ghost use Rattle.std.specs.Prelude.{◌≡◌, ◌≢◌, ◌↔◌, ℕ, ◌==◌, ◌<◌, ◌≤◌, ◌⊎◌, [], Some, IsTrue, IfOk, length, take, get_or};
+ghost use Rattle.modbus_ready.specs.declared.readiness.Ready.TheVariants.{Peer, Link};
 ghost use Rattle.modbus_link.specs.Line.{meaning_of};
 ghost use Rattle.modbus_hub.specs.declared.turn.Turn.TheVariants.{Spent};
 ghost use Rattle.slab.specs.Slab.{Updates, get, slab_len};
-ghost use Rattle.modbus_hub.specs.Seats.{SeatsGoOn, SeatsStay, polled_by, IsTurnOf, Admits, TurnsIfSpent, ServesSpent, IsDrop, KeepsMarks, MarksLeft, TakesFewAt, NoMore, OneMore, is_spent_at, kept};
+ghost use Rattle.modbus_hub.specs.Seats.{SeatsGoOn, SeatsStay, polled_by, IsFound, IsTold, IsTurnOf, Admits, TurnsIfLeft, ServesSpent, IsDrop, IsOneLeft, KeepsMarks, MarksLeft, SameLeft, TakesFewAt, NoMore, OneMore, is_spent_at, kept};
 
 use crate::seat::Seat;
-use crate::turn::Turn;
+use crate::turn::{Turn, TurnLimits};
 use modbus_link::PolledLink;
+use modbus_ready::Ready;
 use modbus_server::{Answerer, Framing};
 use slab::Slab;
 use std::alloc::{AllocError, Global};
@@ -18,8 +20,8 @@ use std::marker::Model;
 pub struct Limits {
     /// How many connections there are at a time.
     pub connections: usize,
-    /// How many reads of a turn may give bytes. With none, no connection is ever served.
-    pub reads: u64,
+    /// What one turn of a connection may take.
+    pub turn: TurnLimits,
 }
 
 /// Connections, each under a key, up to a limit.
@@ -31,20 +33,22 @@ pub struct Seats<I: Framing, L> {
     alloc: Global,
 }
 
-/// A contract sees the connections, whether one may be left whose reads were used up, and the limits.
+/// A contract sees the connections, whether one may be left whose last turn was cut off, and the limits.
 impl<I: Framing, L> Model for Seats<I, L> {
     ghost use Rattle.modbus_hub.specs.Seats.{SeatsState};
 
     ghost Value = { SeatsState L };
 
-    ghost view = { λ it. record { seats = it.seats; has_spent = it.has_spent; reads = it.limits.reads; most = it.limits.connections } };
+    ghost view = { λ it. record { seats = it.seats; has_spent = it.has_spent; limits = it.limits.turn; most = it.limits.connections } };
 }
 
 impl<I: Framing, L: PolledLink + Drop> Seats<I, L> {
     /// No connection yet. It keeps the allocator, and takes no memory yet.
     pub fn new(alloc: Global, limits: Limits) -> Seats<I, L>
+        requires reads { 0 < limits.turn.reads }
+        requires messages { 0 < limits.turn.messages }
         ensures empty { result.seats.slots ≡ [] }
-        ensures reads { result.reads ≡ limits.reads }
+        ensures turn { result.limits ≡ limits.turn }
         ensures most { result.most ≡ limits.connections }
     {
         Seats {
@@ -76,7 +80,7 @@ impl<I: Framing, L: PolledLink + Drop> Seats<I, L> {
         self.seats.len() >= self.limits.connections
     }
 
-    /// Whether one may be left whose reads were used up, which is to have another turn though its link is not told of again.
+    /// Whether one may be left whose last turn was cut off, which is to have another turn though its link is not told of again.
     pub fn has_spent(&self) -> bool
         ensures { result ≡ self.now.has_spent }
     {
@@ -95,8 +99,7 @@ impl<I: Framing, L: PolledLink + Drop> Seats<I, L> {
     /// # Errors
     /// `AllocError` where memory is refused; the link is dropped.
     pub fn admit(&mut self, link: L) -> Result<usize, AllocError>
-        ensures spent { self.new.has_spent ≡ self.old.has_spent }
-        ensures marks { KeepsMarks self.old self.new }
+        ensures left { SameLeft self.old self.new }
         ensures one { OneMore self.old self.new }
         ensures key { IfOk result (λ key. key ≡ self.old.seats.vacant_key) }
         ensures stays { SeatsStay I.framing (meaning_of L.input L.output L.line)
@@ -117,17 +120,19 @@ impl<I: Framing, L: PolledLink + Drop> Seats<I, L> {
     /// `take_turn` gives it.
     pub fn serve<V: Answerer>(&mut self, key: usize, service: &mut V) -> Option<Turn>
         ensures goes_on { SeatsGoOn I.framing V.answering
-            (polled_by (meaning_of L.input L.output L.line) L.not_ready self.old.reads)
+            (polled_by (meaning_of L.input L.output L.line) L.not_ready self.old.limits)
             (IsTurnOf key result) self.old.seats self.new.seats service.old
             service.new }
         ensures others { (other : _) → other ≢ key
             → get self.new.seats other ≡ get self.old.seats other }
-        ensures bounded { TakesFewAt (meaning_of L.input L.output L.line) self.old.reads
+        ensures bounded { TakesFewAt (meaning_of L.input L.output L.line) self.old.limits.reads
             (get self.old.seats key) (get self.new.seats key) }
         ensures left { result ≡ Some Spent → IsTrue self.new.has_spent }
         ensures stays { IsTrue self.old.has_spent → IsTrue self.new.has_spent }
         ensures marks { IsTrue (is_spent_at (get self.new.seats key))
             → IsTrue self.new.has_spent }
+        ensures one_left { IsTrue self.new.has_spent
+            → IsTrue self.old.has_spent ⊎ IsTrue (is_spent_at (get self.new.seats key)) }
         ensures no_more { NoMore self.old self.new }
     {
         let Some(seat) = self.seats.get_mut(key) else {
@@ -138,7 +143,7 @@ impl<I: Framing, L: PolledLink + Drop> Seats<I, L> {
             let _ = self.seats.try_remove(key);
             return None;
         }
-        match seat.serve(service, self.limits.reads) {
+        match seat.serve(service, self.limits.turn) {
             Turn::Waiting => Some(Turn::Waiting),
             Turn::Spent => {
                 self.has_spent = true;
@@ -151,7 +156,7 @@ impl<I: Framing, L: PolledLink + Drop> Seats<I, L> {
         }
     }
 
-    // Whether there is a connection under this key of which the reads of its last turn were used up.
+    // Whether there is a connection under this key whose last turn was cut off by its limits.
     fn is_spent(&self, key: usize) -> bool
         ensures { result ≡ is_spent_at (get self.now.seats key) }
     {
@@ -161,36 +166,46 @@ impl<I: Framing, L: PolledLink + Drop> Seats<I, L> {
         }
     }
 
-    // Gives the connection under a key another turn, where the reads of its last turn were used up.
-    fn serve_if_spent<V: Answerer>(&mut self, key: usize, service: &mut V)
+    // Gives the connection under a key another turn, where its last turn was cut off by its limits, unless its link is among these: then
+    // it is left.
+    fn serve_if_left<V: Answerer>(&mut self, key: usize, found: &[Ready], service: &mut V)
         ensures goes_on { SeatsGoOn I.framing V.answering
-            (polled_by (meaning_of L.input L.output L.line) L.not_ready self.old.reads)
-            (TurnsIfSpent key (get self.old.seats key)) self.old.seats self.new.seats
+            (polled_by (meaning_of L.input L.output L.line) L.not_ready self.old.limits)
+            (TurnsIfLeft found.now key (get self.old.seats key)) self.old.seats self.new.seats
             service.old service.new }
         ensures others { (other : ℕ) → other ≢ key
             → get self.new.seats other ≡ get self.old.seats other }
         ensures stays { IsTrue self.old.has_spent → IsTrue self.new.has_spent }
         ensures marks { IsTrue (is_spent_at (get self.new.seats key))
             → IsTrue self.new.has_spent }
+        ensures one_left { IsTrue self.new.has_spent
+            → IsTrue self.old.has_spent ⊎ IsTrue (is_spent_at (get self.new.seats key)) }
         ensures no_more { NoMore self.old self.new }
     {
-        if self.is_spent(key) {
+        if !self.is_spent(key) {
+            return;
+        }
+        if is_found(found, key) {
+            self.has_spent = true;
+        } else {
             let _ = self.serve(key, service);
         }
     }
 
-    /// Gives each connection another turn of which the reads of its last turn were used up.
-    pub fn serve_spent<V: Answerer>(&mut self, service: &mut V)
+    /// Gives each connection another turn whose last turn was cut off by its limits, but those whose links are among these. Whether the last
+    /// turn of a connection was cut off is known then.
+    pub fn serve_spent<V: Answerer>(&mut self, found: &[Ready], service: &mut V)
         ensures goes_on { SeatsGoOn I.framing V.answering
-            (polled_by (meaning_of L.input L.output L.line) L.not_ready self.old.reads)
-            (ServesSpent self.old.seats) self.old.seats self.new.seats service.old
+            (polled_by (meaning_of L.input L.output L.line) L.not_ready self.old.limits)
+            (ServesSpent found.now self.old.seats) self.old.seats self.new.seats service.old
             service.new }
         ensures marks { MarksLeft self.new }
+        ensures one_left { IsOneLeft self.new }
         ensures no_more { NoMore self.old self.new }
     {
         self.has_spent = false;
         'keys: for key in 0..self.seats.capacity() {
-            self.serve_if_spent(key, service);
+            self.serve_if_left(key, found, service);
         }
     }
 
@@ -224,5 +239,38 @@ impl<I: Framing, L: PolledLink + Drop> Seats<I, L> {
         'keys: for key in 0..self.seats.capacity() {
             self.drop_if_idle(key);
         }
+    }
+}
+
+/// Whether the link under this key is among those that were found ready.
+pub(crate) fn is_found(found: &[Ready], key: usize) -> bool
+    ensures { IsTrue result ↔ IsFound key found.now }
+{
+    'found: for index in 0..found.len() {
+        if is_link(found[index], key) {
+            return true;
+        }
+    }
+    false
+}
+
+// Whether this tells of the link under this key.
+fn is_link(ready: Ready, key: usize) -> bool
+    ensures { IsTrue result ↔ (ready ≡ Link key) }
+{
+    match ready {
+        Ready::Link(other) => other == key,
+        Ready::Peer => false,
+    }
+}
+
+/// Whether this place tells of a link that is told of before it.
+pub(crate) fn is_told(found: &[Ready], index: usize) -> bool
+    requires { index < length found.now }
+    ensures { IsTrue result ↔ IsTold (take index found.now) (get_or found.now index Peer) }
+{
+    match found[index] {
+        Ready::Link(key) => is_found(&found[..index], key),
+        Ready::Peer => false,
     }
 }

@@ -1,13 +1,15 @@
 //! Accepting connections and serving those that are ready.
-ghost use Rattle.std.specs.Prelude.{◌≡◌, ◌==◌, ◌≤◌, ℕ, ◌∷◌, [], Ok, OnOk, OnErr, IsTrue};
+ghost use Rattle.std.specs.Prelude.{◌≡◌, ◌==◌, ◌<◌, ◌≤◌, ◌⊎◌, ℕ, ◌∷◌, [], Ok, OnOk, OnErr, IsTrue, false, length, take, get_or};
+ghost use Rattle.std.specs.Option.{option_map};
+ghost use Rattle.std.specs.Duration.{as_nanos};
 ghost use Rattle.modbus_ready.specs.declared.readiness.Ready.TheVariants.{Peer};
 ghost use Rattle.modbus_link.specs.Line.{meaning_of};
 ghost use Rattle.modbus_link.specs.Outside.{Rose};
 ghost use Rattle.slab.specs.Slab.{get, slab_len};
-ghost use Rattle.modbus_hub.specs.Seats.{SeatsGoOn, SeatsStay, polled_by, IsDrop, NoMore, OneMore, KeepsLimit, KeepsMarks, MarksLeft, kept};
-ghost use Rattle.modbus_hub.specs.Turns.{AcceptsNext, AcceptsAsked, Brings, IsPeerFound, ServesFound, ServesLeft, TakesRound, TellsRound, TellsRounds};
+ghost use Rattle.modbus_hub.specs.Seats.{SeatsGoOn, SeatsStay, polled_by, IsDrop, IsFound, IsOneLeft, NoMore, OneMore, KeepsLimit, KeepsMarks, MarksLeft, SameLeft, kept};
+ghost use Rattle.modbus_hub.specs.Turns.{AcceptsNext, AcceptsAsked, AcceptsUpTo, Brings, IsPeerFound, ServesFound, ServesLeft, ServesNext, TakesRound, TellsRound, TellsRounds, can_accept, patience_of, shorter_of};
 
-use crate::seats::{Limits, Seats};
+use crate::seats::{Limits, Seats, is_told};
 use modbus_frame::Terminated;
 use modbus_link::{Failed, Polled, PolledLink, Stop};
 use modbus_ready::{PolledAcceptor, Readiness, Ready};
@@ -16,6 +18,9 @@ use std::alloc::{AllocError, Global};
 use std::marker::Model;
 use std::sync::Wait;
 use std::time::{Clock, Duration, Instant};
+
+/// How many peers are accepted in a round at most.
+const ACCEPTS: u64 = 64;
 
 /// How many milliseconds a peer that could not be accepted waits for the next try, where nothing else happens.
 const RETRY: u64 = 50;
@@ -31,11 +36,13 @@ pub struct EventServer<I: Framing, A: PolledAcceptor, S> {
     seats: Seats<I, A::Link>,
     // whether a peer may wait to be accepted
     is_asked: bool,
+    // whether as many peers were accepted in the last round as are accepted in a round
+    is_crowded: bool,
     unseated: u64,
 }
 
-/// A contract sees the acceptor, the source of readiness, the connections, how many links were dropped for want of memory, and whether a
-/// peer may wait.
+/// A contract sees the acceptor, the source of readiness, the connections, how many links were dropped for want of memory, whether a peer
+/// may wait, and whether as many peers were accepted in the last round as may be.
 impl<I: Framing, A: PolledAcceptor, S> Model for EventServer<I, A, S> {
     ghost use Rattle.modbus_hub.specs.Turns.{ServerState};
 
@@ -47,6 +54,7 @@ impl<I: Framing, A: PolledAcceptor, S> Model for EventServer<I, A, S> {
       seats = it.seats;
       unseated = it.unseated;
       is_asked = it.is_asked;
+      is_crowded = it.is_crowded;
     } };
 }
 
@@ -59,20 +67,24 @@ where
 {
     /// A server within these limits. The peers that come when there are as many connections as there may be wait.
     pub fn new(alloc: Global, acceptor: A, readiness: S, limits: Limits) -> EventServer<I, A, S>
+        requires reads { 0 < limits.turn.reads }
+        requires messages { 0 < limits.turn.messages }
         ensures acceptor { result.acceptor ≡ acceptor }
         ensures readiness { result.readiness ≡ readiness }
         ensures empty { result.seats.seats.slots ≡ [] }
-        ensures reads { result.seats.reads ≡ limits.reads }
+        ensures turn { result.seats.limits ≡ limits.turn }
         ensures most { result.seats.most ≡ limits.connections }
         ensures unseated { result.unseated ≡ 0 }
         ensures marks { MarksLeft result.seats }
         ensures asked { IsTrue result.is_asked }
+        ensures crowded { result.is_crowded ≡ false }
     {
         EventServer {
             acceptor,
             readiness,
             seats: Seats::new(alloc, limits),
             is_asked: true,
+            is_crowded: false,
             unseated: 0,
         }
     }
@@ -104,7 +116,7 @@ where
         ensures found { S.found self.new.readiness ≡ S.found self.old.readiness }
         ensures later { S.faults self.old.readiness ≤ S.faults self.new.readiness }
         ensures one { OneMore self.old.seats self.new.seats }
-        ensures marks { KeepsMarks self.old.seats self.new.seats }
+        ensures left { SameLeft self.old.seats self.new.seats }
         ensures asked { self.new.is_asked ≡ self.old.is_asked }
         ensures stays { SeatsStay I.framing (meaning_of A.Link.input A.Link.output A.Link.line)
             (Brings S.faults link self.old self.new) self.old.seats.seats self.new.seats.seats }
@@ -126,7 +138,7 @@ where
         ensures found { S.found self.new.readiness ≡ S.found self.old.readiness }
         ensures later { S.faults self.old.readiness ≤ S.faults self.new.readiness }
         ensures limit { KeepsLimit self.old.seats self.new.seats }
-        ensures marks { KeepsMarks self.old.seats self.new.seats }
+        ensures left { SameLeft self.old.seats self.new.seats }
         ensures stays { SeatsStay I.framing (meaning_of A.Link.input A.Link.output A.Link.line)
             (AcceptsNext A.accepts S.faults result self.old self.new) self.old.seats.seats
             self.new.seats.seats }
@@ -147,21 +159,22 @@ where
         }
     }
 
-    // Accepts all peers that wait, up to the limit.
-    fn accept_all(&mut self)
+    // Accepts the peers that wait, up to the limit, and no more than a round accepts; whether it was as many.
+    fn accept_all(&mut self) -> bool
         ensures found { S.found self.new.readiness ≡ S.found self.old.readiness }
         ensures later { S.faults self.old.readiness ≤ S.faults self.new.readiness }
         ensures limit { KeepsLimit self.old.seats self.new.seats }
-        ensures marks { KeepsMarks self.old.seats self.new.seats }
+        ensures left { SameLeft self.old.seats self.new.seats }
         ensures stays { SeatsStay I.framing (meaning_of A.Link.input A.Link.output A.Link.line)
-            (AcceptsAsked A.accepts S.faults self.old self.new) self.old.seats.seats
+            (AcceptsUpTo A.accepts S.faults result self.old self.new) self.old.seats.seats
             self.new.seats.seats }
     {
-        'peers: for _ in 0..u64::MAX {
+        'peers: for _ in 0..ACCEPTS {
             if !self.accept_one() {
-                return;
+                return false;
             }
         }
+        true
     }
 
     // Does what is to be done where this may be ready.
@@ -171,11 +184,14 @@ where
         ensures unseated { self.new.unseated ≡ self.old.unseated }
         ensures no_more { NoMore self.old.seats self.new.seats }
         ensures marks { KeepsMarks self.old.seats self.new.seats }
+        ensures stays { IsTrue self.old.seats.has_spent → IsTrue self.new.seats.has_spent }
+        ensures others { (key : ℕ) → IsFound key (ready ∷ [])
+            ⊎ (get self.new.seats.seats key ≡ get self.old.seats.seats key) }
         ensures waits { IsTrue self.old.is_asked → IsTrue self.new.is_asked }
         ensures asked { ready ≡ Peer → IsTrue self.new.is_asked }
         ensures goes_on { SeatsGoOn I.framing V.answering
             (polled_by (meaning_of A.Link.input A.Link.output A.Link.line) A.Link.not_ready
-            self.old.seats.reads)
+            self.old.seats.limits)
             (ServesFound (ready ∷ []))
             self.old.seats.seats self.new.seats.seats service.old service.new }
     {
@@ -189,28 +205,60 @@ where
         }
     }
 
-    // Gives each connection its turn that the last wait found ready.
+    // Does what is to be done where the last wait found this, unless it tells of a link of which it told before.
+    fn take_at<V: Answerer>(&mut self, index: usize, service: &mut V)
+        requires { index < length (S.found self.old.readiness) }
+        ensures acceptor { self.new.acceptor ≡ self.old.acceptor }
+        ensures readiness { self.new.readiness ≡ self.old.readiness }
+        ensures unseated { self.new.unseated ≡ self.old.unseated }
+        ensures no_more { NoMore self.old.seats self.new.seats }
+        ensures marks { KeepsMarks self.old.seats self.new.seats }
+        ensures stays { IsTrue self.old.seats.has_spent → IsTrue self.new.seats.has_spent }
+        ensures others { (key : ℕ)
+            → IsFound key (get_or (S.found self.old.readiness) index Peer ∷ [])
+            ⊎ (get self.new.seats.seats key ≡ get self.old.seats.seats key) }
+        ensures waits { IsTrue self.old.is_asked → IsTrue self.new.is_asked }
+        ensures asked { get_or (S.found self.old.readiness) index Peer ≡ Peer
+            → IsTrue self.new.is_asked }
+        ensures goes_on { SeatsGoOn I.framing V.answering
+            (polled_by (meaning_of A.Link.input A.Link.output A.Link.line) A.Link.not_ready
+            self.old.seats.limits)
+            (ServesNext (take index (S.found self.old.readiness))
+            (get_or (S.found self.old.readiness) index Peer))
+            self.old.seats.seats self.new.seats.seats service.old service.new }
+    {
+        let found = self.readiness.ready();
+        if is_told(found, index) {
+            return;
+        }
+        let ready = found[index];
+        self.take(ready, service);
+    }
+
+    // Gives each connection one turn that the last wait found ready.
     fn serve_ready<V: Answerer>(&mut self, service: &mut V)
         ensures acceptor { self.new.acceptor ≡ self.old.acceptor }
         ensures readiness { self.new.readiness ≡ self.old.readiness }
         ensures unseated { self.new.unseated ≡ self.old.unseated }
         ensures no_more { NoMore self.old.seats self.new.seats }
         ensures marks { KeepsMarks self.old.seats self.new.seats }
+        ensures stays { IsTrue self.old.seats.has_spent → IsTrue self.new.seats.has_spent }
+        ensures others { (key : ℕ) → IsFound key (S.found self.old.readiness)
+            ⊎ (get self.new.seats.seats key ≡ get self.old.seats.seats key) }
         ensures waits { IsTrue self.old.is_asked → IsTrue self.new.is_asked }
         ensures asked { IsPeerFound (S.found self.old.readiness) → IsTrue self.new.is_asked }
         ensures goes_on { SeatsGoOn I.framing V.answering
             (polled_by (meaning_of A.Link.input A.Link.output A.Link.line) A.Link.not_ready
-            self.old.seats.reads)
+            self.old.seats.limits)
             (ServesFound (S.found self.old.readiness)) self.old.seats.seats self.new.seats.seats
             service.old service.new }
     {
         'ready: for index in 0..self.readiness.ready().len() {
-            let ready = self.readiness.ready()[index];
-            self.take(ready, service);
+            self.take_at(index, service);
         }
     }
 
-    // Gives each connection another turn whose reads were used up.
+    // Gives each connection another turn whose last turn was cut off, but those that the last wait found ready, which had theirs.
     fn serve_left<V: Answerer>(&mut self, service: &mut V)
         ensures acceptor { self.new.acceptor ≡ self.old.acceptor }
         ensures readiness { self.new.readiness ≡ self.old.readiness }
@@ -218,46 +266,60 @@ where
         ensures no_more { NoMore self.old.seats self.new.seats }
         ensures marks { KeepsMarks self.old.seats self.new.seats }
         ensures asked { self.new.is_asked ≡ self.old.is_asked }
+        ensures one_left { IsOneLeft self.new.seats }
         ensures goes_on { SeatsGoOn I.framing V.answering
             (polled_by (meaning_of A.Link.input A.Link.output A.Link.line) A.Link.not_ready
-            self.old.seats.reads)
-            (ServesLeft self.old.seats)
+            self.old.seats.limits)
+            (ServesLeft (S.found self.old.readiness) self.old.seats)
             self.old.seats.seats self.new.seats.seats service.old service.new }
     {
         if self.seats.has_spent() {
-            self.seats.serve_spent(service);
+            self.seats.serve_spent(self.readiness.ready(), service);
         }
     }
 
-    // Accepts the peers that wait, where one may.
+    // Accepts the peers that wait, where one may, and no more than a round accepts.
     fn accept_asked(&mut self)
         ensures found { S.found self.new.readiness ≡ S.found self.old.readiness }
         ensures later { S.faults self.old.readiness ≤ S.faults self.new.readiness }
         ensures limit { KeepsLimit self.old.seats self.new.seats }
-        ensures marks { KeepsMarks self.old.seats self.new.seats }
+        ensures left { SameLeft self.old.seats self.new.seats }
         ensures stays { SeatsStay I.framing (meaning_of A.Link.input A.Link.output A.Link.line)
             (AcceptsAsked A.accepts S.faults self.old self.new) self.old.seats.seats
             self.new.seats.seats }
     {
         if self.is_asked {
-            self.accept_all();
+            self.is_crowded = self.accept_all();
+        } else {
+            self.is_crowded = false;
         }
     }
 
-    // How long the next wait may take: no time where a connection is left, and no longer than until the next try, where an accept failed.
-    fn patience(&self, timeout: Option<Duration>) -> Option<Duration> {
-        if self.seats.has_spent() {
+    // Whether a peer that may wait can be accepted.
+    fn can_accept(&self) -> bool
+        ensures { result ≡ can_accept self.now }
+    {
+        self.is_asked && !self.seats.is_full()
+    }
+
+    // How long the next wait may take: no time where a connection is left, or as many peers came as a round accepts and there is room, and
+    // no longer than until the next try, where an accept failed.
+    fn patience(&self, timeout: Option<Duration>) -> Option<Duration>
+        ensures { option_map as_nanos result ≡ patience_of self.now (option_map as_nanos timeout) }
+    {
+        let can_accept = self.can_accept();
+        if self.seats.has_spent() || (can_accept && self.is_crowded) {
             return Some(Duration::ZERO);
         }
-        if !self.is_asked || self.seats.is_full() {
-            return timeout;
+        if can_accept {
+            return Some(shorter(timeout, Duration::from_millis(RETRY)));
         }
-        shorter(timeout, Duration::from_millis(RETRY))
+        timeout
     }
 
-    /// Waits until something may be ready, or the time is up. Then it gives each connection a turn whose last turn was cut off by its limit
-    /// of reads, and each that is ready, drops those that are over, and accepts the peers that wait, up to the limit. A connection that fails
-    /// ends alone.
+    /// Waits until something may be ready, or the time is up. Then it gives each connection one turn that is ready, or whose last turn was
+    /// cut off by its limits, drops those that are over, and accepts peers that wait, up to the limit and 64 at most. A connection that
+    /// fails ends alone.
     ///
     /// # Errors
     /// `Failed`, only where the count of faults of the source of readiness rose; then nothing was done.
@@ -273,7 +335,7 @@ where
         ensures marks { KeepsMarks self.old.seats self.new.seats }
         ensures goes_on { SeatsGoOn I.framing V.answering
             (polled_by (meaning_of A.Link.input A.Link.output A.Link.line) A.Link.not_ready
-            self.old.seats.reads)
+            self.old.seats.limits)
             (TakesRound A.accepts S.faults S.found self.old self.new result) self.old.seats.seats
             self.new.seats.seats service.old service.new }
     {
@@ -281,8 +343,8 @@ where
         match self.readiness.wait(patience) {
             Err(failed) => Err(failed),
             Ok(()) => {
-                self.serve_left(service);
                 self.serve_ready(service);
+                self.serve_left(service);
                 self.accept_asked();
                 Ok(())
             }
@@ -294,6 +356,7 @@ where
         ensures acceptor { self.new.acceptor ≡ self.old.acceptor }
         ensures readiness { self.new.readiness ≡ self.old.readiness }
         ensures asked { self.new.is_asked ≡ self.old.is_asked }
+        ensures crowded { self.new.is_crowded ≡ self.old.is_crowded }
         ensures unseated { self.new.unseated ≡ self.old.unseated }
         ensures no_more { NoMore self.old.seats self.new.seats }
         ensures marks { KeepsMarks self.old.seats self.new.seats }
@@ -320,12 +383,12 @@ where
         ensures marks { KeepsMarks self.old.seats self.new.seats }
         ensures goes_on { SeatsGoOn I.framing V.answering
             (polled_by (meaning_of A.Link.input A.Link.output A.Link.line) A.Link.not_ready
-            self.old.seats.reads)
+            self.old.seats.limits)
             (TellsRound A.accepts S.faults S.found self.old self.new result) self.old.seats.seats
             self.new.seats.seats service.old service.new }
     {
         let timeout = shorter(idle, Duration::from_millis(LOOK));
-        match self.turn(service, timeout) {
+        match self.turn(service, Some(timeout)) {
             Err(failed) => Err(failed),
             Ok(()) => {
                 if is_due(rt, *swept, idle) {
@@ -362,7 +425,7 @@ where
         ensures marks { KeepsMarks self.old.seats self.new.seats }
         ensures goes_on { SeatsGoOn I.framing V.answering
             (polled_by (meaning_of A.Link.input A.Link.output A.Link.line) A.Link.not_ready
-            self.old.seats.reads)
+            self.old.seats.limits)
             (TellsRounds A.accepts S.faults S.found self.old self.new result) self.old.seats.seats
             self.new.seats.seats service.old service.new }
     {
@@ -381,10 +444,18 @@ where
 }
 
 // The shorter of two times, where none is any time.
-fn shorter(timeout: Option<Duration>, other: Duration) -> Option<Duration> {
+fn shorter(timeout: Option<Duration>, other: Duration) -> Duration
+    ensures { as_nanos result ≡ shorter_of (option_map as_nanos timeout) (as_nanos other) }
+{
     match timeout {
-        Some(timeout) if timeout < other => Some(timeout),
-        _ => Some(other),
+        Some(timeout) => {
+            if timeout.checked_sub(other).is_some() {
+                other
+            } else {
+                timeout
+            }
+        }
+        None => other,
     }
 }
 

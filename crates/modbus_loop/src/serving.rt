@@ -4,7 +4,7 @@ use crate::words::{Mode, Task};
 use mio::net::TcpListener;
 use modbus_field::standard::StandardAnswers;
 use modbus_field::stream::StreamBuffer;
-use modbus_hub::{EventServer, Limits};
+use modbus_hub::{EventServer, Limits, TurnLimits};
 use modbus_link::FlagStop;
 use modbus_ready::{MioReadiness, PolledTcpAcceptor};
 use modbus_rtu::Inbox;
@@ -21,8 +21,11 @@ const ENTRIES: u32 = 1024;
 /// How many connections there are at a time, where the system has as many file descriptors.
 const CONNECTIONS: usize = 20_000;
 
-/// How many reads of a turn may give bytes.
-const READS: u64 = 16;
+/// What a connection may take before another has its turn. One read may give a score of messages.
+const TURN: TurnLimits = TurnLimits {
+    reads: 16,
+    messages: 16,
+};
 
 /// The device that all connections share.
 fn open_store(alloc: Global, broadcast: bool) -> Result<RegisterStore, StoreError> {
@@ -54,7 +57,7 @@ fn serve_listener<I: Framing, V: Answerer, R: Net + AllocGlobal + Wait + Clock>(
     }
     let limits = Limits {
         connections: CONNECTIONS,
-        reads: READS,
+        turn: TURN,
     };
     let mut server: EventServer<I, _, _> = EventServer::new(
         rt.alloc(),

@@ -1,5 +1,5 @@
 -- What the polled driver of a connection promises.
-use Rattle.std.specs.Prelude.{◌≡◌, ◌≢◌, ◌⊎◌, ℕ, ◌+◌, ◌<◌, ◌≤◌, List, [], ◌++◌, length, Bool, true, IsTrue, Result, Ok, Err}
+use Rattle.std.specs.Prelude.{◌≡◌, ◌≢◌, ◌⊎◌, ℕ, ◌+◌, ◌-◌, ◌<◌, ◌≤◌, Option, Some, None, List, [], ◌++◌, length, Bool, true, IsTrue, Result, Ok, Err}
 use Rattle.modbus_link.specs.declared.polled.Polled.{Polled}
 use Rattle.modbus_link.specs.declared.polled.Polled.TheVariants.{Ready, Pending}
 use Rattle.modbus_link.specs.declared.outside.Cut.{Cut}
@@ -10,6 +10,8 @@ use Rattle.modbus_link.specs.Reads.{totals, HaveRooms, Spends}
 use Rattle.modbus_server.specs.declared.error.ProcessError.{ProcessError}
 use Rattle.modbus_server.specs.declared.error.ProcessError.TheVariants.{ReadFault, WriteFault, NoMemory}
 use Rattle.modbus_server.specs.declared.error.Step.{Step}
+use Rattle.modbus_server.specs.declared.error.PolledTurn.{PolledTurn}
+use Rattle.modbus_server.specs.declared.error.PolledTurn.TheVariants.{Waiting, Spent, Over}
 use Rattle.modbus_server.specs.Framing.{Framing}
 use Rattle.modbus_service.specs.Answering.{Answering}
 use Rattle.modbus_server.specs.Exchanges.{Exchange, Run}
@@ -62,6 +64,8 @@ pub record Paused (F : Framing) {S : Type 0} (A : Answering S) (old new : State)
       → Stands F (past behind.bytes behind.cuts (behind.written ++ sent) (behind.exchanges ++ fresh)) new.held new.waiting
   pub is_open : new.is_open ≡ true
   pub rests : Rests F new
+  -- it asked the service about one message at most
+  pub few : length fresh ≤ 1
 
 -- one step, or as much of it as the link was ready for
 abbrev pub PollSteps : (F : Framing) → {S : Type 0} → Answering S → State → State → Moment S → Moment S → Bool → Result (Polled Step) ProcessError → Type 0
@@ -113,9 +117,9 @@ abbrev pub EndsPolled : Polled (Result (Unit {0}) ProcessError) → List ℕ →
 EndsPolled Pending left = Unit {0}
 EndsPolled (Ready result) left = EndsRead result left
 
--- What one poll promises: it read and wrote these bytes, the service went on by these exchanges, and for all that the server stood for
--- before it, it stands for that and these after it, or ended so.
-pub record PolledTo (F : Framing) {S : Type 0} (A : Answering S) (old new : PolledProcessState) (before after : Moment S)
+-- What one poll promises, wherever it stops: it read and wrote these bytes, the service went on by these exchanges, and for all that the
+-- server stood for before it, it stands for that and these after it, or ended so.
+pub record Polls (F : Framing) {S : Type 0} (A : Answering S) (old new : PolledProcessState) (before after : Moment S)
     (result : Polled (Result (Unit {0}) ProcessError)) : Type 0 where
   pub fed : List ℕ
   pub made : List Cut
@@ -126,12 +130,42 @@ pub record PolledTo (F : Framing) {S : Type 0} (A : Answering S) (old new : Poll
   pub run : Run F A before.service fresh ends
   pub goes_on : (behind : PolledPast F) → PollStands F behind old → PollsAs F A (polled_on behind fed made sent fresh) ends after.service new result
   pub is_open : new.connection.is_open ≡ is_pending result
-  pub rests : result ≡ Pending → Rests F new.connection
   -- it reads only once all that waited is written
   pub writes_first : fed ≢ [] → IsFront old.connection.waiting sent
   pub ended : IsTrue before.outside.input.told → EndsPolled result after.outside.input.left
   pub read_fault : result ≡ Ready (Err ReadFault) → Rose before.outside.input.faults after.outside.input.faults
   pub write_fault : result ≡ Ready (Err WriteFault) → Rose before.outside.output.faults after.outside.output.faults
+
+-- What a poll promises that stops only at the link: where it is not over, it can't go on with no more of the link.
+pub record PolledTo (F : Framing) {S : Type 0} (A : Answering S) (old new : PolledProcessState) (before after : Moment S)
+    (result : Polled (Result (Unit {0}) ProcessError)) : Type 0 where
+  pub polls : Polls F A old new before after result
+  pub rests : result ≡ Pending → Rests F new.connection
+
+-- a turn as a poll: one whose messages are used up is not over
+abbrev pub poll_of : PolledTurn → Polled (Result (Unit {0}) ProcessError)
+poll_of Waiting = Pending
+poll_of Spent = Pending
+poll_of (Over result) = Ready result
+
+-- of a limit, where there is one, and how many messages were taken: these are no more
+abbrev pub IsWithin : Option ℕ → ℕ → Type 0
+IsWithin None count = Unit {0}
+IsWithin (Some limit) count = count ≤ limit
+
+-- there is a limit, and as many messages were taken
+abbrev pub IsLimit : Option ℕ → ℕ → Type 0
+IsLimit None count = ⊥
+IsLimit (Some limit) count = count ≡ limit
+
+-- What a turn promises that takes so many messages at most, where there is a limit, each in one exchange with the service. It stops at the
+-- link, which it can't go on without; or where the messages are used up, just these; or it is over.
+pub record TurnsTo (F : Framing) {S : Type 0} (A : Answering S) (limit : Option ℕ) (old new : PolledProcessState) (before after : Moment S)
+    (turn : PolledTurn) : Type 0 where
+  pub polls : Polls F A old new before after (poll_of turn)
+  pub few : IsWithin limit (length polls.fresh)
+  pub spent : turn ≡ Spent → IsLimit limit (length polls.fresh)
+  pub rests : turn ≡ Waiting → Rests F new.connection
 
 -- What polls did that came to an end, over the link of all of them, which was so at first, whatever else the service was asked between them:
 -- all that a call to the end does, but that these exchanges are not a run of the service.
@@ -153,6 +187,21 @@ CompletesAfter F A behind ends first last result = IsTrue first.input.told
 pub record PollWaits (idle idle' : ℕ) (result : Polled (Result (Unit {0}) ProcessError)) : Type 0 where
   pub waited : result ≡ Pending → Rose idle idle'
   pub later : idle ≤ idle'
+
+-- the same of a turn
+pub record TurnWaits (idle idle' : ℕ) (turn : PolledTurn) : Type 0 where
+  pub waited : turn ≡ Waiting → Rose idle idle'
+  pub later : idle ≤ idle'
+
+-- a message may be taken: there is no limit, or some are left
+abbrev pub AllowsMore : Option ℕ → Type 0
+AllowsMore None = Unit {0}
+AllowsMore (Some left) = 0 < left
+
+-- how many messages are left once one more was taken
+abbrev pub one_fewer : Option ℕ → Option ℕ
+one_fewer None = None
+one_fewer (Some left) = Some (left - 1)
 
 -- the promises of a call to the end, where a poll ended
 abbrev pub RanIfReady : (F : Framing) → {S : Type 0} → Answering S → ℕ → Moment S → Moment S → Polled (Result (Unit {0}) ProcessError) → Type 0

@@ -76,6 +76,17 @@ pub enum Step {
     Ended,
 }
 
+/// How a turn of a polled connection ends.
+#[derive(Clone, Copy, Debug, PartialEq, Eq)]
+pub enum PolledTurn {
+    /// The link was not ready: the connection goes on once it may be.
+    Waiting,
+    /// As many messages were taken as the turn may take: the connection goes on, and its link may be ready.
+    Spent,
+    /// The connection was over, with this answer.
+    Over(Result<(), ProcessError>),
+}
+
 /// Why a listener does not go on.
 #[derive(Clone, Copy, Debug, PartialEq, Eq, Drop)]
 pub enum ServeError<E> {

@@ -17,7 +17,7 @@ pub mod tcp;
 mod worker;
 
 pub use crate::connection::Connection;
-pub use crate::error::{Next, NextError, ProcessError, ServeError, Step};
+pub use crate::error::{Next, NextError, PolledTurn, ProcessError, ServeError, Step};
 pub use crate::framing::{Framing, NoFault};
 pub use crate::listener::{Server, accept_tcp_connection, serve_acceptor, serve_in_scope};
 pub use crate::piece::serve_piece;

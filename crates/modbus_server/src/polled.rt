@@ -1,11 +1,11 @@
 //! A server over a link that may not be ready, which goes on where it stopped.
-ghost use Rattle.std.specs.Prelude.{◌≡◌, [], IfOk, IsTrue};
-ghost use Rattle.modbus_server.specs.Polled.{polled, PollWaits, PolledTo, RunsWhole};
+ghost use Rattle.std.specs.Prelude.{◌≡◌, ◌≢◌, [], false, IfOk, IsTrue, Some};
+ghost use Rattle.modbus_server.specs.Polled.{polled, poll_of, AllowsMore, PollWaits, PolledTo, RunsWhole, TurnsTo, TurnWaits, one_fewer};
 ghost use Rattle.modbus_server.specs.Moment.{moment};
 
 use crate::connection::Connection;
 use crate::drive::{poll_step, send};
-use crate::error::{ProcessError, Step};
+use crate::error::{PolledTurn, ProcessError, Step};
 use crate::framing::Framing;
 use crate::laws::clean_lines_are_served;
 use modbus_link::{Polled, PolledLink};
@@ -13,38 +13,73 @@ use modbus_service::Answerer;
 use std::alloc::{AllocError, Global};
 use std::marker::Model;
 
-/// Writes what waits, and then takes one step after another, as far as the link is ready.
+// Whether there is a limit, and no message is left.
+fn are_used_up(messages: Option<u64>) -> bool
+    ensures none { IsTrue result → messages ≡ Some 0 }
+    ensures more { result ≡ false → AllowsMore messages }
+{
+    matches!(messages, Some(0))
+}
+
+// One message fewer, where there is a limit that allows one.
+fn take_one(messages: Option<u64>) -> Option<u64>
+    requires { AllowsMore messages }
+    ensures { result ≡ one_fewer messages }
+{
+    match messages {
+        Some(left) => Some(left - 1),
+        None => None,
+    }
+}
+
+/// Writes what waits, and then takes one step after another, as far as the link is ready, and up to the limit of messages.
 fn poll_connection<I: Framing, L: PolledLink, V: Answerer>(
     connection: &mut Connection<I>,
     left: &mut u64,
+    mut messages: Option<u64>,
     alloc: Global,
     link: &mut L,
     service: &mut V,
-) -> Polled<Result<(), ProcessError>>
+) -> PolledTurn
     requires { IsTrue connection.old.is_open }
-    ensures { PolledTo I.framing V.answering (polled connection.old left.old)
+    ensures { TurnsTo I.framing V.answering messages (polled connection.old left.old)
         (polled connection.new left.new) (moment service.old (L.input link.old) (L.output link.old))
         (moment service.new (L.input link.new) (L.output link.new)) result
-        × PollWaits (L.not_ready link.old) (L.not_ready link.new) result }
+        × TurnWaits (L.not_ready link.old) (L.not_ready link.new) result }
 {
     match send(connection, link) {
-        Err(error) => return Polled::Ready(Err(error)),
-        Ok(Polled::Pending) => return Polled::Pending,
+        Err(error) => return PolledTurn::Over(Err(error)),
+        Ok(Polled::Pending) => return PolledTurn::Waiting,
         Ok(Polled::Ready(_)) => {}
     }
     'steps: loop {
+        if are_used_up(messages) {
+            return PolledTurn::Spent;
+        }
         match poll_step(connection, alloc, link, service, *left > 0) {
-            Err(error) => return Polled::Ready(Err(error)),
-            Ok(Polled::Pending) => return Polled::Pending,
+            Err(error) => return PolledTurn::Over(Err(error)),
+            Ok(Polled::Pending) => return PolledTurn::Waiting,
             Ok(Polled::Ready(Step::Hungry)) => {
                 connection.close();
-                return Polled::Ready(Err(ProcessError::TurnLimit));
+                return PolledTurn::Over(Err(ProcessError::TurnLimit));
             }
-            Ok(Polled::Ready(Step::Ended)) => return Polled::Ready(Ok(())),
+            Ok(Polled::Ready(Step::Ended)) => return PolledTurn::Over(Ok(())),
             Ok(Polled::Ready(Step::MoreRead)) => *left -= 1,
-            Ok(Polled::Ready(Step::Answered)) => {}
-            Ok(Polled::Ready(Step::Silent)) => {}
+            Ok(Polled::Ready(Step::Answered)) => messages = take_one(messages),
+            Ok(Polled::Ready(Step::Silent)) => messages = take_one(messages),
         }
+    }
+}
+
+// How a turn without a limit ends.
+fn without_limit(turn: PolledTurn) -> Polled<Result<(), ProcessError>>
+    requires { turn ≢ PolledTurn.Spent }
+    ensures { result ≡ poll_of turn }
+{
+    match turn {
+        PolledTurn::Waiting => Polled::Pending,
+        PolledTurn::Spent => unreachable!(),
+        PolledTurn::Over(answer) => Polled::Ready(answer),
     }
 }
 
@@ -113,9 +148,45 @@ impl<I: Framing> PolledProcess<I> {
             (moment service.new (L.input link.new) (L.output link.new)) result }
     {
         clean_lines_are_served::<I, V>();
+        let turn = poll_connection(
+            &mut self.connection,
+            &mut self.left,
+            None,
+            self.alloc,
+            link,
+            service,
+        );
+        without_limit(turn)
+    }
+
+    /// Serves the link as `poll` does, but for no more messages than these: those that were answered, with those that nobody answers, as a
+    /// broadcast. So a peer that sends many at once does not keep others waiting.
+    ///
+    /// The reply to the last of them is written before it ends for their count, and `Waiting` comes only where the link was not ready. All
+    /// turns together, and polls between them, serve the input as one call of `serve_link` does.
+    ///
+    /// # Errors
+    /// Those of `poll`, in `Over`.
+    pub fn poll_turn<L: PolledLink, V: Answerer>(
+        &mut self,
+        link: &mut L,
+        service: &mut V,
+        messages: u64,
+    ) -> PolledTurn
+        requires { IsTrue self.old.connection.is_open }
+        ensures turn { TurnsTo I.framing V.answering (Some messages) self.old self.new
+            (moment service.old (L.input link.old) (L.output link.old))
+            (moment service.new (L.input link.new) (L.output link.new)) result }
+        ensures waits { TurnWaits (L.not_ready link.old) (L.not_ready link.new) result }
+        ensures ran { RunsWhole I.framing V.answering self.old
+            (moment service.old (L.input link.old) (L.output link.old))
+            (moment service.new (L.input link.new) (L.output link.new)) (poll_of result) }
+    {
+        clean_lines_are_served::<I, V>();
         poll_connection(
             &mut self.connection,
             &mut self.left,
+            Some(messages),
             self.alloc,
             link,
             service,

@@ -1,8 +1,10 @@
-use Rattle.std.proofs.Common.{◌≡◌, ◌∙◌, sym, ap, ℕ}
+use Rattle.std.proofs.Common.{◌≡◌, ◌∙◌, refl, sym, ap, ℕ}
 use Rattle.std.specs.declared.alloc.AllocError.{AllocError}
 use Rattle.modbus_link.specs.Line.{meaning_of}
 use Rattle.slab.specs.Slab.{Slab, get}
 use Rattle.modbus_hub.specs.Events.{Place, no_memory}
+use Rattle.modbus_hub.specs.Seats.{is_spent_at}
+use Rattle.modbus_hub.proofs.Marks.{same_admitted}
 use Rattle.modbus_hub.proofs.Seating.{admitted, turned_away}
 use Rattle.modbus_hub.proofs.seats.Seats.admit.Goals as goal
 
@@ -24,3 +26,21 @@ pub returns-in-Err-clause-stays : goal.returns-in-Err-clause-stays
 returns-in-Err-clause-stays g c =
     rw (← c.self.view_is) (turned_away g.I.Framing.framing (meaning_of g.L.Ends.input g.L.Ends.output g.L.Ends.line) no_memory c.args.link c.self.inside.seats c.reserve.new.self
     (λ key. ap (λ (s : Slab (Place g.row.L.Denot)). get s key) c.reserve.ensures.rest_kept))
+
+pub returns-then-is_err-clause-left : goal.returns-then-is_err-clause-left
+returns-then-is_err-clause-left g c =
+    rw (← c.self.view_is) (refl, λ key. ap (λ (s : Slab (Place g.row.L.Denot)). is_spent_at (get s key)) c.reserve.ensures.rest_kept)
+
+pub returns-in-Ok-clause-left : goal.returns-in-Ok-clause-left
+returns-in-Ok-clause-left g c =
+    let same : (key : ℕ) → get c.reserve.new.self key ≡ get c.self.inside.seats key = λ key. ap (λ (s : Slab (Place g.row.L.Denot)). get s key) c.reserve.ensures.rest_kept in
+    let u = c.insert_reserved.ensures.updates in
+    rw (← c.self.view_is) (
+      refl,
+      same_admitted c.self.inside.seats c.insert_reserved.new.self c.insert_reserved.result (ap is_spent_at u.changed ∙ c.in-Ok.ensures.spent)
+          (sym (same c.insert_reserved.result) ∙ c.insert_reserved.ensures.was_vacant) (λ other differs. u.others other differs ∙ same other),
+    )
+
+pub returns-in-Err-clause-left : goal.returns-in-Err-clause-left
+returns-in-Err-clause-left g c =
+    rw (← c.self.view_is) (refl, λ key. ap (λ (s : Slab (Place g.row.L.Denot)). is_spent_at (get s key)) c.reserve.ensures.rest_kept)

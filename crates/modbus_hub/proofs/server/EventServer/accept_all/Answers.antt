@@ -1,7 +1,8 @@
 use Rattle.std.proofs.Common.{refl, arith, ◌∙◌, ◌+◌, true, false}
 use Rattle.modbus_link.specs.Line.{meaning_of}
-use Rattle.modbus_hub.specs.Turns.{AcceptsNext, AcceptsAsked}
+use Rattle.modbus_hub.specs.Turns.{AcceptsNext, AcceptsUpTo}
 use Rattle.modbus_hub.proofs.Counting.{within_both}
+use Rattle.modbus_hub.proofs.Marks.{same_both}
 use Rattle.modbus_hub.proofs.Seating.{stay_as, stay_both, stay_same}
 use Rattle.modbus_hub.proofs.Rounding.{AcceptsSome, accepts_none, accepts_more, accepts_last, accepts_many}
 use Rattle.modbus_hub.proofs.server.EventServer.accept_all.Goals as goal
@@ -16,7 +17,8 @@ peers-init g c =
       omega arith,
       stay_same g.I.Framing.framing (meaning_of g.A.Link.Ends.input g.A.Link.Ends.output g.A.Link.Ends.line)
           (AcceptsSome accepts faults 0 first first) first.seats.seats first.seats.seats (λ key. refl) (λ history all. accepts_none accepts faults first history),
-      λ marks. marks,
+      (refl, λ key. refl),
+      omega arith,
     )
 
 pub returns-then-not-accept_one-clause-stays : goal.returns-then-not-accept_one-clause-stays
@@ -27,10 +29,10 @@ returns-then-not-accept_one-clause-stays g c =
     let now = c.peers.self in
     let next = c.accept_one.new.self in
     stay_both g.I.Framing.framing (meaning_of g.A.Link.Ends.input g.A.Link.Ends.output g.A.Link.Ends.line)
-    (AcceptsSome accepts faults c.peers.counter first now) (AcceptsNext accepts faults false now next) (AcceptsAsked accepts faults first next)
+    (AcceptsSome accepts faults c.peers.counter first now) (AcceptsNext accepts faults false now next) (AcceptsUpTo accepts faults false first next)
     first.seats.seats now.seats.seats next.seats.seats c.peers.invariant.3
     c.if-not-accept_one.ensures.stays
-    (accepts_last accepts faults c.peers.counter first now next)
+    (λ history xs ys some last. accepts_last accepts faults c.peers.counter first now next history xs ys (omega (arith, c.peers-test.true)) some last)
 
 pub returns-clause-stays : goal.returns-clause-stays
 returns-clause-stays g c =
@@ -39,8 +41,8 @@ returns-clause-stays g c =
     let first = c.args.self.now in
     let now = c.peers.self in
     stay_as g.I.Framing.framing (meaning_of g.A.Link.Ends.input g.A.Link.Ends.output g.A.Link.Ends.line)
-    (AcceptsSome accepts faults c.peers.counter first now) (AcceptsAsked accepts faults first now) first.seats.seats now.seats.seats c.peers.invariant.3
-    (λ history more some. accepts_many accepts faults c.peers.counter first now history more (omega (arith, c.peers-test.false)) some)
+    (AcceptsSome accepts faults c.peers.counter first now) (AcceptsUpTo accepts faults true first now) first.seats.seats now.seats.seats c.peers.invariant.3
+    (λ history more some. accepts_many accepts faults c.peers.counter first now history more (omega (arith, c.peers-test.false, c.peers.invariant.5)) some)
 
 pub peers-preserved : goal.peers-preserved
 peers-preserved g c =
@@ -57,5 +59,6 @@ peers-preserved g c =
           first.seats.seats now.seats.seats next.seats.seats c.peers.invariant.3
           c.if-not-accept_one.ensures.stays
           (accepts_more accepts faults c.peers.counter first now next),
-      λ marks. c.accept_one.ensures.marks (c.peers.invariant.4 marks),
+      same_both first.seats now.seats next.seats c.peers.invariant.4 c.accept_one.ensures.left,
+      omega (arith, c.peers-test.true),
     )

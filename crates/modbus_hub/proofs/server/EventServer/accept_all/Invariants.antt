@@ -1,6 +1,7 @@
 use Rattle.std.proofs.Common.{◌≡◌, ◌≤◌}
 use Rattle.modbus_link.specs.Line.{meaning_of}
-use Rattle.modbus_hub.specs.Seats.{KeepsLimit, KeepsMarks, SeatsStay}
+use Rattle.modbus_hub.specs.Seats.{KeepsLimit, SameLeft, SeatsStay}
+use Rattle.modbus_hub.specs.Turns.{accepts_a_round}
 use Rattle.modbus_hub.proofs.Rounding.{AcceptsSome}
 use Rattle.modbus_hub.proofs.server.EventServer.accept_all.Given as goal
 
@@ -10,4 +11,5 @@ invariant-peers g l = KeepsLimit l.fn.self.seats l.self.seats
     × (g.S.Readiness.faults l.fn.self.readiness ≤ g.S.Readiness.faults l.self.readiness)
     × SeatsStay g.I.Framing.framing (meaning_of g.A.Link.Ends.input g.A.Link.Ends.output g.A.Link.Ends.line)
     (AcceptsSome g.A.PolledAcceptor.accepts g.S.Readiness.faults l.counter l.fn.self l.self) l.fn.self.seats.seats l.self.seats.seats
-    × KeepsMarks l.fn.self.seats l.self.seats
+    × SameLeft l.fn.self.seats l.self.seats
+    × (l.counter ≤ accepts_a_round)

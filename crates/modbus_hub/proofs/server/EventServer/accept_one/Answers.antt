@@ -15,15 +15,15 @@ returns-then-is_full-clause-stays g c =
     let full : now.seats.most ≤ slab_len now.seats.seats = search rules in
     stay_same g.I.Framing.framing (meaning_of g.A.Link.Ends.input g.A.Link.Ends.output g.A.Link.Ends.line)
     (AcceptsNext accepts faults false now now) now.seats.seats now.seats.seats (λ key. refl)
-    (λ history all. ((accepts_none accepts faults now history).0, λ asked. inr (asked, inl full)))
+    (λ history all. ((accepts_none accepts faults now history).0, refl, λ asked. inr (asked, inl full)))
 
 pub returns-in-Ok-Ready-clause-stays : goal.returns-in-Ok-Ready-clause-stays
 returns-in-Ok-Ready-clause-stays g c =
     let meaning = meaning_of g.A.Link.Ends.input g.A.Link.Ends.output g.A.Link.Ends.line in
     let accepts = g.A.PolledAcceptor.accepts in
     let faults = g.S.Readiness.faults in
-    let first = state c.self.inside.acceptor c.self.inside.readiness c.self.inside.seats c.self.inside.unseated c.self.inside.is_asked in
-    let polled = state c.poll_accept.new.self c.self.inside.readiness c.self.inside.seats c.self.inside.unseated c.self.inside.is_asked in
+    let first = state c.self.inside.acceptor c.self.inside.readiness c.self.inside.seats c.self.inside.unseated c.self.inside.is_asked c.self.inside.is_crowded in
+    let polled = state c.poll_accept.new.self c.self.inside.readiness c.self.inside.seats c.self.inside.unseated c.self.inside.is_asked c.self.inside.is_crowded in
     let last = c.admit.new.self in
     rw (← c.self.view_is) (stay_as g.I.Framing.framing meaning (Brings faults c.in-Ok-Ready.link polled last) (AcceptsNext accepts faults true first last)
     c.self.inside.seats.seats last.seats.seats c.admit.ensures.stays
@@ -42,12 +42,13 @@ returns-in-Ok-Pending-clause-stays g c =
     let meaning = meaning_of g.A.Link.Ends.input g.A.Link.Ends.output g.A.Link.Ends.line in
     let accepts = g.A.PolledAcceptor.accepts in
     let faults = g.S.Readiness.faults in
-    let first = state c.self.inside.acceptor c.self.inside.readiness c.self.inside.seats c.self.inside.unseated c.self.inside.is_asked in
-    let polled = state c.poll_accept.new.self c.self.inside.readiness c.self.inside.seats c.self.inside.unseated false in
+    let first = state c.self.inside.acceptor c.self.inside.readiness c.self.inside.seats c.self.inside.unseated c.self.inside.is_asked c.self.inside.is_crowded in
+    let polled = state c.poll_accept.new.self c.self.inside.readiness c.self.inside.seats c.self.inside.unseated false c.self.inside.is_crowded in
     rw (← c.self.view_is) (stay_same g.I.Framing.framing meaning (AcceptsNext accepts faults false first polled)
     c.self.inside.seats.seats c.self.inside.seats.seats (λ key. refl)
     (λ history all. (
       (nobody accepts faults first polled history (Ok Pending) refl (rw c.in-Ok-Pending.field-0-is at c.in-Ok-Pending.ensures.accepts) (omega arith) refl, tt),
+      refl,
       λ asked. inl (Ok Pending ∷ [], (polled.acceptor, [], rw c.in-Ok-Pending.field-0-is at c.in-Ok-Pending.ensures.accepts, refl, (refl, refl)), tt),
     )))
 
@@ -56,14 +57,15 @@ returns-in-Err-clause-stays g c =
     let meaning = meaning_of g.A.Link.Ends.input g.A.Link.Ends.output g.A.Link.Ends.line in
     let accepts = g.A.PolledAcceptor.accepts in
     let faults = g.S.Readiness.faults in
-    let first = state c.self.inside.acceptor c.self.inside.readiness c.self.inside.seats c.self.inside.unseated c.self.inside.is_asked in
-    let polled = state c.poll_accept.new.self c.self.inside.readiness c.self.inside.seats c.self.inside.unseated c.self.inside.is_asked in
+    let first = state c.self.inside.acceptor c.self.inside.readiness c.self.inside.seats c.self.inside.unseated c.self.inside.is_asked c.self.inside.is_crowded in
+    let polled = state c.poll_accept.new.self c.self.inside.readiness c.self.inside.seats c.self.inside.unseated c.self.inside.is_asked c.self.inside.is_crowded in
     rw (← c.self.view_is) (stay_same g.I.Framing.framing meaning (AcceptsNext accepts faults false first polled)
     c.self.inside.seats.seats c.self.inside.seats.seats (λ key. refl)
     (λ history all. (
       (nobody accepts faults first polled history (Err c.in-Err.field-0) refl c.in-Err.ensures.accepts (omega arith) refl, tt),
+      refl,
       λ asked. inr (asked, inr (inl (Err c.in-Err.field-0 ∷ [], (polled.acceptor, [], c.in-Err.ensures.accepts, refl, (refl, refl)), tt))),
     )))
 
-pub returns-in-Ok-Ready-clause-marks : goal.returns-in-Ok-Ready-clause-marks
-returns-in-Ok-Ready-clause-marks g c = rw (← c.self.view_is) c.admit.ensures.marks
+pub returns-in-Ok-Ready-clause-left : goal.returns-in-Ok-Ready-clause-left
+returns-in-Ok-Ready-clause-left g c = rw (← c.self.view_is) c.admit.ensures.left

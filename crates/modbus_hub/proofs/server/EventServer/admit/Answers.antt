@@ -14,8 +14,8 @@ returns-in-Err-clause-stays g c =
     let meaning = meaning_of g.A.Link.Ends.input g.A.Link.Ends.output g.A.Link.Ends.line in
     let faults = g.S.Readiness.faults in
     let seats = c.self.inside.seats in
-    let first = state c.self.inside.acceptor c.self.inside.readiness seats c.self.inside.unseated c.self.inside.is_asked in
-    let last = state c.self.inside.acceptor c.watch.new.self seats c.self.inside.unseated c.self.inside.is_asked in
+    let first = state c.self.inside.acceptor c.self.inside.readiness seats c.self.inside.unseated c.self.inside.is_asked c.self.inside.is_crowded in
+    let last = state c.self.inside.acceptor c.watch.new.self seats c.self.inside.unseated c.self.inside.is_asked c.self.inside.is_crowded in
     rw (← c.self.view_is) (stay_as g.I.Framing.framing meaning (Refuses no_watch c.args.link) (Brings faults c.args.link first last)
     seats.seats seats.seats
     (turned_away g.I.Framing.framing meaning no_watch c.args.link seats.seats seats.seats (λ key. refl))
@@ -28,8 +28,8 @@ returns-in-Ok-admit-clause-stays g c =
     let seats = c.self.inside.seats in
     let now = c.admit.new.self in
     let link = c.watch.new.link in
-    let first = state c.self.inside.acceptor c.self.inside.readiness seats c.self.inside.unseated c.self.inside.is_asked in
-    let last = state c.self.inside.acceptor c.watch.new.self now c.self.inside.unseated c.self.inside.is_asked in
+    let first = state c.self.inside.acceptor c.self.inside.readiness seats c.self.inside.unseated c.self.inside.is_asked c.self.inside.is_crowded in
+    let last = state c.self.inside.acceptor c.watch.new.self now c.self.inside.unseated c.self.inside.is_asked c.self.inside.is_crowded in
     rw (← c.self.view_is) (stay_as g.I.Framing.framing meaning (Admits {E = AllocError} link (Ok c.in-Ok-admit._key)) (Brings faults c.args.link first last)
     seats.seats now.seats c.in-Ok-admit.ensures.stays
     (λ history more e. brings_seat faults first last c.in-Ok-admit._key c.args.link history more c.watch.ensures.later refl
@@ -42,15 +42,15 @@ returns-in-Err-admit-clause-stays g c =
     let seats = c.self.inside.seats in
     let now = c.admit.new.self in
     let link = c.watch.new.link in
-    let first = state c.self.inside.acceptor c.self.inside.readiness seats c.self.inside.unseated c.self.inside.is_asked in
-    let last = state c.self.inside.acceptor c.watch.new.self now c.saturating_add-self-inside.result c.self.inside.is_asked in
+    let first = state c.self.inside.acceptor c.self.inside.readiness seats c.self.inside.unseated c.self.inside.is_asked c.self.inside.is_crowded in
+    let last = state c.self.inside.acceptor c.watch.new.self now c.saturating_add-self-inside.result c.self.inside.is_asked c.self.inside.is_crowded in
     rw (← c.self.view_is) (stay_as g.I.Framing.framing meaning (Admits {E = AllocError} link (Err c.in-Err-admit.field-0)) (Brings faults c.args.link first last)
     seats.seats now.seats c.in-Err-admit.ensures.stays
     (λ history more e. brings_unseated faults first last c.args.link history more c.watch.ensures.later c.saturating_add-self-inside.ensures
     (e ∙ ap (λ (l : g.row.A-Link.Denot). refused no_memory l ∷ []) c.watch.ensures.link)))
 
-pub returns-in-Ok-admit-clause-marks : goal.returns-in-Ok-admit-clause-marks
-returns-in-Ok-admit-clause-marks g c = rw (← c.self.view_is) c.admit.ensures.marks
+pub returns-in-Ok-admit-clause-left : goal.returns-in-Ok-admit-clause-left
+returns-in-Ok-admit-clause-left g c = rw (← c.self.view_is) c.admit.ensures.left
 
-pub returns-in-Err-admit-clause-marks : goal.returns-in-Err-admit-clause-marks
-returns-in-Err-admit-clause-marks g c = rw (← c.self.view_is) c.admit.ensures.marks
+pub returns-in-Err-admit-clause-left : goal.returns-in-Err-admit-clause-left
+returns-in-Err-admit-clause-left g c = rw (← c.self.view_is) c.admit.ensures.left

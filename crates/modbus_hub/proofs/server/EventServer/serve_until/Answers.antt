@@ -14,7 +14,7 @@ rounds-init g c = (
   (refl, refl, λ within. within),
   omega arith,
   omega arith,
-  go_same g.I.Framing.framing g.V.Answerer.answering (polled_by (meaning_of g.A.Link.Ends.input g.A.Link.Ends.output g.A.Link.Ends.line) g.A.Link.PolledLink.not_ready c.args.self.now.seats.reads)
+  go_same g.I.Framing.framing g.V.Answerer.answering (polled_by (meaning_of g.A.Link.Ends.input g.A.Link.Ends.output g.A.Link.Ends.line) g.A.Link.PolledLink.not_ready c.args.self.now.seats.limits)
       (TellsRounds g.A.PolledAcceptor.accepts g.S.Readiness.faults {R = Unit {0}} g.S.Readiness.found c.args.self.now c.args.self.now (Ok tt)) c.args.self.now.seats.seats c.args.service.now
       (λ history. (none_come g.A.PolledAcceptor.accepts g.S.Readiness.faults c.args.self.now c.args.self.now history [] refl (omega arith) refl refl, ([], (refl, refl)))),
   λ marks. marks,
@@ -31,11 +31,11 @@ rounds-preserved g c =
       within_both first.seats now.seats next.seats c.rounds.invariant.0 c.round.ensures.limit,
       omega (arith, c.rounds.invariant.1, c.round.ensures.later),
       omega (arith, c.rounds.invariant.2, c.is_set.ensures.later),
-      go_both g.I.Framing.framing g.V.Answerer.answering (polled_by (meaning_of g.A.Link.Ends.input g.A.Link.Ends.output g.A.Link.Ends.line) g.A.Link.PolledLink.not_ready c.args.self.now.seats.reads)
+      go_both g.I.Framing.framing g.V.Answerer.answering (polled_by (meaning_of g.A.Link.Ends.input g.A.Link.Ends.output g.A.Link.Ends.line) g.A.Link.PolledLink.not_ready c.args.self.now.seats.limits)
           (TellsRounds accepts faults {R = Unit {0}} found first now (Ok tt)) (TellsRound accepts faults found now next (Ok tt)) (TellsRounds accepts faults {R = Unit {0}} found first next (Ok tt))
           first.seats.seats now.seats.seats next.seats.seats c.args.service.now c.rounds.service c.round.new.service
           c.rounds.invariant.3
-          (go_under g.I.Framing.framing g.V.Answerer.answering (meaning_of g.A.Link.Ends.input g.A.Link.Ends.output g.A.Link.Ends.line) g.A.Link.PolledLink.not_ready now.seats.reads first.seats.reads (TellsRound accepts faults found now next (Ok tt)) now.seats.seats next.seats.seats c.rounds.service c.round.new.service c.rounds.invariant.0.0 c.in-Ok.ensures.goes_on) (rounds_more accepts faults found first now next),
+          (go_under g.I.Framing.framing g.V.Answerer.answering (meaning_of g.A.Link.Ends.input g.A.Link.Ends.output g.A.Link.Ends.line) g.A.Link.PolledLink.not_ready now.seats.limits first.seats.limits (TellsRound accepts faults found now next (Ok tt)) now.seats.seats next.seats.seats c.rounds.service c.round.new.service c.rounds.invariant.0.0 c.in-Ok.ensures.goes_on) (rounds_more accepts faults found first now next),
       λ marks. c.round.ensures.marks (c.rounds.invariant.4 marks),
     )
 
@@ -48,8 +48,8 @@ returns-in-Err-clause-goes_on g c =
     let first = c.args.self.now in
     let now = c.rounds.self in
     let next = c.round.new.self in
-    go_both g.I.Framing.framing g.V.Answerer.answering (polled_by (meaning_of g.A.Link.Ends.input g.A.Link.Ends.output g.A.Link.Ends.line) g.A.Link.PolledLink.not_ready c.args.self.now.seats.reads)
+    go_both g.I.Framing.framing g.V.Answerer.answering (polled_by (meaning_of g.A.Link.Ends.input g.A.Link.Ends.output g.A.Link.Ends.line) g.A.Link.PolledLink.not_ready c.args.self.now.seats.limits)
     (TellsRounds accepts faults {R = Unit {0}} found first now (Ok tt)) (TellsRound accepts faults found now next (Err failed)) (TellsRounds accepts faults {R = Terminated} found first next (Err failed))
     first.seats.seats now.seats.seats next.seats.seats c.args.service.now c.rounds.service c.round.new.service
     c.rounds.invariant.3
-    (go_under g.I.Framing.framing g.V.Answerer.answering (meaning_of g.A.Link.Ends.input g.A.Link.Ends.output g.A.Link.Ends.line) g.A.Link.PolledLink.not_ready now.seats.reads first.seats.reads (TellsRound accepts faults found now next (Err failed)) now.seats.seats next.seats.seats c.rounds.service c.round.new.service c.rounds.invariant.0.0 c.in-Err.ensures.goes_on) (rounds_fail accepts faults found Terminated failed first now next)
+    (go_under g.I.Framing.framing g.V.Answerer.answering (meaning_of g.A.Link.Ends.input g.A.Link.Ends.output g.A.Link.Ends.line) g.A.Link.PolledLink.not_ready now.seats.limits first.seats.limits (TellsRound accepts faults found now next (Err failed)) now.seats.seats next.seats.seats c.rounds.service c.round.new.service c.rounds.invariant.0.0 c.in-Err.ensures.goes_on) (rounds_fail accepts faults found Terminated failed first now next)
