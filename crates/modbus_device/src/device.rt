@@ -1,4 +1,7 @@
 //! The units of the device.
+ghost use Rattle.std.specs.Prelude.{◌≡◌, IfOk, IfErr};
+ghost use Rattle.modbus_files.specs.Files.{files_at_start};
+ghost use Rattle.modbus_device.specs.Held.{HasFiles};
 
 use crate::files::FileSizes;
 use crate::setting::Setting;
@@ -183,7 +186,13 @@ fn set_inputs(
 }
 
 /// These tables, and beside them so many files, which hold zeros.
-fn open_files(alloc: Global, sizes: FileSizes, store: RegisterStore) -> Result<Held, OpenError> {
+fn open_files(alloc: Global, sizes: FileSizes, store: RegisterStore) -> Result<Held, OpenError>
+    ensures held { IfOk result (λ held. held ≡ MaybeFiled.With (record {
+      files = files_at_start sizes.files sizes.records;
+      service = store;
+    })) }
+    ensures memory { IfErr result (λ error. error ≡ OpenError.NoMemory) }
+{
     match Files::new(alloc, sizes.files, sizes.records) {
         Ok(files) => Ok(MaybeFiled::With(Filed {
             files,
@@ -194,7 +203,9 @@ fn open_files(alloc: Global, sizes: FileSizes, store: RegisterStore) -> Result<H
 }
 
 /// What the unit at this address holds at first.
-fn open_held(alloc: Global, plan: &Plan<'_>, address: SlaveId) -> Result<Held, OpenError> {
+fn open_held(alloc: Global, plan: &Plan<'_>, address: SlaveId) -> Result<Held, OpenError>
+    ensures { IfOk result (λ held. HasFiles plan.now.files held) }
+{
     let mut store = open_store(alloc, plan.entries)?;
     set_inputs(&mut store, address, plan.settings)?;
     match plan.files {
@@ -204,7 +215,9 @@ fn open_held(alloc: Global, plan: &Plan<'_>, address: SlaveId) -> Result<Held, O
 }
 
 /// The unit of the device at this address.
-fn open_unit(alloc: Global, plan: &Plan<'_>, address: SlaveId) -> Result<Unit, OpenError> {
+fn open_unit(alloc: Global, plan: &Plan<'_>, address: SlaveId) -> Result<Unit, OpenError>
+    ensures { IfOk result (λ unit. HasFiles plan.now.files unit.service.service) }
+{
     let held = open_held(alloc, plan, address)?;
     Ok(StandardAnswers {
         service: Identified {

@@ -81,6 +81,23 @@ fn tell_echo(rt: &HostRuntime, place: LinePlace<'_>, is_told: &mut bool, has_com
     }
 }
 
+/// Tells that other bytes came in place of what was sent, where that is news.
+fn tell_collision(rt: &HostRuntime, place: LinePlace<'_>, is_told: &mut bool) {
+    if !*is_told {
+        let _ = eprintln!(rt;
+            "modbus_device: {place} gives back other bytes than were sent: two have spoken at once, or it has no echo"
+        );
+        *is_told = true;
+    }
+}
+
+/// What was told of a line.
+#[derive(Drop)]
+struct Told {
+    echo: bool,
+    collision: bool,
+}
+
 /// Serves bursts until their line ends. Where other bytes came in place of an echo, the burst that they are of is lost, and no other.
 ///
 /// # Errors
@@ -93,11 +110,16 @@ fn serve_bursts<L: CountedLink + Drop>(
 ) -> Result<(), ProcessError>
     ensures { IfErr result (λ error. IsOfNoBurst error → ⊥) }
 {
-    let mut is_told = false;
+    let mut told = Told {
+        echo: false,
+        collision: false,
+    };
     for _ in 0..u64::MAX {
         let end = process_link(rt.alloc(), bursts, device, turns_of(bursts.echo()));
-        tell_echo(rt, place, &mut is_told, bursts.has_come_back());
-        if end != Err(ProcessError::TurnLimit) && bursts.link().collision().is_empty() {
+        tell_echo(rt, place, &mut told.echo, bursts.has_come_back());
+        if !bursts.link().collision().is_empty() {
+            tell_collision(rt, place, &mut told.collision);
+        } else if end != Err(ProcessError::TurnLimit) {
             return end;
         }
     }

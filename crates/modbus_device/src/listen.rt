@@ -3,7 +3,7 @@
 use crate::device::Device;
 use mio::net::TcpListener;
 use modbus_field::stream::StreamBuffer;
-use modbus_hub::{EventServer, Limits};
+use modbus_hub::{EventServer, Limits, TurnLimits};
 use modbus_link::FlagStop;
 use modbus_ready::{MioReadiness, PolledTcpAcceptor};
 use std::alloc::AllocGlobal;
@@ -14,8 +14,11 @@ use std::time::{Clock, Duration};
 /// How many connections there are at a time, where the system has as many file descriptors.
 const CONNECTIONS: usize = 10_000;
 
-/// How many reads of a turn may give bytes.
-const READS: u64 = 16;
+/// What a connection may take before another has its turn. One read may give a score of messages.
+const TURN: TurnLimits = TurnLimits {
+    reads: 16,
+    messages: 16,
+};
 
 /// How many seconds a connection may stay that has no turn.
 const IDLE: u64 = 600;
@@ -37,7 +40,7 @@ fn open_server<R: Net + AllocGlobal>(
     }
     let limits = Limits {
         connections: CONNECTIONS,
-        reads: READS,
+        turn: TURN,
     };
     Ok(EventServer::new(rt.alloc(), acceptor, readiness, limits))
 }

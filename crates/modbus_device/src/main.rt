@@ -4,6 +4,8 @@
 //! whatever else is on the line, it goes on.
 #![tactic(auto)]
 
+ghost use Rattle.std.specs.Prelude.{◌≡◌, ◌≢◌, ◌↔◌, Err};
+
 mod device;
 mod files;
 mod line;
@@ -61,7 +63,11 @@ enum Next {
 }
 
 /// What follows where a line at this place ended so.
-fn next_after(place: LinePlace<'_>, end: Result<(), ProcessError>) -> Next {
+fn next_after(place: LinePlace<'_>, end: Result<(), ProcessError>) -> Next
+    ensures memory { (result ≡ Next.ServeOn) ↔ (end ≡ Err ProcessError.NoMemory) }
+    ensures ends { (result ≡ Next.End) ↔ ((place.entry ≡ LinePlace.Streams)
+        × (end ≢ Err ProcessError.NoMemory)) }
+{
     match (place, end) {
         (_, Err(ProcessError::NoMemory)) => Next::ServeOn,
         (LinePlace::Streams, _) => Next::End,
