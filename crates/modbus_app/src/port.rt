@@ -103,7 +103,7 @@ where
     requires error_hook { H.IsAlwaysCallable on_process_error }
     ensures { ListensAt framing on_process_error (E.output errors) (E.output result.0) result.1 }
 {
-    match bind(rt, port) {
+    match bind(rt, loopback(port)) {
         Ok(listener) => serve_bound(
             rt,
             alloc,

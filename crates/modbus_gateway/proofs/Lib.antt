@@ -6,3 +6,6 @@ pub mod Forwarding
 pub mod Exchanging
 pub mod Leading
 pub mod Owing
+pub mod Guarding
+pub mod Outlasting
+pub mod Reopening

@@ -4,3 +4,8 @@ pub mod Records
 pub mod Forwarded
 pub mod Turns
 pub mod Serial
+pub mod Rules
+pub mod Guarded
+pub mod Reopened
+pub mod Readings
+pub mod Sparing

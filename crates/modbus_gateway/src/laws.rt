@@ -5,7 +5,10 @@ ghost use Rattle.modbus_client.specs.Rtu.{rtu_heading};
 ghost use Rattle.modbus_reconnect.specs.SettleState.{line_by};
 ghost use Rattle.modbus_gateway.specs.Records.{RunsAreRecords, WantsAreRecords};
 ghost use Rattle.modbus_gateway.specs.Serial.{NothingIsOwed};
+ghost use Rattle.modbus_gateway.specs.Guarded.{GuardedRuns};
+ghost use Rattle.modbus_gateway.specs.Sparing.{SparingRuns, SparingCounts};
 
+use crate::gateway::Forwarder;
 use modbus_link::{Link, TimedLink};
 use modbus_reconnect::IdleLink;
 
@@ -22,4 +25,19 @@ pub fn runs_are_records<L: Link>()
 pub fn nothing_is_owed<L: TimedLink + IdleLink>()
     ensures { NothingIsOwed
         (line_by line_protocol silent_protocol rtu_heading (meaning_of L.input L.output L.line) L.not_ready L.looks) }
+{}
+
+/// Whatever masters ask behind rules: the line has the requests that these allow and no other, in their order, and each other request is
+/// answered by the exception of its refusal. So no function that writes reaches a line that may only be read, nor any request a unit that
+/// may not be asked; a broadcast is judged as a request for unit 0.
+pub fn only_what_is_allowed_is_sent<H, C: Forwarder>()
+    ensures { GuardedRuns H C.forwarding }
+{}
+
+/// Whatever masters ask of what spares its line the exchanges with dead slaves: the line has the requests that are not spared and no other,
+/// in their order. What is kept of each slave counts the exchanges that the line had: a slave is spared only where the last of these with
+/// it, as many as make it dead, ended with 0B.
+pub fn only_dead_slaves_are_spared<H, C: Forwarder>()
+    ensures runs { SparingRuns H C.forwarding }
+    ensures counts { SparingCounts H C.forwarding }
 {}

@@ -10,15 +10,26 @@
 
 mod answer;
 mod gateway;
+mod guarded;
 pub mod laws;
+mod reading;
+mod reopened;
+mod rules;
 mod serial;
 mod service;
 mod serving;
+mod sparing;
+mod standing;
 mod turns;
 
 pub use crate::answer::{answer_broadcast, answer_call};
 pub use crate::gateway::{Forwarder, Gateway};
+pub use crate::guarded::Guarded;
+pub use crate::reopened::{LineOpener, MayBreak, Reopened};
+pub use crate::rules::{Rules, UnitSpan, WriteSpan};
 pub use crate::serial::SerialLine;
 pub use crate::service::{LineService, LineServices, Services, ServicesOut};
 pub use crate::serving::process;
+pub use crate::sparing::Sparing;
+pub use crate::standing::SparingLimits;
 pub use crate::turns::{CONNECTIONS, Opening, SharedLine};

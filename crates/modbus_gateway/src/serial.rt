@@ -38,6 +38,13 @@ impl<L> SerialLine<L> {
     {
         SerialLine { client }
     }
+
+    /// The client of the line.
+    pub fn client(&self) -> &SerialClient<L>
+        ensures { result.now ≡ self.now }
+    {
+        &self.client
+    }
 }
 
 /// Each request is one exchange on the line: a call of the slave, or for unit 0 a request that is sent to all slaves. A line that does not

@@ -1,2 +1,3 @@
 pub mod ServingLinks
 pub mod Unspawned
+pub mod GivingServed

@@ -2,5 +2,6 @@ pub mod Reports
 pub mod Watches
 pub mod Patient
 pub mod TurnsAway
+pub mod Peers
 pub mod Port
 pub mod Listen

@@ -1,4 +1,4 @@
--- What an acceptor does that goes on after faults, and turns away the peers that there is no room for.
+-- What an acceptor does that goes on after faults, and turns away the peers that are not admitted.
 use Rattle.std.specs.Prelude.{◌≡◌, ◌⊎◌, ℕ, zero, suc, ◌+◌, ◌-◌, ◌^◌, Bool, true, false, Result, Ok, Err}
 use Rattle.std.specs.declared.net.SocketAddr.{SocketAddr}
 use Rattle.modbus_link.specs.declared.outside.Failed.{Failed}
@@ -9,17 +9,17 @@ pub record Pair (A G : Type 0) : Type 0 where
   pub acceptor : A
   pub keeper : G
 
--- what an accept, a question for room and a wait may lead to
+-- what an accept, a question whether a peer is admitted and a wait may lead to
 pub record Patience (A G K : Type 0) : Type 1 where
   pub accepts : A → Result (K × SocketAddr) Failed → A → Type 0
-  pub admits : G → Bool → G → Type 0
+  pub admits : G → SocketAddr → Bool → G → Type 0
   pub waits : G → G → Type 0
 
--- one accept that gives the caller nothing: its peer was turned away, as there was no room, and all retries are left again; or it failed
+-- one accept that gives the caller nothing: its peer was turned away, and all retries are left again; or it failed
 -- and was followed by a wait, and one retry fewer is left
 abbrev pub AcceptsNone : {A G K : Type 0} → Patience A G K → ℕ → Pair A G → ℕ → Pair A G → ℕ → Type 0
 AcceptsNone {K = K} by retries old left new now =
-    ((accepted : K × SocketAddr) × by.accepts old.acceptor (Ok accepted) new.acceptor × by.admits old.keeper false new.keeper × (now ≡ retries))
+    ((accepted : K × SocketAddr) × by.accepts old.acceptor (Ok accepted) new.acceptor × by.admits old.keeper accepted.1 false new.keeper × (now ≡ retries))
     ⊎ ((failed : Failed) × by.accepts old.acceptor (Err failed) new.acceptor × by.waits old.keeper new.keeper × (left ≡ now + 1))
 
 -- so many of these, one after another, and how many retries are left then
@@ -27,11 +27,11 @@ abbrev pub GoesOnFor : {A G K : Type 0} → Patience A G K → ℕ → ℕ → P
 GoesOnFor by retries zero old new now = (new ≡ old) × (now ≡ retries)
 GoesOnFor {A} {G} by retries (suc count) old new now = (last : Pair A G) × (left : ℕ) × GoesOnFor by retries count old last left × AcceptsNone by retries last left new now
 
--- A link is given where there was room for it. A fault is told once it came again after as many waits as there are retries, with no link
+-- A link is given whose peer was admitted. A fault is told once it came again after as many waits as there are retries, with no link
 -- between, or after as many accepts as a counter of 64 bits counts.
 abbrev pub AcceptsPatiently : {A G K : Type 0} → Patience A G K → ℕ → Pair A G → Result (K × SocketAddr) Failed → Pair A G → Type 0
 AcceptsPatiently {A} {G} by retries old (Ok accepted) new = (count : ℕ) × (last : Pair A G) × (left : ℕ) × GoesOnFor by retries count old last left
-    × by.accepts last.acceptor (Ok accepted) new.acceptor × by.admits last.keeper true new.keeper
+    × by.accepts last.acceptor (Ok accepted) new.acceptor × by.admits last.keeper accepted.1 true new.keeper
 AcceptsPatiently {A} {G} by retries old (Err failed) new = (count : ℕ) × (last : Pair A G) × (left : ℕ) × GoesOnFor by retries count old last left
     × (((left ≡ 0) × by.accepts last.acceptor (Err failed) new.acceptor × (new.keeper ≡ last.keeper)) ⊎ ((count ≡ 2 ^ 64 - 1) × (new ≡ last)))
 

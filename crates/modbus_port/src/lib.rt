@@ -1,8 +1,10 @@
 //! A port of this machine: what programs stand on that listen on one, with a thread of a scope for each connection.
 #![tactic(auto)]
 
+pub mod laws;
 mod listen;
 mod patient;
+mod peers;
 mod port;
 mod services;
 mod serving;
@@ -12,9 +14,10 @@ mod watched;
 
 pub use crate::listen::{Framing, run_listen};
 pub use crate::patient::{Keeper, PatientAcceptor};
+pub use crate::peers::{Network, Peers};
 pub use crate::port::{PortAcceptor, PortKeeper, accept_port, bind, loopback};
 pub use crate::services::Services;
-pub use crate::serving::serve_listener;
+pub use crate::serving::{serve_listener, serve_peers};
 pub use crate::telling::report;
 pub use crate::turning::TurningSpawner;
 pub use crate::watched::{WatchedAcceptor, WatchedLink};

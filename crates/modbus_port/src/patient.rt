@@ -1,5 +1,6 @@
-//! An acceptor that goes on where a fault may pass, and turns away the peers that there is no room for.
+//! An acceptor that goes on where a fault may pass, and turns away the peers that are not admitted.
 ghost use Rattle.std.specs.Prelude.{◌≡◌, Bool, Result};
+ghost use Rattle.std.specs.declared.net.SocketAddr.{SocketAddr};
 ghost use Rattle.modbus_link.specs.Listens.{tally_at_start};
 ghost use Rattle.modbus_port.specs.Patient.{PatientState, AcceptsPatiently, IsPatient};
 
@@ -9,22 +10,22 @@ use std::net::SocketAddr;
 
 /// What keeps an acceptor going.
 pub trait Keeper {
-    // what a question for room may lead to: the answer, and the keeper after it; by default nothing is said
-    ghost admits: { Self → Bool → Self → Type 0 } = { λ _ _ _. Unit {0} };
+    // what a question for a peer may lead to: the answer, and the keeper after it; by default nothing is said
+    ghost admits: { Self → SocketAddr → Bool → Self → Type 0 } = { λ _ _ _ _. Unit {0} };
 
     // what a wait may lead to; by default nothing is said
     ghost waits: { Self → Self → Type 0 } = { λ _ _. Unit {0} };
 
-    /// Whether there is room for one more link, beside the one that was just given.
-    fn has_room(&mut self) -> bool
-        ensures { admits self.old result self.new };
+    /// Whether the peer of the link that was just given is admitted: it may come, and there is room for one more link beside it.
+    fn admit(&mut self, peer: SocketAddr) -> bool
+        ensures { admits self.old peer result self.new };
 
     /// Waits a little after a fault.
     fn wait(&mut self)
         ensures { waits self.old self.new };
 }
 
-/// Accepts until there is a link with room for it, or a fault stays.
+/// Accepts until there is a link whose peer is admitted, or a fault stays.
 fn accept_patiently<A: Acceptor, G: Keeper>(
     acceptor: &mut A,
     keeper: &mut G,
@@ -40,7 +41,7 @@ where
     'accepts: for count in 0..u64::MAX {
         match acceptor.accept() {
             Ok(accepted) => {
-                if keeper.has_room() {
+                if keeper.admit(accepted.1) {
                     return Ok(accepted);
                 }
                 left = retries;
@@ -57,7 +58,7 @@ where
     Err(Failed)
 }
 
-/// An acceptor over another. A peer that there is no room for is turned away: its link is dropped. After a fault it waits and tries again,
+/// An acceptor over another. A peer that is not admitted is turned away: its link is dropped. After a fault it waits and tries again,
 /// so many times in a row.
 #[derive(Drop)]
 pub struct PatientAcceptor<A, G> {
@@ -112,7 +113,7 @@ where
 
     ghost accepts = { IsPatient (record { accepts = A.accepts; admits = G.admits; waits = G.waits }) };
 
-    /// Gives the next link that there is room for.
+    /// Gives the next link whose peer is admitted.
     ///
     /// # Errors
     /// `Failed` where the acceptor below failed once more than there are retries, with no link between.

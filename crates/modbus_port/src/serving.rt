@@ -1,9 +1,10 @@
 //! Serving the links of a port, with a thread of a scope for each connection.
 ghost use Rattle.std.specs.Prelude.{◌≡◌};
 ghost use Rattle.modbus_port.specs.Listen.{ListenedOver};
-ghost use Rattle.modbus_port.specs.Port.{accepting, Port, port_accepting, port_at_start};
+ghost use Rattle.modbus_port.specs.Port.{accepting, Port, port_accepting, port_at_start, port_for};
 
 use crate::listen::{Framing, run_listen};
+use crate::peers::Peers;
 use crate::port::accept_port;
 use crate::services::Services;
 use crate::turning::TurningSpawner;
@@ -212,13 +213,56 @@ where
     )
 }
 
-/// Serves all links of this listener in this framing, as `bind` gives it, by these services, with a thread for each connection; gives
-/// `services` and `errors` back, and the status, which is told.
+/// Serves those peers of this listener that are served, in this framing, as `bind` gives it, by these services, with a thread for each
+/// connection; gives `services` and `errors` back, and the status, which is told.
 ///
-/// A peer that there is no file descriptor or no thread for is turned away, and the first of several in a row is told on `notes`, the
-/// descriptors on the first of them; each line begins with the name of the program. After a fault of accepting it waits for 100
-/// milliseconds and tries again, 300 times in a row. A connection that moves no byte for ten minutes is let go. Once it does not go on,
-/// each of its connections ends within a second.
+/// Any other peer is turned away, and the first is told on the first of `notes`. So is a peer that there is no file descriptor or no thread for,
+/// and the first of several in a row is told, the descriptors on the first of them; each line begins with the name of the program. After a fault
+/// of accepting it waits for 100 milliseconds and tries again, 300 times in a row. A connection that moves no byte for ten minutes is let go. Once
+/// it does not go on, each of its connections ends within a second.
+pub fn serve_peers<R, S, H, E, N>(
+    rt: &R,
+    alloc: Global,
+    framing: Framing,
+    listener: (TcpListener, TcpListener),
+    peers: Peers<'_>,
+    services: S,
+    on_process_error: H,
+    errors: E,
+    notes: (N, N),
+) -> (S, E, u8)
+where
+    R: Threads + Wait + Clock + Sync,
+    S: Services + Drop,
+    S::Service: Send + Drop,
+    H: Fn(ProcessError) + Copy + Send,
+    E: Sink + Drop,
+    N: Sink + Drop,
+    requires error_hook { H.IsAlwaysCallable on_process_error }
+    ensures { (after : Port) × ListenedOver S.opens port_accepting
+        (record { status_of = S.status_of; line_of = S.line_of }) on_process_error
+        (port_for peers.entry, services) (after, result.0) (E.output errors, E.output result.1)
+        result.2 }
+{
+    let ended = AtomicBool::new(false);
+    let listening = Listening {
+        acceptor: accept_port(rt, listener, peers, notes.0, S::program(), &ended),
+        services,
+        errors,
+    };
+    let (listening, status) = serve_in_threads(
+        rt,
+        alloc,
+        framing,
+        listening,
+        on_process_error,
+        notes.1,
+        &ended,
+    );
+    (listening.services, listening.errors, status)
+}
+
+/// Serves each peer of this listener, as `serve_peers` does.
 pub fn serve_listener<R, S, H, E, N>(
     rt: &R,
     alloc: Global,
@@ -241,20 +285,15 @@ where
         (record { status_of = S.status_of; line_of = S.line_of }) on_process_error
         (port_at_start, services) (after, result.0) (E.output errors, E.output result.1) result.2 }
 {
-    let ended = AtomicBool::new(false);
-    let listening = Listening {
-        acceptor: accept_port(rt, listener, notes.0, S::program(), &ended),
-        services,
-        errors,
-    };
-    let (listening, status) = serve_in_threads(
+    serve_peers(
         rt,
         alloc,
         framing,
-        listening,
+        listener,
+        Peers::all(),
+        services,
         on_process_error,
-        notes.1,
-        &ended,
-    );
-    (listening.services, listening.errors, status)
+        errors,
+        notes,
+    )
 }

@@ -1,2 +1,5 @@
 pub mod Words
 pub mod Ends
+pub mod RuleWords
+pub mod PeerWords
+pub mod SparingWords

@@ -4,16 +4,15 @@ ghost use Rattle.modbus_serial_gateway.specs.Ends.{line_of, HasEnded, IsRefused,
 
 use crate::PROGRAM;
 use crate::ending::{BIND_LINE, NO_MEMORY_LINE, line};
-use itoa::Buffer;
 use modbus_about::FAILED;
 use modbus_gateway::{Forwarder, LineServices, Opening, ServicesOut, SharedLine};
 use modbus_link::Sink;
-use modbus_port::{Framing, Services, bind, report, serve_listener};
+use modbus_port::{Framing, Peers, Services, bind, report, serve_peers};
 use modbus_server::{ProcessError, ServeError};
-use std::alloc::Global;
+use std::alloc::{AllocError, Global};
 use std::io::{Error, ErrorKind};
 use std::marker::Brand;
-use std::net::{Net, TcpListener, TcpStream};
+use std::net::{Net, SocketAddr, TcpListener, TcpStream};
 use std::sync::Wait;
 use std::sync::ledger::Blank;
 use std::thread::Threads;
@@ -22,13 +21,14 @@ use std::time::Clock;
 /// Into how many parts the ledger of a line is cut: one for each connection that it may have, and one more.
 const PARTS: u64 = 1 << 32;
 
-/// Tells where a listener waits for masters.
-fn announce<N: Sink>(notes: &mut N, port: u16) {
-    let mut digits = Buffer::new();
+/// Tells where a listener waits for masters that was asked for at this address; that it does alone, where memory is refused.
+fn announce<N: Sink>(alloc: Global, notes: &mut N, listener: &TcpListener, address: SocketAddr) {
+    let bound = listener.local_addr().unwrap_or(address);
     report(notes, PROGRAM);
-    report(notes, ": listens on 127.0.0.1:");
-    report(notes, digits.format(port));
-    report(notes, "\n");
+    match format!(in alloc; ": listens on {bound}\n") {
+        Ok(line) => report(notes, line.as_str()),
+        Err(AllocError) => report(notes, ": listens\n"),
+    }
 }
 
 /// Tells that the system refuses a listener, as it may where it is out of memory, and gives the status.
@@ -76,11 +76,12 @@ impl<S: modbus_gateway::Services> Services for Masters<S> {
     }
 }
 
-/// Serves all links of this listener over a line that was opened, whose exchanges are counted in this ledger.
+/// Serves the links of these peers of a listener over a line that was opened, whose exchanges are counted in this ledger.
 fn serve_line<R, C, J, H, E, N>(
     rt: &R,
     alloc: Global,
     listener: (TcpListener, TcpListener),
+    peers: Peers<'_>,
     line: C,
     ledger: Blank,
     on_process_error: H,
@@ -104,11 +105,12 @@ where
     let (turns, shares) = ledger.open::<J>();
     let shared = SharedLine::new(line, turns);
     let masters = Masters(LineServices::new(rt, &shared, shares));
-    let (_masters, errors, status) = serve_listener(
+    let (_masters, errors, status) = serve_peers(
         rt,
         alloc,
         Framing::Tcp,
         listener,
+        peers,
         masters,
         on_process_error,
         errors,
@@ -117,14 +119,15 @@ where
     (errors, status)
 }
 
-/// Serves all connections to a port of this machine (127.0.0.1) over one line, each in a thread, by ADUs with an MBAP header. The error of
-/// a single connection ends that connection alone. It tells on `notes` what keeps peers waiting, and on the first of them where it listens.
+/// Serves all connections of these peers to this address over one line, each in a thread, by ADUs with an MBAP header. The error of a single connection ends
+/// that connection alone. It tells on `notes` what keeps peers waiting, and on the first of them where it listens.
 ///
 /// It gives `errors` back, with the line that tells why it does not go on, or that the system refuses the listener.
 pub fn serve<R, C, E, N>(
     rt: &R,
     alloc: Global,
-    port: u16,
+    address: SocketAddr,
+    peers: Peers<'_>,
     line: C,
     errors: E,
     notes: (N, N),
@@ -136,14 +139,15 @@ where
     N: Sink + Drop,
     ensures { IsRefusedOrEnded (E.output errors) (E.output result.0) result.1 }
 {
-    match bind(rt, port) {
+    match bind(rt, address) {
         Ok(listener) => {
             let mut notes = notes;
-            announce(&mut notes.0, port);
+            announce(alloc, &mut notes.0, &listener.0, address);
             serve_line::<R, C, Brand, _, E, N>(
                 rt,
                 alloc,
                 listener,
+                peers,
                 line,
                 Blank::new(PARTS),
                 |_error: ProcessError| {},

@@ -1,60 +1,55 @@
 //! A gateway that makes the devices of one serial line reachable over Modbus TCP, for any number of masters:
-//! `modbus_serial_gateway PORT MILLISECONDS`. Its standard streams are the line, which was set by `stty raw -echo`. `--echo` is for an adapter
-//! that gives back what is sent, and `--baud N` tells the line's speed, by which a pause is kept between a reply and the next request.
+//! `modbus_serial_gateway [ADDRESS:]PORT MILLISECONDS`. The line is that of its standard streams, or with `--serial FILE` of a serial port, which
+//! was set by `stty raw -echo`. `--echo` is for an adapter that gives back what is sent, and `--baud N` tells the line's speed, by which a pause is
+//! kept between a reply and the next request. `--allow`, `--units`, `--read-only` and `--writes` say who may come and what masters may do, and
+//! `--dead-after N` after how many requests that it did not answer a slave is not asked for a while.
 #![tactic(auto)]
 
 mod ending;
+mod line;
 mod listen;
+mod peer_words;
+mod rule_words;
+mod sparing_words;
 mod words;
 
 use ending::NO_MEMORY_LINE;
+use line::{Asking, file_line, stream_line};
 use listen::serve;
 use modbus_about::{About, FAILED, USAGE, asked, fill_closed_streams, tell};
-use modbus_adapter::{EchoedLink, PacedLink, pause_of};
-use modbus_client::Client;
-use modbus_frame::Slave;
-use modbus_gateway::SerialLine;
-use modbus_idle::PortLine;
-use modbus_link::{ReadSource, WriteSink};
-use modbus_reconnect::SerialClient;
+use modbus_gateway::{Forwarder, Guarded, Sparing};
+use modbus_link::WriteSink;
+use std::alloc::Global;
 use std::env::{self, Args};
-use std::io::{ErrorKind, Result, Stdin, Stdout};
+use std::io::{ErrorKind, Result};
 use std::iter::Skip;
-use std::os::fd::AsRawFd;
+use std::net::{Net, TcpListener, TcpStream};
 use std::process::ExitCode;
-use std::time::Duration;
-use words::{HELP, LineKind, LineWords, Task, read_words};
+use std::sync::Wait;
+use std::thread::Threads;
+use std::time::Clock;
+use words::{HELP, LineWish, LineWords, Task, read_words};
 
 /// What its messages begin with.
 pub(crate) const PROGRAM: &str = "modbus_serial_gateway";
 
-/// How long a silence of the line is, in milliseconds: more than the 16 after which a USB converter delivers.
-const SILENCE: u64 = 20;
-
-/// How many bytes of a line in doubt are dropped until it is silent.
-const NOISE: usize = 4096;
-
-/// How many reads of a call may give bytes: four times those of the longest frame, a byte each.
-const TURNS: u64 = 1024;
-
-/// How long slaves have for what a broadcast asks, in milliseconds (MODBUS over Serial Line V1.02, section 2.4.1).
-const TURNAROUND: u64 = 100;
-
 /// What the words ask for.
 enum Wish {
-    /// To serve, over such a line.
-    Serve(Task, LineKind),
+    /// To serve such a line.
+    Serve(Task, LineWish),
     /// To say something of itself.
     Say(About),
 }
 
-/// How the line is by these words; `None` where they are no such words.
-fn read_kind(words: Skip<Args>) -> Option<LineKind> {
-    let mut line = LineWords::new();
+/// How the line is and what masters may do by these words; `None` where they are no such words.
+fn read_line_words(alloc: Global, words: Skip<Args>) -> Result<Option<LineWish>> {
+    let mut line = LineWords::new(alloc);
     for word in words {
-        line = line.read(word.as_str())?;
+        if !line.read(word.as_str())? {
+            return Ok(None);
+        }
     }
-    line.kind()
+    Ok(line.end())
 }
 
 /// What the words after the program's name ask for; `None` where they are no such words.
@@ -62,10 +57,10 @@ fn wish_of(rt: &HostRuntime) -> Result<Option<Wish>> {
     let mut words = env::args(rt)?.skip(1);
     match (words.next(), words.next()) {
         (Some(word), None) => Ok(asked(word.as_str()).map(Wish::Say)),
-        (Some(port), Some(millis)) => {
-            let task = read_words(port.as_str(), millis.as_str());
-            match (task, read_kind(words)) {
-                (Some(task), Some(kind)) => Ok(Some(Wish::Serve(task, kind))),
+        (Some(place), Some(millis)) => {
+            let task = read_words(place.as_str(), millis.as_str());
+            match (task, read_line_words(rt.alloc(), words)?) {
+                (Some(task), Some(line)) => Ok(Some(Wish::Serve(task, line))),
                 _ => Ok(None),
             }
         }
@@ -73,28 +68,77 @@ fn wish_of(rt: &HostRuntime) -> Result<Option<Wish>> {
     }
 }
 
-/// The line over the standard streams, without what it gives back of what is sent.
-type Port = EchoedLink<PortLine<ReadSource<Stdin>, WriteSink<Stdout>>>;
+/// Serves a line as is wished for, with the threads of this machine; the status.
+fn serve_line<R, C>(host: &HostRuntime, rt: &R, task: Task, wish: &LineWish, line: C) -> u8
+where
+    R: Threads + Wait + Clock + Net<Listener = TcpListener, Stream = TcpStream> + Sync,
+    C: Forwarder + Send + Drop,
+{
+    let errors = WriteSink::new(host.stderr());
+    let notes = (WriteSink::new(host.stderr()), WriteSink::new(host.stderr()));
+    let guarded = Guarded::new(wish.rules.rules(), line);
+    let (_errors, status) = serve(
+        rt,
+        host.alloc(),
+        task.address,
+        wish.peers(),
+        guarded,
+        errors,
+        notes,
+    );
+    status
+}
 
-/// The line over the standard streams. Where it is in doubt it has to be silent for as long as a reply is waited for.
-fn open_line(
-    rt: &HostRuntime,
-    millis: u32,
-    kind: LineKind,
-) -> SerialLine<PacedLink<'_, HostRuntime, Port>> {
-    let silence = Duration::from_millis(SILENCE);
-    let (source, sink) = (ReadSource::new(rt.stdin()), WriteSink::new(rt.stdout()));
-    let fd = rt.stdin().as_raw_fd();
-    let mut echoed = EchoedLink::new(PortLine::new(rt, source, sink, fd, silence));
-    echoed.set_echo(kind.has_echo);
-    let link = PacedLink::new(rt, echoed, pause_of(kind.baud));
-    let limit = Duration::from_millis(u64::from(millis));
-    let mut client = SerialClient::new(rt.alloc(), link, Slave(0), silence);
-    client.set_timeout(Some(limit));
-    client.set_quiet(limit, NOISE);
-    client.set_turns(TURNS);
-    client.set_turnaround(Duration::from_millis(TURNAROUND));
-    SerialLine::new(client)
+/// Serves a line, which is spared the requests for dead slaves where that is wished for; the status.
+fn serve_slaves<R, C>(host: &HostRuntime, rt: &R, task: Task, wish: &LineWish, line: C) -> u8
+where
+    R: Threads + Wait + Clock + Net<Listener = TcpListener, Stream = TcpStream> + Sync,
+    C: Forwarder + Send + Drop,
+{
+    match wish.sparing.limits() {
+        Some(limits) => serve_line(host, rt, task, wish, Sparing::new(rt, line, limits)),
+        None => serve_line(host, rt, task, wish, line),
+    }
+}
+
+/// Serves the line at the file of a serial port; the status.
+fn serve_port<R>(host: &HostRuntime, rt: &R, task: Task, path: &str, wish: &LineWish) -> u8
+where
+    R: Threads + Wait + Clock + Net<Listener = TcpListener, Stream = TcpStream> + Sync,
+{
+    match file_line(host, path, asking_of(task, wish)) {
+        Ok(line) => serve_slaves(host, rt, task, wish, line),
+        Err(error) if error.kind() == ErrorKind::Unsupported => {
+            let _ = eprintln!(host; "{PROGRAM}: {path} is no serial port");
+            FAILED
+        }
+        Err(error) => {
+            let _ = eprintln!(host; "{PROGRAM}: {path} can't be opened: {error}");
+            FAILED
+        }
+    }
+}
+
+/// How the line is asked.
+fn asking_of(task: Task, wish: &LineWish) -> Asking {
+    Asking {
+        millis: task.millis,
+        kind: wish.kind,
+    }
+}
+
+/// Serves the line that is wished for; the status.
+fn serve_wish<R>(host: &HostRuntime, rt: &R, task: Task, wish: &LineWish) -> u8
+where
+    R: Threads + Wait + Clock + Net<Listener = TcpListener, Stream = TcpStream> + Sync,
+{
+    match &wish.path {
+        Some(path) => serve_port(host, rt, task, path.as_str(), wish),
+        None => {
+            let line = stream_line(host, asking_of(task, wish));
+            serve_slaves(host, rt, task, wish, line)
+        }
+    }
 }
 
 fn main(rt: HostRuntime) -> ExitCode {
@@ -108,13 +152,7 @@ fn main(rt: HostRuntime) -> ExitCode {
         Err(_) => None,
     };
     match wish {
-        Some(Wish::Serve(task, kind)) => {
-            let line = open_line(&rt, task.millis, kind);
-            let errors = WriteSink::new(rt.stderr());
-            let notes = (WriteSink::new(rt.stderr()), WriteSink::new(rt.stderr()));
-            let (_errors, status) = serve(&rt, rt.alloc(), task.port, line, errors, notes);
-            ExitCode::from(status)
-        }
+        Some(Wish::Serve(task, line)) => ExitCode::from(serve_wish(&rt, &rt, task, &line)),
         Some(Wish::Say(about)) => ExitCode::from(tell(&rt, PROGRAM, HELP, about)),
         None => {
             let _ = eprint!(rt; "{PROGRAM}: {HELP}");

@@ -1,6 +1,6 @@
 use Rattle.std.proofs.Common.{◌≡◌, ℕ, ◌+◌, zero, suc, inl, inr, refl, sym, ◌∙◌, rules, arith}
 use Rattle.modbus_port.proofs.patient.accept_patiently.Goals as goal
-use Rattle.modbus_port.proofs.patient.accept_patiently.Goals.{in-Ok+else-has_room, in-Err+else-left-eq0}
+use Rattle.modbus_port.proofs.patient.accept_patiently.Goals.{in-Ok+else-admit, in-Err+else-left-eq0}
 
 one_more : (a b : ℕ) → a ≡ b → a + 1 ≡ suc b
 one_more a b e = omega arith
@@ -8,8 +8,8 @@ one_more a b e = omega arith
 pub accepts-init : goal.accepts-init
 accepts-init g c = record { made = zero; rounds = refl; many = (refl, refl) }
 
-pub returns-then-has_room : goal.returns-then-has_room
-returns-then-has_room g c = (c.accepts.invariant.made, _, c.accepts.left, c.accepts.invariant.many, search rules, rw c.if-has_room.true at c.has_room.ensures)
+pub returns-then-admit : goal.returns-then-admit
+returns-then-admit g c = (c.accepts.invariant.made, _, c.accepts.left, c.accepts.invariant.many, search rules, rw c.if-admit.true at c.admit.ensures)
 
 pub returns-then-left-eq0 : goal.returns-then-left-eq0
 returns-then-left-eq0 g c = (c.accepts.invariant.made, _, c.accepts.left, c.accepts.invariant.many, inl (search rules, search rules, refl))
@@ -23,7 +23,7 @@ accepts-preserved g c = record {
     c.accepts.left,
     c.accepts.invariant.many,
     elim c.match-accept.branch [
-      | in-Ok+else-has_room w ↦ inl (w.in-Ok.accepted, search rules, search rules, search rules)
+      | in-Ok+else-admit w ↦ inl (w.in-Ok.accepted, search rules, search rules, search rules)
       | in-Err+else-left-eq0 w ↦ inr (w.in-Err.failed, search rules, search rules, search rules)
     ],
   );

@@ -1,6 +1,5 @@
-use Rattle.std.proofs.Common.{◌≡◌, ◌≢◌, [], refl, sym, ap, subst, ◌∙◌}
+use Rattle.std.proofs.Common.{◌≡◌, ◌≢◌, sym, ap, subst, ◌∙◌}
 use Rattle.modbus_link.specs.Line.{meaning_of}
-use Rattle.modbus_frame.specs.FunctionCodes.{report_server_id}
 use Rattle.modbus_frame.specs.Meaning.{Asked, Custom, meaning}
 use Rattle.modbus_client.specs.LineReading.{line_protocol, silent_protocol}
 use Rattle.modbus_client.specs.Rtu.{rtu_heading}
