@@ -9,7 +9,7 @@ use Rattle.modbus_poll.specs.declared.read.Read.{Read}
 use Rattle.modbus_poll.specs.declared.span.Span.{Span}
 use Rattle.modbus_poll.specs.declared.span.Limits.{Limits}
 use Rattle.modbus_poll.specs.Spans.{is_within}
-use Rattle.modbus_poll.specs.SpanPlans.{IsPlanWithin}
+use Rattle.modbus_poll.specs.SpanPlans.{IsPlanWithin, FollowWithin}
 use Rattle.modbus_pdu.specs.Limits.{max_read_coils}
 use Rattle.modbus_map.specs.declared.kind.Table.{Table}
 use Rattle.modbus_map.specs.declared.kind.Table.TheVariants.{Coils, DiscreteInputs, InputRegisters, HoldingRegisters}
@@ -71,12 +71,17 @@ of_table tables HoldingRegisters = tables.holding_registers
 abbrev pub bits_of : Limits → Limits
 bits_of limits = record { most = max_read_coils; gap = limits.gap }
 
+-- The plan of a table: reads within the limits that give each of these spans. Each begins where a span does that no earlier one gives, goes on as
+-- far as the limits allow, and has no more in a row that no span names than the gap.
+abbrev pub IsTablePlan : Limits → List Span → List Read → Type 0
+IsTablePlan limits spans plan = IsPlanWithin limits spans plan × FollowWithin limits spans [] plan
+
 -- the plans of a device: of each table, the reads within its limits that give its points
 pub record PlansDevice (limits : Limits) (points : List Point) (plans : Tables (List Read)) : Type 0 where
-  pub coils : IsPlanWithin (bits_of limits) (spans_in Coils points) plans.coils
-  pub discrete_inputs : IsPlanWithin (bits_of limits) (spans_in DiscreteInputs points) plans.discrete_inputs
-  pub input_registers : IsPlanWithin limits (spans_in InputRegisters points) plans.input_registers
-  pub holding_registers : IsPlanWithin limits (spans_in HoldingRegisters points) plans.holding_registers
+  pub coils : IsTablePlan (bits_of limits) (spans_in Coils points) plans.coils
+  pub discrete_inputs : IsTablePlan (bits_of limits) (spans_in DiscreteInputs points) plans.discrete_inputs
+  pub input_registers : IsTablePlan limits (spans_in InputRegisters points) plans.input_registers
+  pub holding_registers : IsTablePlan limits (spans_in HoldingRegisters points) plans.holding_registers
 
 -- The reads of the tables were made, one table after another, each read once.
 pub record GathersAll {S : Type 0} (answers : S → Asked → Answer → S → Type 0) (old : S) (plans : Tables (List Read)) (found : Tables (List Given)) (new : S) : Type 0 where

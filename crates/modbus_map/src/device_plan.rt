@@ -1,8 +1,7 @@
 //! The poll of a device's points: reads of its tables within its limits, and the value of each point among what they gave.
 ghost use Rattle.std.specs.Prelude.{◌≡◌, ◌≤◌, position, IfOk};
 ghost use Rattle.modbus_poll.specs.Spans.{is_within};
-ghost use Rattle.modbus_poll.specs.SpanPlans.{IsPlanWithin};
-ghost use Rattle.modbus_map.specs.Gathering.{span_of, is_in, spans_in, value_of_words, value_given, value_among};
+ghost use Rattle.modbus_map.specs.Gathering.{span_of, is_in, spans_in, IsTablePlan, value_of_words, value_given, value_among};
 
 use crate::given::Given;
 use crate::kind::Table;
@@ -60,7 +59,7 @@ pub fn plan_table(
     limits: Limits,
     points: &[Point],
 ) -> Result<Plan, PlanError>
-    ensures { IfOk result (λ plan. IsPlanWithin limits (spans_in table points.now) plan) }
+    ensures { IfOk result (λ plan. IsTablePlan limits (spans_in table points.now) plan) }
 {
     let spans = spans_in(alloc, table, points)?;
     plan_spans(alloc, limits, spans.as_slice())

@@ -26,8 +26,6 @@ mod reading;
 mod scale;
 mod sound;
 mod tables;
-#[cfg(test)]
-mod tests;
 mod text;
 mod value;
 mod write;

@@ -2,7 +2,7 @@
 
 use crate::check::check;
 use crate::links::Pair;
-use modbus_hub::{EventServer, Limits};
+use modbus_hub::{EventServer, Limits, TurnLimits};
 use modbus_link::{MemoryLink, MemorySink, MemorySource, MemoryStop, Polled};
 use modbus_ready::{Ready, ScheduledAcceptor, ScheduledReadiness};
 use modbus_server::Terminated;
@@ -90,9 +90,13 @@ fn server<'a>(
         Ready::Peer,
     ];
     let readiness = ScheduledReadiness::new(alloc, &schedule)?;
+    let turn = TurnLimits {
+        reads: 1,
+        messages: 16,
+    };
     let limits = Limits {
         connections: 2,
-        reads: 1,
+        turn,
     };
     Ok(EventServer::new(alloc, acceptor, readiness, limits))
 }

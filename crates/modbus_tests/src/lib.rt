@@ -15,4 +15,6 @@ mod links;
 #[cfg(test)]
 mod listeners;
 #[cfg(test)]
+mod map;
+#[cfg(test)]
 mod store;

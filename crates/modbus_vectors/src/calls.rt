@@ -78,7 +78,9 @@ fn answer_program(text: &mut Text, call: &str, words: &[Word]) -> bool {
     match call {
         "store" | "exchange" | "entries" => store::answer(text, call, words),
         "only_unit" | "units" | "port" | "files" => units::answer(text, call, words),
-        "point" | "items" | "spans" | "poll" => polls::answer(text, call, words),
+        "point" | "items" | "spans" | "poll" | "poll_asked" | "poll_inputs" => {
+            polls::answer(text, call, words)
+        }
         "map" | "map_hex" | "map_find" | "map_get" | "map_set" => maps::answer(text, call, words),
         "place_poll" | "place_write" => maps::answer_place(text, call, words),
         "run" | "status" | "listening" => program::answer(text, call, words),

@@ -1,10 +1,15 @@
 //! Words that name points, plans of items, and polls of a store.
 
 use crate::text::Text;
+use crate::typed::Prompted;
 use crate::word::Word;
+use bytes::Bytes;
+use modbus_client::{Client, Context, Reader};
 use modbus_frame::Slave;
 use modbus_local::poll_service;
-use modbus_poll::{Item, Kind, Limits, Span, parse_point, plan_reads, plan_spans};
+use modbus_poll::{
+    Item, Kind, Limits, Span, parse_point, plan_reads, plan_spans, poll, poll_inputs,
+};
 use modbus_store::RegisterStore;
 use std::alloc::Global;
 
@@ -139,8 +144,49 @@ fn polled(text: &mut Text, numbers: &str, words: &[Word]) -> bool {
     }
 }
 
+/// What the poll that is named gives of these items, by a client. False where no plan covers them.
+fn push_asked<R: Reader>(text: &mut Text, call: &str, client: &mut R, items: &[Item]) -> bool {
+    let Ok(plan) = plan_reads(text.alloc, items) else {
+        return false;
+    };
+    if !plan.covers(items) {
+        return false;
+    }
+    match call {
+        "poll_inputs" => text.push_outcome(poll_inputs(text.alloc, client, items, &plan)),
+        _ => text.push_outcome(poll(text.alloc, client, items, &plan)),
+    }
+    true
+}
+
+/// The same by this client.
+fn push_prompted(text: &mut Text, call: &str, prompted: Box<Prompted>, items: &[Item]) -> bool {
+    let client: Box<dyn Client> = prompted;
+    push_asked(text, call, &mut Context::from(client), items)
+}
+
+/// The same by a client that gives the answer of this PDU to each read.
+fn push_answered(text: &mut Text, call: &str, pdu: &[u8], items: &[Item]) -> bool {
+    let Ok(pdu) = Bytes::copy_from_slice(text.alloc, pdu) else {
+        return false;
+    };
+    match Prompted::boxed(text.alloc, pdu) {
+        Some(prompted) => push_prompted(text, call, prompted, items),
+        None => false,
+    }
+}
+
+/// The same of the points that these words name.
+fn asked(text: &mut Text, call: &str, pdu: &Word, words: &[Word]) -> bool {
+    match points_of(text.alloc, words) {
+        Some(items) => push_answered(text, call, pdu.bytes().unwrap_or(&[]), items.as_slice()),
+        None => false,
+    }
+}
+
 /// `point 100:u16`: what a word names; `items 0:1 100:2`: the plan of items, each an address and so many registers, and whether it covers them;
-/// `spans 125 0 0:1 100:2`: the plan of spans of so many registers or bits, by reads of at most so many and with gaps of at most so many; `poll 1,2 0:u32`: the values of points of a store whose holding registers hold these numbers.
+/// `spans 125 0 0:1 100:2`: the plan of spans of so many registers or bits, by reads of at most so many and with gaps of at most so many; `poll 1,2 0:u32`: the values of points of a store whose holding registers hold these numbers;
+/// `poll_asked PDU 0:u32`, `poll_inputs PDU 0:u32`: those of a client that gives this answer to each read, of holding and of input registers.
 pub fn answer(text: &mut Text, call: &str, words: &[Word]) -> bool {
     match (call, words) {
         ("point", [word]) => text.push_outcome(parse_point(word.text())),
@@ -149,6 +195,9 @@ pub fn answer(text: &mut Text, call: &str, words: &[Word]) -> bool {
             return spans_planned(text, most.text(), gap.text(), words);
         }
         ("poll", [numbers, words @ ..]) => return polled(text, numbers.text(), words),
+        ("poll_asked" | "poll_inputs", [pdu, words @ ..]) => {
+            return asked(text, call, pdu, words);
+        }
         _ => return false,
     }
     true

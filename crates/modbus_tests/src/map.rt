@@ -1,6 +1,9 @@
 //! Values of the field: floats of IEEE 754, factors, orders, and what is refused.
-use crate::{ByteOrder, Encoding, Kind, Point, Scale, Table, WriteError, json_of, shown, value_of};
+use crate::check::check;
 use modbus_frame::Word;
+use modbus_map::{
+    ByteOrder, Encoding, Kind, Point, Scale, Table, WriteError, json_of, shown, value_of,
+};
 use std::alloc::Global;
 use std::test::Fail;
 
@@ -67,10 +70,15 @@ fn floats_have_four_orders(rt: HostRuntime) -> Result<(), Fail> {
     ];
     for (order, words) in orders.iter() {
         let float = encoding("f32", order, "1", "0")?;
-        assert_eq!(rt; read(alloc, float, words.as_slice())?.as_str(), "123.456");
-        assert_eq!(rt;
+        check(
+            &rt,
+            read(alloc, float, words.as_slice())?.as_str(),
+            "123.456",
+        );
+        check(
+            &rt,
             written(alloc, float, "123.456")?.as_slice(),
-            words.as_slice()
+            words.as_slice(),
         );
     }
     Ok(())
@@ -80,27 +88,35 @@ fn floats_have_four_orders(rt: HostRuntime) -> Result<(), Fail> {
 fn integers_have_factors(rt: HostRuntime) -> Result<(), Fail> {
     let alloc = rt.alloc();
     let level = encoding("u16", "AB", "0.1", "0")?;
-    assert_eq!(rt; read(alloc, level, &[215])?.as_str(), "21.5");
-    assert_eq!(rt; read(alloc, level, &[200])?.as_str(), "20.0");
+    check(&rt, read(alloc, level, &[215])?.as_str(), "21.5");
+    check(&rt, read(alloc, level, &[200])?.as_str(), "20.0");
     let warmth = encoding("i16", "AB", "0.1", "-273.15")?;
-    assert_eq!(rt; read(alloc, warmth, &[0xFFFF])?.as_str(), "-273.25");
+    check(&rt, read(alloc, warmth, &[0xFFFF])?.as_str(), "-273.25");
     let energy = encoding("i64", "CDAB", "0.001", "0")?;
-    assert_eq!(rt;
+    check(
+        &rt,
         read(alloc, energy, &[0, 0, 0, 0x8000])?.as_str(),
-        "-9223372036854775.808"
+        "-9223372036854775.808",
     );
-    assert_eq!(rt; written(alloc, level, "21.5")?.as_slice(), [215].as_slice());
-    assert_eq!(rt;
+    check(
+        &rt,
+        written(alloc, level, "21.5")?.as_slice(),
+        [215].as_slice(),
+    );
+    check(
+        &rt,
         written(alloc, level, "21.50")?.as_slice(),
-        [215].as_slice()
+        [215].as_slice(),
     );
-    assert_eq!(rt;
+    check(
+        &rt,
         written(alloc, warmth, "-273.25")?.as_slice(),
-        [0xFFFF].as_slice()
+        [0xFFFF].as_slice(),
     );
-    assert_eq!(rt;
+    check(
+        &rt,
         written(alloc, energy, "0.001")?.as_slice(),
-        [1, 0, 0, 0].as_slice()
+        [1, 0, 0, 0].as_slice(),
     );
     Ok(())
 }
@@ -117,29 +133,38 @@ fn refusal(alloc: Global, encoding: Encoding, text: &str) -> Result<WriteError, 
 fn refusals_have_causes(rt: HostRuntime) -> Result<(), Fail> {
     let alloc = rt.alloc();
     let level = encoding("u16", "AB", "0.1", "0")?;
-    assert_eq!(rt; refusal(alloc, level, "21.55")?, WriteError::OffGrid);
-    assert_eq!(rt; refusal(alloc, level, "6553.6")?, WriteError::OutOfRange);
-    assert_eq!(rt; refusal(alloc, level, "-0.1")?, WriteError::OutOfRange);
-    assert_eq!(rt; refusal(alloc, level, "warm")?, WriteError::NotOfKind);
-    assert_eq!(rt;
+    check(&rt, refusal(alloc, level, "21.55")?, WriteError::OffGrid);
+    check(
+        &rt,
+        refusal(alloc, level, "6553.6")?,
+        WriteError::OutOfRange,
+    );
+    check(&rt, refusal(alloc, level, "-0.1")?, WriteError::OutOfRange);
+    check(&rt, refusal(alloc, level, "warm")?, WriteError::NotOfKind);
+    check(
+        &rt,
         refusal(alloc, encoding("bit 3", "AB", "1", "0")?, "1")?,
-        WriteError::BitOfRegister
+        WriteError::BitOfRegister,
     );
-    assert_eq!(rt;
+    check(
+        &rt,
         refusal(alloc, encoding("text1", "AB", "1", "0")?, "abc")?,
-        WriteError::TooLong
+        WriteError::TooLong,
     );
-    assert_eq!(rt;
+    check(
+        &rt,
         refusal(alloc, encoding("f32", "ABCD", "1", "0")?, "1e39")?,
-        WriteError::OutOfRange
+        WriteError::OutOfRange,
     );
-    assert_eq!(rt;
+    check(
+        &rt,
         written(alloc, encoding("text2", "BA", "1", "0")?, "abc")?.as_slice(),
-        [0x6261, 0x0063].as_slice()
+        [0x6261, 0x0063].as_slice(),
     );
-    assert_eq!(rt;
+    check(
+        &rt,
         written(alloc, encoding("bool", "AB", "1", "0")?, "true")?.as_slice(),
-        [1].as_slice()
+        [1].as_slice(),
     );
     Ok(())
 }
@@ -147,33 +172,47 @@ fn refusals_have_causes(rt: HostRuntime) -> Result<(), Fail> {
 #[test]
 fn values_have_texts(rt: HostRuntime) -> Result<(), Fail> {
     let alloc = rt.alloc();
-    assert_eq!(rt;
+    check(
+        &rt,
         read(alloc, encoding("bit3", "AB", "1", "0")?, &[0x0008])?.as_str(),
-        "1"
+        "1",
     );
-    assert_eq!(rt;
+    check(
+        &rt,
         read(alloc, encoding("bit3", "BA", "1", "0")?, &[0x0008])?.as_str(),
-        "0"
+        "0",
     );
-    assert_eq!(rt;
+    check(
+        &rt,
         read(alloc, encoding("f32", "ABCD", "1", "0")?, &[0xFF80, 0])?.as_str(),
-        "-inf"
+        "-inf",
     );
     let no_number = encoding("f64", "ABCD", "1", "0")?;
-    assert_eq!(rt; read(alloc, no_number, &[0x7FF8, 0, 0, 0])?.as_str(), "NaN");
-    assert_eq!(rt;
-        json(alloc, no_number, &[0x7FF8, 0, 0, 0])?.as_str(),
-        "null"
+    check(
+        &rt,
+        read(alloc, no_number, &[0x7FF8, 0, 0, 0])?.as_str(),
+        "NaN",
     );
-    assert_eq!(rt;
+    check(
+        &rt,
+        json(alloc, no_number, &[0x7FF8, 0, 0, 0])?.as_str(),
+        "null",
+    );
+    check(
+        &rt,
         json(alloc, encoding("u16", "AB", "0.1", "0")?, &[200])?.as_str(),
-        "20.0"
+        "20.0",
     );
     let name = encoding("text2", "AB", "1", "0")?;
-    assert_eq!(rt; read(alloc, name, &[0x415C, 0x2200])?.as_str(), "A\\x5c\"");
-    assert_eq!(rt;
+    check(
+        &rt,
+        read(alloc, name, &[0x415C, 0x2200])?.as_str(),
+        "A\\x5c\"",
+    );
+    check(
+        &rt,
         json(alloc, name, &[0x415C, 0x2200])?.as_str(),
-        "\"A\\\\x5c\\\"\""
+        "\"A\\\\x5c\\\"\"",
     );
     Ok(())
 }
