@@ -5,14 +5,16 @@ ghost use Rattle.modbus_map.specs.Sound.{IsSoundMap};
 mod device;
 mod fault;
 mod fields;
+mod line;
 mod names;
 mod point;
 mod words;
 
 use crate::device::{Device, Map};
 use crate::file::device::read_device;
-pub use crate::file::fault::{MapError, Reason};
-use crate::file::fault::{Fault, Place, refused};
+use crate::file::fault::{At, Fault, refused};
+pub use crate::file::fault::{MapError, MapPlace, Reason};
+pub use crate::file::line::line_of;
 use crate::file::names::first_repeat;
 use std::alloc::Global;
 use toml::Table;
@@ -65,7 +67,7 @@ fn names_differ(alloc: Global, devices: &[Device]) -> Result<(), MapError> {
         .collect(alloc)?;
     match first_repeat(&mut names) {
         None => Ok(()),
-        Some(name) => Err(Place::Map.error(alloc, refused(alloc, name, Reason::Twice))),
+        Some(name) => Err(At::Map.error(alloc, refused(alloc, name, Reason::Twice))),
     }
 }
 
@@ -90,7 +92,7 @@ pub fn read_map(alloc: Global, text: &str) -> Result<Map, MapError>
     let table = table_of(alloc, text)?;
     let (list, groups) = match parts_of(alloc, &table) {
         Ok(parts) => parts,
-        Err(fault) => return Err(Place::Map.error(alloc, fault)),
+        Err(fault) => return Err(At::Map.error(alloc, fault)),
     };
     let map = devices_of(alloc, list, groups)?;
     names_differ(alloc, map.devices.as_slice())?;

@@ -34,7 +34,7 @@ mod write_error;
 pub use crate::decimal::{Decimal, DecimalError};
 pub use crate::device::{Device, LinkKind, Map};
 pub use crate::device_plan::{Found, plan_table, value_among};
-pub use crate::file::{MapError, Reason, read_map};
+pub use crate::file::{MapError, MapPlace, Reason, line_of, read_map};
 pub use crate::gathering::{TableError, gather, plan_device};
 pub use crate::given::{Given, read_table};
 pub use crate::json_text::json_of;

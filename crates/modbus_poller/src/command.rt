@@ -1,167 +1,145 @@
-//! The words of the command line.
+//! The words of the command line: those of every call, and then, where its device is no map, those of a call of a device alone.
 
-use clap::{Arg, ArgMatches, Command, Error, value_parser};
-use modbus_command::{VERSION, command, flag, option, positional};
+use crate::arguments as words;
+use clap::{Arg, ArgMatches, Command, Error};
+use modbus_command::{VERSION, command};
 use std::alloc::{AllocError, Global};
 
-/// How values are printed.
-const FORMATS: [&str; 3] = ["table", "csv", "json"];
+/// How a poll is called.
+const POLL_USAGE: &str =
+    "modbus_poller poll [OPTIONS] DEVICE UNIT ITEM..\n       modbus_poller poll [OPTIONS] PLANT.toml [DEVICE[.POINT]]..";
 
-/// What the help says of items.
-const ITEMS: &str =
-    "Items, as 100:u16: a table (h holding registers, which needs no letter, i input registers), an address from 0 to 65535, \
-                     a colon and a kind: u16 i16 u32 i32 u64 i64 (high word first), u32le i32le u64le i64le (low word first), \
-                     text1 to text125 (registers of two characters)";
+/// How a write is called.
+const WRITE_USAGE: &str =
+    "modbus_poller write [OPTIONS] DEVICE UNIT FIRST VALUE..\n       modbus_poller write [OPTIONS] DEVICE UNIT ITEM VALUE\n       modbus_poller \
+     write [OPTIONS] PLANT.toml DEVICE.POINT VALUE";
 
-fn device<'a>(alloc: Global) -> Arg<'a> {
-    positional(
+/// Adds a word or a command. A function that owns several is proved for minutes.
+fn add<T: Drop>(list: &mut Vec<T>, one: T) -> Result<(), AllocError> {
+    list.push(one)?;
+    Ok(())
+}
+
+/// Adds one that was made.
+fn add_made<T: Drop>(list: &mut Vec<T>, made: Result<T, AllocError>) -> Result<(), AllocError> {
+    add(list, made?)
+}
+
+/// What is told of a serial line.
+fn line_options<'a>(alloc: Global, words: &mut Vec<Arg<'a>>) -> Result<(), AllocError> {
+    add(words, words::silence(alloc))?;
+    add(words, words::baud(alloc))?;
+    add(words, words::echo(alloc))
+}
+
+/// What a device alone and a map have in common.
+fn link_options<'a>(alloc: Global, words: &mut Vec<Arg<'a>>) -> Result<(), AllocError> {
+    add(words, words::timeout(alloc))?;
+    add(words, words::rtu(alloc))?;
+    line_options(alloc, words)
+}
+
+/// The options of when a poll is made.
+fn time_options<'a>(alloc: Global, words: &mut Vec<Arg<'a>>) -> Result<(), AllocError> {
+    add(words, words::every(alloc))?;
+    add_made(words, words::count(alloc))
+}
+
+/// The options of the reads of a poll.
+fn read_options<'a>(alloc: Global, words: &mut Vec<Arg<'a>>) -> Result<(), AllocError> {
+    add(words, words::retries(alloc))?;
+    add(words, words::max_gap(alloc))?;
+    add(words, words::max_read(alloc))
+}
+
+/// The options of what a poll prints.
+fn print_options<'a>(alloc: Global, words: &mut Vec<Arg<'a>>) -> Result<(), AllocError> {
+    add(words, words::format(alloc))?;
+    add(words, words::big_as_text(alloc))?;
+    add(words, words::plan(alloc))
+}
+
+/// The options of a poll.
+fn poll_options<'a>(alloc: Global, words: &mut Vec<Arg<'a>>) -> Result<(), AllocError> {
+    time_options(alloc, words)?;
+    read_options(alloc, words)?;
+    link_options(alloc, words)?;
+    print_options(alloc, words)
+}
+
+/// A poll of what these words tell.
+fn poll_of<'a>(alloc: Global, words: Vec<Arg<'a>>) -> Result<Command<'a>, AllocError> {
+    let command = command(
         alloc,
-        "device",
-        "ADDRESS:PORT",
-        "The device: an IP address and a port, as 192.0.2.1:502 or [2001:db8::1]:502",
-    )
+        "poll",
+        "Reads items or points, and prints their values",
+        words,
+    )?;
+    Ok(command.override_usage(POLL_USAGE))
 }
 
-fn unit<'a>(alloc: Global) -> Arg<'a> {
-    positional(alloc, "unit", "UNIT", "The unit identifier, 0 to 255").value_parser(value_parser!(
-        u8
-    ))
+/// A poll of a map, or of anything.
+fn poll_any<'a>(alloc: Global) -> Result<Command<'a>, AllocError> {
+    let mut words = vec![in alloc; words::device(alloc), words::polled(alloc)]?;
+    poll_options(alloc, &mut words)?;
+    poll_of(alloc, words)
 }
 
-/// An option of so many milliseconds, a day at most.
-fn millis<'a>(alloc: Global, name: &'a str, help: &'a str) -> Arg<'a> {
-    option(alloc, name, "MS", help).value_parser(value_parser!(u64).range(1..=86_400_000))
-}
-
-fn timeout<'a>(alloc: Global) -> Arg<'a> {
-    millis(
-        alloc,
-        "timeout",
-        "How long a connection, and then each call, may take, in milliseconds",
-    )
-    .default_value("1000")
-}
-
-fn every<'a>(alloc: Global) -> Arg<'a> {
-    millis(
-        alloc,
-        "every",
-        "Poll again after so many milliseconds, and again",
-    )
-}
-
-fn count<'a>(alloc: Global) -> Result<Arg<'a>, AllocError> {
-    option(alloc, "count", "N", "End after so many polls")
-        .value_parser(value_parser!(u64).range(1..=1_000_000_000_000))
-        .requires_arg("every")
-}
-
-fn retries<'a>(alloc: Global) -> Arg<'a> {
-    option(
-        alloc,
-        "retries",
-        "N",
-        "How often a read is sent again over a new connection",
-    )
-    .value_parser(value_parser!(u32).range(0..=1000))
-    .default_value("1")
-}
-
-fn format<'a>(alloc: Global) -> Arg<'a> {
-    option(
-        alloc,
-        "format",
-        "FORMAT",
-        "How values are printed; csv and json have a line for each poll",
-    )
-    .value_parser(FORMATS.as_slice())
-    .default_value("table")
-}
-
-fn plan<'a>(alloc: Global) -> Arg<'a> {
-    flag(alloc, "plan", "Print the reads of a poll, and send nothing")
-}
-
-fn items<'a>(alloc: Global) -> Arg<'a> {
-    positional(alloc, "items", "ITEM", ITEMS).num_args(1..)
-}
-
-// Each word is a function of its own: a function that owns several is proved for minutes.
-fn poll_command<'a>(alloc: Global) -> Result<Command<'a>, AllocError> {
-    let count = count(alloc)?;
-    let words = vec![in alloc;
-        device(alloc),
-        unit(alloc),
-        items(alloc),
-        every(alloc),
-        count,
-        timeout(alloc),
-        retries(alloc),
-        format(alloc),
-        plan(alloc),
+/// A poll of a device alone.
+fn poll_device<'a>(alloc: Global) -> Result<Command<'a>, AllocError> {
+    let mut words = vec![in alloc;
+        words::device(alloc),
+        words::unit(alloc),
+        words::items(alloc),
     ]?;
-    command(alloc, "poll", "Reads items, and prints their values", words)
+    poll_options(alloc, &mut words)?;
+    poll_of(alloc, words)
 }
 
-fn first<'a>(alloc: Global) -> Arg<'a> {
-    positional(
-        alloc,
-        "first",
-        "FIRST",
-        "The address of the first, 0 to 65535",
-    )
-    .value_parser(value_parser!(u16))
-}
-
-fn values<'a>(alloc: Global) -> Arg<'a> {
-    positional(
-        alloc,
-        "values",
-        "VALUE",
-        "What the registers are to hold, 0 to 65535 each; 1 to 123 of them",
-    )
-    .num_args(1..)
-    .value_parser(value_parser!(u16))
-}
-
-fn write_command<'a>(alloc: Global) -> Result<Command<'a>, AllocError> {
-    let words = vec![in alloc;
-        device(alloc),
-        unit(alloc),
-        first(alloc),
-        values(alloc),
-        timeout(alloc),
-    ]?;
-    command(
+/// A write of what these words tell.
+fn write_of<'a>(alloc: Global, words: Vec<Arg<'a>>) -> Result<Command<'a>, AllocError> {
+    let command = command(
         alloc,
         "write",
-        "Writes holding registers, one after another",
+        "Writes holding registers, one after another, or an item or a point",
         words,
-    )
+    )?;
+    Ok(command.override_usage(WRITE_USAGE))
 }
 
-/// The states of a coil.
-const STATES: [&str; 2] = ["0", "1"];
-
-fn states<'a>(alloc: Global) -> Arg<'a> {
-    positional(
-        alloc,
-        "states",
-        "STATE",
-        "What the coils are to be, 0 for OFF and 1 for ON; 1 to 1968 of them",
-    )
-    .num_args(1..)
-    .value_parser(STATES.as_slice())
+/// The options of a write.
+fn write_options<'a>(alloc: Global, words: &mut Vec<Arg<'a>>) -> Result<(), AllocError> {
+    link_options(alloc, words)?;
+    add(words, words::verify(alloc))
 }
 
-fn write_coils_command<'a>(alloc: Global) -> Result<Command<'a>, AllocError> {
-    let words = vec![in alloc;
-        device(alloc),
-        unit(alloc),
-        first(alloc),
-        states(alloc),
-        timeout(alloc),
+/// A write to a map, or to anything.
+fn write_any<'a>(alloc: Global) -> Result<Command<'a>, AllocError> {
+    let mut words = vec![in alloc; words::device(alloc), words::written(alloc)]?;
+    write_options(alloc, &mut words)?;
+    write_of(alloc, words)
+}
+
+/// A write to a device alone.
+fn write_device<'a>(alloc: Global) -> Result<Command<'a>, AllocError> {
+    let mut words = vec![in alloc;
+        words::device(alloc),
+        words::unit(alloc),
+        words::place(alloc),
+        words::values(alloc),
     ]?;
+    write_options(alloc, &mut words)?;
+    write_of(alloc, words)
+}
+
+fn write_coils<'a>(alloc: Global) -> Result<Command<'a>, AllocError> {
+    let mut words = vec![in alloc;
+        words::device(alloc),
+        words::unit(alloc),
+        words::first(alloc),
+        words::states(alloc),
+    ]?;
+    link_options(alloc, &mut words)?;
     command(
         alloc,
         "write-coils",
@@ -170,21 +148,44 @@ fn write_coils_command<'a>(alloc: Global) -> Result<Command<'a>, AllocError> {
     )
 }
 
-fn commands<'a>(alloc: Global) -> Result<Vec<Command<'a>>, AllocError> {
-    let mut commands = Vec::new(alloc);
-    commands.push(poll_command(alloc)?)?;
-    commands.push(write_command(alloc)?)?;
-    commands.push(write_coils_command(alloc)?)?;
-    Ok(commands)
-}
-
-fn whole<'a>(alloc: Global) -> Result<Command<'a>, AllocError> {
-    let commands = commands(alloc)?;
+/// The program with these commands.
+fn program<'a>(alloc: Global, commands: Vec<Command<'a>>) -> Result<Command<'a>, AllocError> {
     Command::new(alloc, "modbus_poller")
-        .about("Reads and writes a Modbus TCP device")
+        .about("Reads and writes Modbus devices: one, or those of a plant's map")
         .version(VERSION)
         .subcommand_required(true)
         .subcommands(commands)
+}
+
+/// The program, whatever its device is.
+fn for_any<'a>(alloc: Global) -> Result<Command<'a>, AllocError> {
+    let mut commands = Vec::new(alloc);
+    add_made(&mut commands, poll_any(alloc))?;
+    add_made(&mut commands, write_any(alloc))?;
+    add_made(&mut commands, write_coils(alloc))?;
+    program(alloc, commands)
+}
+
+/// The program where its device is no map.
+fn for_device<'a>(alloc: Global) -> Result<Command<'a>, AllocError> {
+    let mut commands = Vec::new(alloc);
+    add_made(&mut commands, poll_device(alloc))?;
+    add_made(&mut commands, write_device(alloc))?;
+    add_made(&mut commands, write_coils(alloc))?;
+    program(alloc, commands)
+}
+
+/// Whether the device of these words is a map.
+fn names_map(matches: &ArgMatches<'_>) -> bool {
+    match matches.subcommand() {
+        Some((_, given)) => is_map(given.get_str("device").unwrap_or("")),
+        None => false,
+    }
+}
+
+/// Whether a word is the file of a map.
+pub fn is_map(word: &str) -> bool {
+    word.ends_with(".toml")
 }
 
 /// Reads the words of the command line, the program's name first.
@@ -192,5 +193,9 @@ fn whole<'a>(alloc: Global) -> Result<Command<'a>, AllocError> {
 /// # Errors
 /// What clap has to say: the help that was asked for, or the word that cannot be read.
 pub fn parse<'a>(alloc: Global, words: &'a [String]) -> Result<ArgMatches<'a>, Error> {
-    whole(alloc)?.try_get_matches_from(words)
+    let matches = for_any(alloc)?.try_get_matches_from(words)?;
+    if names_map(&matches) {
+        return Ok(matches);
+    }
+    for_device(alloc)?.try_get_matches_from(words)
 }

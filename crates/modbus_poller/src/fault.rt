@@ -1,25 +1,29 @@
 //! What happened, in words.
 
 use modbus_frame::{Error, ExceptionCode, ProtocolError, Response, TransportError};
+use modbus_map::Table;
+use modbus_plant::SttyCommand;
 use std::fmt;
 use std::io::ErrorKind;
 
 /// The circumstances of a call that failed.
 #[derive(Clone, Copy)]
-pub struct Circumstances {
+pub struct Circumstances<'a> {
     /// What the system said when the last connection failed.
     pub refusal: Option<ErrorKind>,
     /// How long the device may take, in milliseconds.
     pub limit: u64,
     /// Whether as much time had passed.
     pub is_late: bool,
+    /// What sets the port where it was asked over a serial line.
+    pub port: Option<SttyCommand<'a>>,
 }
 
 /// Why a call has no answer, in words.
 #[derive(Drop)]
 pub struct NoAnswer<'a> {
     pub error: &'a Error,
-    pub circumstances: Circumstances,
+    pub circumstances: Circumstances<'a>,
 }
 
 impl fmt::Display for NoAnswer<'_> {
@@ -35,29 +39,60 @@ impl fmt::Display for NoAnswer<'_> {
 fn write_transport<W: fmt::Write>(
     f: &mut fmt::Formatter<W>,
     fault: TransportError,
-    circumstances: Circumstances,
+    circumstances: Circumstances<'_>,
 ) -> fmt::Result {
     match fault {
         TransportError::NotConnected => write_unconnected(f, circumstances),
         TransportError::ReadFault | TransportError::WriteFault if circumstances.is_late => {
-            let limit = circumstances.limit;
-            write!(f, "no answer within {limit} ms")
+            write_late(f, circumstances)
         }
-        TransportError::ReadFault => f.write_str("the connection broke before the answer"),
-        TransportError::WriteFault => f.write_str("the connection broke under the request"),
-        TransportError::BrokenPipe => f.write_str(
-            "the device closed the connection without an answer",
-        ),
         TransportError::BytesRemaining => f.write_str(
             "the device closed the connection within its answer",
         ),
+        TransportError::ReadFault | TransportError::WriteFault | TransportError::BrokenPipe => {
+            write_broken(f, fault, circumstances.port.is_some())
+        }
         other => write!(f, "no Modbus answer: {other}"),
+    }
+}
+
+/// Writes that no answer came in time. A serial port gives none where it is not set, which can't be seen, so what sets it is told.
+fn write_late<W: fmt::Write>(
+    f: &mut fmt::Formatter<W>,
+    circumstances: Circumstances<'_>,
+) -> fmt::Result {
+    let limit = circumstances.limit;
+    write!(f, "no answer within {limit} ms")?;
+    match circumstances.port {
+        Some(command) => write!(f, "; if the port is not set: {command}"),
+        None => Ok(()),
+    }
+}
+
+/// Writes how a link broke.
+fn write_broken<W: fmt::Write>(
+    f: &mut fmt::Formatter<W>,
+    fault: TransportError,
+    is_serial: bool,
+) -> fmt::Result {
+    match (fault, is_serial) {
+        (TransportError::ReadFault, false) => {
+            f.write_str("the connection broke before the answer")
+        }
+        (TransportError::WriteFault, false) => {
+            f.write_str("the connection broke under the request")
+        }
+        (TransportError::WriteFault, true) => f.write_str(
+            "the serial port broke under the request",
+        ),
+        (_, false) => f.write_str("the device closed the connection without an answer"),
+        (_, true) => f.write_str("the serial port broke before the answer"),
     }
 }
 
 fn write_unconnected<W: fmt::Write>(
     f: &mut fmt::Formatter<W>,
-    circumstances: Circumstances,
+    circumstances: Circumstances<'_>,
 ) -> fmt::Result {
     match circumstances.refusal {
         Some(ErrorKind::ConnectionRefused) => f.write_str("connection refused"),
@@ -66,6 +101,9 @@ fn write_unconnected<W: fmt::Write>(
             write!(f, "no connection within {limit} ms")
         }
         Some(kind) => write!(f, "no connection: {kind}"),
+        None if circumstances.port.is_some() => {
+            f.write_str("the serial port broke, or does not fall silent")
+        }
         None => f.write_str("no connection"),
     }
 }
@@ -84,9 +122,18 @@ fn write_protocol<W: fmt::Write>(f: &mut fmt::Formatter<W>, fault: &ProtocolErro
     }
 }
 
-/// The word for so many registers.
-pub fn registers(count: usize) -> &'static str {
-    if count == 1 { "register" } else { "registers" }
+/// The word for so many places of a table.
+pub fn places(table: Table, count: usize) -> &'static str {
+    match (table, count == 1) {
+        (Table::Coils, true) => "coil",
+        (Table::Coils, false) => "coils",
+        (Table::DiscreteInputs, true) => "discrete input",
+        (Table::DiscreteInputs, false) => "discrete inputs",
+        (Table::InputRegisters, true) => "input register",
+        (Table::InputRegisters, false) => "input registers",
+        (Table::HoldingRegisters, true) => "holding register",
+        (Table::HoldingRegisters, false) => "holding registers",
+    }
 }
 
 /// An answer with another number of registers than it was asked for, in words.
@@ -96,7 +143,7 @@ pub struct OtherCount(pub usize);
 impl fmt::Display for OtherCount {
     fn fmt<W: fmt::Write>(&self, f: &mut fmt::Formatter<W>) -> fmt::Result {
         let found = self.0;
-        let registers = registers(found);
+        let registers = if found == 1 { "register" } else { "registers" };
         write!(f, "an answer with {found} {registers}")
     }
 }

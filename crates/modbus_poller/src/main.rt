@@ -1,35 +1,43 @@
-//! A program that reads and writes a Modbus TCP device from the command line: the values of items once or again and again, as a table, as
-//! CSV or as JSON.
+//! A program that reads and writes Modbus devices from the command line, one or those of a plant's map: values once or again and again, as a
+//! table, as CSV, as JSON or in the line protocol of InfluxDB.
 #![tactic(auto)]
 
-mod batch;
+mod arguments;
+mod asking;
 mod command;
-mod connector;
-mod device;
 mod fault;
-mod lines;
+mod once;
+mod options;
+mod place;
+mod planning;
+mod plant;
 mod polling;
+mod printing;
+mod refusal;
+mod target;
+mod telling;
 mod wanted;
+mod write_wanted;
 mod writing;
 
 use clap::ArgMatches;
 use modbus_command::{FAILED, fill_closed_streams, say, words_of};
+use refusal::Refusal;
 use std::process::ExitCode;
-use wanted::Refusal;
 
 /// What its messages begin with.
 const PROGRAM: &str = "modbus_poller";
 
 fn poll<'a>(rt: &HostRuntime, given: &ArgMatches<'a>) -> Result<bool, Refusal<'a>> {
-    Ok(polling::run(rt, &wanted::poll(rt.alloc(), given)?))
+    Ok(polling::run(rt, &wanted::poll(rt, given)?))
 }
 
 fn write<'a>(rt: &HostRuntime, given: &ArgMatches<'a>) -> Result<bool, Refusal<'a>> {
-    Ok(writing::registers(rt, &wanted::registers(rt.alloc(), given)?))
+    Ok(writing::run(rt, &write_wanted::write(rt, given)?))
 }
 
 fn write_coils<'a>(rt: &HostRuntime, given: &ArgMatches<'a>) -> Result<bool, Refusal<'a>> {
-    Ok(writing::coils(rt, &wanted::coils(rt.alloc(), given)?))
+    Ok(writing::coils(rt, &write_wanted::coils(rt.alloc(), given)?))
 }
 
 /// Does what the words ask for; whether the last poll, or the write, was good.

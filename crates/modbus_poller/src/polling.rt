@@ -1,225 +1,142 @@
 //! Polls, once or again and again.
-ghost use Rattle.std.specs.Prelude.{map, IfOk};
-ghost use Rattle.modbus_poll.specs.Inputs.{AsksInputs};
-ghost use Rattle.modbus_poll.specs.Polls.{AsksClient, GivesValues};
-ghost use Rattle.modbus_poller.specs.Tables.{PollsTables};
 
-use crate::device::{DeviceClient, circumstances, client_of};
-use crate::fault::{Circumstances, NoAnswer, OtherCount, Refused, registers};
-use crate::lines::{csv_header, csv_line, in_order, json_line, table_lines};
-use crate::wanted::{Format, PollTask};
-use modbus_client::{Client, Reader};
-use modbus_frame::{Error, TransportError};
-use modbus_poll::{Point, PollError, Read, Table, Value};
-use modbus_reconnect::Resend;
+use crate::asking::{DeviceClient, HostOpener, Opener, PlantClient, circumstances};
+use crate::planning::print_plan;
+use crate::printing::{print_gap, print_header, print_values};
+use crate::target::Target;
+use crate::telling::{Asked, tell, tell_device, tell_refused};
+use crate::wanted::PollTask;
+use modbus_lines::Polled;
+use modbus_map::LinkKind;
+use modbus_plant::{OpenError, Settings};
 use std::alloc::{AllocError, Global};
-use std::io::{self, Write};
 use std::time::{Duration, Instant};
-use std::{fmt, thread};
+use std::{io, thread};
 
-/// A poll that gave no values.
-#[derive(Drop)]
-struct Trouble {
-    table: Table,
-    error: PollError,
+/// What came of a poll of a device.
+#[derive(Clone, Copy, PartialEq, Eq)]
+enum Outcome {
+    /// Each read gave values.
+    Whole,
+    /// A read was refused.
+    Refused,
+    /// A call failed.
+    Failed,
 }
 
-/// A read, in words.
-#[derive(Drop)]
-struct ReadInWords<'a> {
-    table: Table,
-    read: &'a Read,
-}
-
-impl fmt::Display for ReadInWords<'_> {
-    fn fmt<W: fmt::Write>(&self, f: &mut fmt::Formatter<W>) -> fmt::Result {
-        let count = self.read.count;
-        let first = self.read.address;
-        let table = match self.table {
-            Table::Holding => "holding",
-            Table::Input => "input",
-        };
-        let registers = registers(usize::from(count));
-        write!(f, "read of {count} {table} {registers} from {first}")
-    }
-}
-
-/// The items that a read gives, in words.
-#[derive(Drop)]
-struct ItemsOf<'a, 'w> {
-    table: Table,
-    read: &'w Read,
-    points: &'w [Point],
-    names: &'w [&'a str],
-}
-
-impl fmt::Display for ItemsOf<'_, '_> {
-    fn fmt<W: fmt::Write>(&self, f: &mut fmt::Formatter<W>) -> fmt::Result {
-        for (point, name) in self.points.iter().zip(self.names) {
-            if point.table == self.table && self.read.holds(&point.item) {
-                write!(f, " {name}")?;
-            }
-        }
-        Ok(())
-    }
-}
-
-/// The values of the items in holding registers.
-fn read_holding<R: Reader>(
-    alloc: Global,
-    client: &mut R,
-    wanted: &PollTask<'_, '_>,
-) -> Result<Vec<Value>, Trouble>
-    ensures { IfOk result (λ values. GivesValues (AsksClient R.Client.answers) client.old
-        wanted.now.holding.plan wanted.now.holding.items.items values.items client.new) }
-{
-    match wanted.holding.poll(alloc, client) {
-        Ok(values) => Ok(values),
-        Err(error) => Err(Trouble {
-            table: Table::Holding,
-            error,
-        }),
-    }
-}
-
-/// The values of the items in input registers.
-fn read_input<R: Reader>(
-    alloc: Global,
-    client: &mut R,
-    wanted: &PollTask<'_, '_>,
-) -> Result<Vec<Value>, Trouble>
-    ensures { IfOk result (λ values. GivesValues (AsksInputs R.Client.answers) client.old
-        wanted.now.input.plan wanted.now.input.items.items values.items client.new) }
-{
-    match wanted.input.poll_inputs(alloc, client) {
-        Ok(values) => Ok(values),
-        Err(error) => Err(Trouble {
-            table: Table::Input,
-            error,
-        }),
-    }
-}
-
-/// The values of the items, in their order, each by the reads of its own table.
-fn read_values<R: Reader>(
-    alloc: Global,
-    client: &mut R,
-    wanted: &PollTask<'_, '_>,
-) -> Result<Vec<Value>, Trouble>
-    ensures { IfOk result (λ values. PollsTables (AsksClient R.Client.answers)
-        (AsksInputs R.Client.answers) client.old wanted.now.holding wanted.now.input
-        (map (λ point. point.table) wanted.now.points.items) values.items client.new) }
-{
-    let holding = read_holding(alloc, client, wanted)?;
-    let input = read_input(alloc, client, wanted)?;
-    match in_order(alloc, wanted.points.as_slice(), holding, input) {
-        Ok(values) => Ok(values),
-        Err(AllocError) => Err(Trouble {
-            table: Table::Holding,
-            error: PollError::NoMemory,
-        }),
-    }
-}
-
-/// Tells of the read that has no answer.
-fn tell_read(
+/// Prints the values of a poll, and tells of the reads that the device refused.
+fn show(
     rt: &HostRuntime,
-    wanted: &PollTask<'_, '_>,
-    table: Table,
-    place: usize,
-    what: &(impl fmt::Display),
-) -> io::Result<()> {
-    let batch = match table {
-        Table::Holding => &wanted.holding,
-        Table::Input => &wanted.input,
-    };
-    match batch.reads().get(place) {
-        Some(read) => {
-            let words = ReadInWords { table, read };
-            let items = ItemsOf {
-                table,
-                read,
-                points: wanted.points.as_slice(),
-                names: wanted.names,
-            };
-            eprintln!(rt; "modbus_poller: {words} for{items}: {what}")
-        }
-        None => eprintln!(rt; "modbus_poller: {what}"),
+    wanted: &PollTask,
+    asked: Asked<'_>,
+    polled: &Polled<'_>,
+) -> io::Result<Outcome> {
+    let name = asked.target.name.as_str();
+    print_values(rt, wanted.style, name, polled.readings.as_slice())?;
+    if tell_refused(rt, asked, &polled.given) {
+        Ok(Outcome::Whole)
+    } else {
+        Ok(Outcome::Refused)
     }
 }
 
-/// Tells what happened in a poll that gave no values.
-fn tell(
+/// Polls a device by the client of its link, and prints the values, or tells what happened.
+fn poll_by<C: PlantClient>(
     rt: &HostRuntime,
-    wanted: &PollTask<'_, '_>,
-    trouble: &Trouble,
-    circumstances: Circumstances,
-) -> io::Result<()> {
-    let table = trouble.table;
-    match &trouble.error {
-        PollError::Call {
-            error: Error::Transport(TransportError::NotConnected),
-            ..
-        } => {
-            let device = wanted.device.address;
-            let error = &Error::Transport(TransportError::NotConnected);
-            let what = NoAnswer {
-                error,
-                circumstances,
-            };
-            eprintln!(rt; "modbus_poller: {device}: {what}")
-        }
-        PollError::Call { read, error } => {
-            let what = NoAnswer {
-                error,
-                circumstances,
-            };
-            tell_read(rt, wanted, table, *read, &what)
-        }
-        PollError::Exception { read, code } => tell_read(rt, wanted, table, *read, &Refused(*code)),
-        PollError::Words { read, found } => tell_read(
-            rt,
-            wanted,
-            table,
-            *read,
-            &OtherCount(*found),
-        ),
-        PollError::NoMemory => eprintln!(rt; "modbus_poller: no memory"),
-    }
-}
-
-/// The lines of a poll.
-fn lines_of(
-    alloc: Global,
-    wanted: &PollTask<'_, '_>,
-    values: &[Value],
-) -> Result<Vec<u8>, AllocError> {
-    match wanted.format {
-        Format::Table => table_lines(alloc, wanted.names, values),
-        Format::Csv => csv_line(alloc, values),
-        Format::Json => json_line(alloc, wanted.names, values),
-    }
-}
-
-/// Polls once, and prints the values, or tells what happened; whether there were values.
-fn poll_once(
-    rt: &HostRuntime,
-    client: &mut DeviceClient<'_>,
-    wanted: &PollTask<'_, '_>,
+    client: &mut C,
+    link: &LinkKind,
+    wanted: &PollTask,
+    asked: Asked<'_>,
     began: Instant,
-) -> io::Result<bool> {
-    match read_values(rt.alloc(), client, wanted) {
-        Ok(values) => {
-            let lines = lines_of(rt.alloc(), wanted, values.as_slice())?;
-            io::writer(rt).write_all(lines.as_slice())?;
-            Ok(true)
-        }
+) -> io::Result<Outcome> {
+    let target = asked.target;
+    match client.poll_points(
+        rt.alloc(),
+        target.settings,
+        &target.points,
+        wanted.style.format(),
+    ) {
+        Ok(polled) => show(rt, wanted, asked, &polled),
         Err(trouble) => {
-            let stood = circumstances(rt, client, wanted.device, began);
-            let _ = tell(rt, wanted, &trouble, stood);
-            Ok(false)
+            let stood = circumstances(rt, client, link, target.settings, began);
+            let _ = tell(rt, asked, &trouble, stood);
+            Ok(Outcome::Failed)
         }
     }
+}
+
+/// Opens a link that is not open.
+fn open<C: PlantClient, O: Opener<C>>(
+    opener: &O,
+    slot: &mut Option<C>,
+    link: &LinkKind,
+    settings: Settings,
+) -> Result<(), OpenError> {
+    if slot.is_none() {
+        *slot = Some(opener.open(link, settings)?);
+    }
+    Ok(())
+}
+
+/// Polls a device by the client of its link, which is opened where it is not open.
+fn poll_link<C: PlantClient, O: Opener<C>>(
+    rt: &HostRuntime,
+    opener: &O,
+    slot: &mut Option<C>,
+    link: &LinkKind,
+    wanted: &PollTask,
+    asked: Asked<'_>,
+) -> io::Result<Outcome> {
+    let began = Instant::now(rt)?;
+    let settings = wanted.plant.opening_of(asked.target);
+    if let Err(error) = open(opener, slot, link, settings) {
+        let _ = tell_device(rt, asked.target.name.as_str(), &error);
+        return Ok(Outcome::Failed);
+    }
+    match slot {
+        Some(client) => poll_by(rt, client, link, wanted, asked, began),
+        None => Ok(Outcome::Failed),
+    }
+}
+
+/// Polls a device; whether each read gave values. A serial port over which a call failed is opened anew by the next poll.
+fn poll_target<C: PlantClient, O: Opener<C>>(
+    rt: &HostRuntime,
+    opener: &O,
+    slots: &mut [Option<C>],
+    wanted: &PollTask,
+    target: &Target,
+) -> io::Result<bool> {
+    let asked = Asked {
+        target,
+        is_named: wanted.style.has_devices,
+    };
+    let Some(link) = wanted.plant.links.get(target.link) else {
+        return Ok(false);
+    };
+    let Some(slot) = slots.get_mut(target.link) else {
+        return Ok(false);
+    };
+    let outcome = poll_link(rt, opener, slot, link, wanted, asked)?;
+    if outcome == Outcome::Failed && matches!(link, LinkKind::Serial(_)) {
+        *slot = None;
+    }
+    Ok(outcome == Outcome::Whole)
+}
+
+/// Polls each device once, one after another; whether each read gave values.
+fn poll_once<C: PlantClient, O: Opener<C>>(
+    rt: &HostRuntime,
+    opener: &O,
+    slots: &mut [Option<C>],
+    wanted: &PollTask,
+) -> io::Result<bool> {
+    let mut is_good = true;
+    for target in &wanted.plant.targets {
+        let is_whole = poll_target(rt, opener, slots, wanted, target)?;
+        is_good = is_good && is_whole;
+    }
+    Ok(is_good)
 }
 
 /// Waits until the next poll is due.
@@ -231,70 +148,78 @@ fn wait(rt: &HostRuntime, began: Instant, every: Duration) -> io::Result<()> {
     Ok(())
 }
 
-/// Polls as often as is wanted; whether the last poll gave values.
-fn poll_all(
+/// Polls as often as is wanted; whether the last poll gave all values.
+fn poll_all<C: PlantClient, O: Opener<C>>(
     rt: &HostRuntime,
-    client: &mut DeviceClient<'_>,
-    wanted: &PollTask<'_, '_>,
+    opener: &O,
+    slots: &mut [Option<C>],
+    wanted: &PollTask,
 ) -> io::Result<bool> {
-    if wanted.format == Format::Csv {
-        let header = csv_header(rt.alloc(), wanted.names)?;
-        io::writer(rt).write_all(header.as_slice())?;
-    }
+    print_header(rt, wanted.style, wanted.plant.targets.as_slice())?;
     let mut began = Instant::now(rt)?;
-    let mut is_good = poll_once(rt, client, wanted, began)?;
+    let mut is_good = poll_once(rt, opener, slots, wanted)?;
     for _again in 1..wanted.count {
         if let Some(every) = wanted.every {
             wait(rt, began, every)?;
         }
-        if wanted.format == Format::Table {
-            println!(rt; "")?;
-        }
+        print_gap(rt, wanted.style)?;
         began = Instant::now(rt)?;
-        is_good = poll_once(rt, client, wanted, began)?;
+        is_good = poll_once(rt, opener, slots, wanted)?;
     }
     Ok(is_good)
+}
+
+/// As many links as these, none of which is open.
+fn closed<C: PlantClient>(alloc: Global, links: &[LinkKind]) -> Result<Vec<Option<C>>, AllocError> {
+    let mut slots = Vec::new(alloc);
+    for _link in links {
+        slots.push(None)?;
+    }
+    Ok(slots)
+}
+
+/// Closes each connection.
+fn close<C: PlantClient>(slots: &mut [Option<C>]) {
+    for slot in slots {
+        if let Some(client) = slot {
+            client.close();
+        }
+    }
+}
+
+/// Polls over links that this opener opens, and closes each connection.
+fn poll_plant<C: PlantClient, O: Opener<C>>(
+    rt: &HostRuntime,
+    opener: &O,
+    wanted: &PollTask,
+) -> io::Result<bool> {
+    let mut slots: Vec<Option<C>> = closed(rt.alloc(), wanted.plant.links.as_slice())?;
+    let is_good = poll_all(rt, opener, &mut slots, wanted)?;
+    close(&mut slots);
+    Ok(is_good)
+}
+
+/// Polls over links of this machine.
+fn poll_here(rt: &HostRuntime, wanted: &PollTask) -> io::Result<bool> {
+    poll_plant::<DeviceClient<'_>, HostOpener<'_>>(rt, &HostOpener(rt), wanted)
 }
 
 /// Prints the reads that a poll makes.
-fn print_plan(rt: &HostRuntime, wanted: &PollTask<'_, '_>) -> io::Result<()> {
-    for read in wanted.holding.reads() {
-        let table = Table::Holding;
-        let words = ReadInWords { table, read };
-        println!(rt; "{words}")?;
+fn print_plans(rt: &HostRuntime, wanted: &PollTask) -> io::Result<bool> {
+    for target in &wanted.plant.targets {
+        print_plan(rt, target, wanted.style.has_devices)?;
     }
-    for read in wanted.input.reads() {
-        let table = Table::Input;
-        let words = ReadInWords { table, read };
-        println!(rt; "{words}")?;
-    }
-    Ok(())
-}
-
-/// Polls by a client of the device.
-fn poll_device(
-    rt: &HostRuntime,
-    client: &mut DeviceClient<'_>,
-    wanted: &PollTask<'_, '_>,
-) -> io::Result<bool> {
-    client.set_retries(wanted.retries, Resend::Reads);
-    let is_good = poll_all(rt, client, wanted)?;
-    let _ = client.disconnect();
-    Ok(is_good)
-}
-
-/// Polls, or prints the reads that a poll makes.
-fn poll_or_plan(rt: &HostRuntime, wanted: &PollTask<'_, '_>) -> io::Result<bool> {
-    if wanted.is_plan {
-        print_plan(rt, wanted)?;
-        return Ok(true);
-    }
-    poll_device(rt, &mut client_of(rt, wanted.device), wanted)
+    Ok(true)
 }
 
 /// Does the poll that is wanted; whether the last one gave values, and they were printed.
-pub fn run(rt: &HostRuntime, wanted: &PollTask<'_, '_>) -> bool {
-    match poll_or_plan(rt, wanted) {
+pub fn run(rt: &HostRuntime, wanted: &PollTask) -> bool {
+    let done = if wanted.is_plan {
+        print_plans(rt, wanted)
+    } else {
+        poll_here(rt, wanted)
+    };
+    match done {
         Ok(is_good) => is_good,
         Err(error) => {
             let _ = eprintln!(rt; "modbus_poller: {error}");

@@ -1,264 +1,176 @@
-//! What the words ask for.
+//! What the words of a poll ask for.
 
-use crate::batch::Batch;
-use crate::device::Device;
+use crate::command::is_map;
+use crate::options::{limits, settings, settings_for, style};
+use crate::place::{link_of, points};
+use crate::plant::{Choice, chosen, is_chosen, read_plant};
+use crate::printing::Style;
+use crate::refusal::Refusal;
+use crate::target::{Plant, Target};
 use clap::ArgMatches;
-use modbus_command::{FAILED, USAGE, why_no_point};
-use modbus_frame::{Address, Coil, Slave, Word};
-use modbus_pdu::{MAX_WRITE_COILS, MAX_WRITE_REGISTERS};
-use modbus_poll::{Item, Point, Table, parse_point};
-use std::alloc::{AllocError, AllocFailed, Global};
-use std::fmt;
+use modbus_lines::Points;
+use modbus_map::{Device, Map, Point};
+use modbus_poll::Limits;
+use std::alloc::Global;
 use std::time::Duration;
-
-/// How many addresses there are.
-const ADDRESSES: usize = 0x1_0000;
-
-/// Why the words ask for nothing that can be done.
-#[derive(Drop)]
-pub enum Refusal<'a> {
-    /// This word cannot be read.
-    Word { word: &'a str, why: &'static str },
-    /// Memory was refused.
-    NoMemory,
-}
-
-impl Refusal<'_> {
-    /// The status that tells it.
-    pub fn status(&self) -> u8 {
-        match self {
-            Refusal::Word { .. } => USAGE,
-            Refusal::NoMemory => FAILED,
-        }
-    }
-}
-
-impl fmt::Display for Refusal<'_> {
-    fn fmt<W: fmt::Write>(&self, f: &mut fmt::Formatter<W>) -> fmt::Result {
-        match self {
-            Refusal::Word { word, why } => write!(f, "{word}: {why}"),
-            Refusal::NoMemory => f.write_str("no memory"),
-        }
-    }
-}
-
-impl From<AllocError> for Refusal<'_> {
-    fn from(_error: AllocError) -> Self {
-        Refusal::NoMemory
-    }
-}
-
-impl<T: Drop> From<AllocFailed<T>> for Refusal<'_> {
-    fn from(_error: AllocFailed<T>) -> Self {
-        Refusal::NoMemory
-    }
-}
-
-/// How the values of a poll are printed.
-#[derive(Clone, Copy, Debug, PartialEq, Eq)]
-pub enum Format {
-    /// A line for each item: its name and its value.
-    Table,
-    /// A line for each poll, after one with the names: the values between commas (RFC 4180).
-    Csv,
-    /// A line for each poll: an object with a member for each item (RFC 8259).
-    Json,
-}
-
-/// The format of this name.
-fn format_named(name: &str) -> Format {
-    if name == "csv" {
-        return Format::Csv;
-    }
-    if name == "json" {
-        return Format::Json;
-    }
-    Format::Table
-}
 
 /// A poll: once, or every so often, so many times.
 #[derive(Drop)]
-pub struct PollTask<'a, 'w> {
-    pub device: Device,
+pub struct PollTask {
+    pub plant: Plant,
     pub every: Option<Duration>,
     pub count: u64,
-    pub retries: u32,
-    pub format: Format,
+    pub style: Style,
     pub is_plan: bool,
-    /// The items as they were written, and what they are.
-    pub names: &'w [&'a str],
-    pub points: Vec<Point>,
-    /// The items in holding registers, and those in input registers.
-    pub holding: Batch,
-    pub input: Batch,
 }
 
-/// A write of registers or coils, from this address on.
-#[derive(Drop)]
-pub struct WriteTask<T> {
-    pub device: Device,
-    pub first: Address,
-    pub values: Vec<T>,
-}
-
-/// The device that the words name.
-fn device<'a>(matches: &ArgMatches<'a>) -> Result<Device, Refusal<'a>> {
-    let word = matches.get_str("device").unwrap_or("");
-    let Ok(address) = word.parse() else {
-        return Err(Refusal::Word {
-            word,
-            why: "no IP address and port, as 192.0.2.1:502",
-        });
-    };
-    Ok(Device {
-        address,
-        unit: Slave(matches.get_one("unit").unwrap_or(0)),
-        limit: matches.get_one("timeout").unwrap_or(1000),
-    })
-}
-
-/// What the words name, none of them twice.
-fn points<'a>(alloc: Global, names: &[&'a str]) -> Result<Vec<Point>, Refusal<'a>> {
-    let mut points = Vec::new(alloc);
-    for (place, name) in names.iter().enumerate() {
-        if names[..place].contains(name) {
-            return Err(Refusal::Word {
-                word: name,
-                why: "stands twice",
-            });
-        }
-        match parse_point(name) {
-            Ok(point) => points.push(point)?,
-            Err(fault) => {
-                return Err(Refusal::Word {
-                    word: name,
-                    why: why_no_point(fault),
-                });
-            }
-        }
-    }
-    Ok(points)
-}
-
-/// The items in a table.
-fn items_of(alloc: Global, points: &[Point], table: Table) -> Result<Vec<Item>, AllocError> {
-    points
-        .iter()
-        .filter(|point| point.table == table)
-        .map(|point| point.item)
-        .collect(alloc)
-}
-
-fn batch<'a>(alloc: Global, points: &[Point], table: Table) -> Result<Batch, Refusal<'a>> {
-    match Batch::new(alloc, items_of(alloc, points, table)?) {
-        Ok(batch) => Ok(batch),
-        Err(_) => Err(Refusal::NoMemory),
-    }
-}
-
-/// The items in holding registers, and those in input registers.
-fn batches<'a>(alloc: Global, points: &[Point]) -> Result<(Batch, Batch), Refusal<'a>> {
-    let holding = batch(alloc, points, Table::Holding)?;
-    let input = batch(alloc, points, Table::Input)?;
-    Ok((holding, input))
-}
-
-/// The poll that the words ask for.
-pub fn poll<'a, 'w>(
+/// The items that the words name of a device, and its name.
+fn target_of_items<'a>(
     alloc: Global,
-    matches: &'w ArgMatches<'a>,
-) -> Result<PollTask<'a, 'w>, Refusal<'a>> {
-    let Some(names) = matches.get_strs("items") else {
-        return Err(Refusal::Word {
-            word: "",
-            why: "no item",
-        });
-    };
-    let device = device(matches)?;
-    let every = matches.get_one("every").map(Duration::from_millis);
-    let most = if every.is_some() { u64::MAX } else { 1 };
-    let points = points(alloc, names)?;
-    let (holding, input) = batches(alloc, points.as_slice())?;
-    Ok(PollTask {
-        device,
-        every,
-        count: matches.get_one("count").unwrap_or(most),
-        retries: matches.get_one("retries").unwrap_or(0),
-        format: format_named(matches.get_str("format").unwrap_or("table")),
-        is_plan: matches.get_flag("plan"),
-        names,
+    matches: &ArgMatches<'a>,
+    word: &'a str,
+) -> Result<Target, Refusal<'a>> {
+    let points = points(alloc, matches.get_strs("items").unwrap_or(&[]))?;
+    let points = Points::new(alloc, limits(matches, Limits::REGISTERS), points)?;
+    Ok(Target {
+        name: String::from_str(alloc, word)?,
+        link: 0,
+        settings: settings(matches),
         points,
-        holding,
-        input,
     })
 }
 
-/// Refuses values of which the last has no address.
-fn check_end<'a>(
+/// The one device that the words name, with its items.
+fn plant_of_device<'a>(
+    alloc: Global,
     matches: &ArgMatches<'a>,
-    first: Address,
-    count: usize,
-) -> Result<(), Refusal<'a>> {
-    if count > ADDRESSES - usize::from(first) {
-        return Err(Refusal::Word {
-            word: matches.get_str("first").unwrap_or(""),
-            why: "the last value passes the last address, 65535",
-        });
+    word: &'a str,
+) -> Result<Plant, Refusal<'a>> {
+    let link = link_of(alloc, word, matches.get_flag("rtu"))?;
+    let target = target_of_items(alloc, matches, word)?;
+    let mut plant = Plant::new(alloc);
+    plant.add(link, target)?;
+    Ok(plant)
+}
+
+/// The points of a device that are chosen, in their order.
+fn points_of(
+    alloc: Global,
+    points: Vec<Point>,
+    place: usize,
+    choices: &[Choice<'_>],
+) -> Result<Vec<Point>, Refusal<'static>> {
+    let mut kept = Vec::new(alloc);
+    for point in points {
+        if is_chosen(choices, place, &point) {
+            kept.push(point)?;
+        }
+    }
+    Ok(kept)
+}
+
+/// The points of a device that are chosen, and the reads that give them; nothing where none is chosen.
+fn chosen_points(
+    alloc: Global,
+    within: Limits,
+    points: Vec<Point>,
+    place: usize,
+    choices: &[Choice<'_>],
+) -> Result<Option<Points>, Refusal<'static>> {
+    let points = points_of(alloc, points, place, choices)?;
+    if points.is_empty() {
+        return Ok(None);
+    }
+    Ok(Some(Points::new(alloc, within, points)?))
+}
+
+/// Adds the device at this place of a map, where a point of it is chosen.
+fn add_chosen(
+    alloc: Global,
+    matches: &ArgMatches<'_>,
+    plant: &mut Plant,
+    device: Device,
+    place: usize,
+    choices: &[Choice<'_>],
+) -> Result<(), Refusal<'static>> {
+    let settings = settings_for(matches, &device);
+    let within = limits(matches, device.limits);
+    let Device {
+        name,
+        link,
+        points,
+        ..
+    } = device;
+    if let Some(points) = chosen_points(alloc, within, points, place, choices)? {
+        let target = Target {
+            name,
+            link: 0,
+            settings,
+            points,
+        };
+        plant.add(link, target)?;
     }
     Ok(())
 }
 
-/// The write of registers that the words ask for.
-pub fn registers<'a>(
+/// What the words name of a map.
+fn choices_of<'a>(
     alloc: Global,
-    matches: &ArgMatches<'a>,
-) -> Result<WriteTask<Word>, Refusal<'a>> {
-    let first = matches.get_one("first").unwrap_or(0);
-    let mut values = Vec::new(alloc);
-    let words = matches.get_strs("values").unwrap_or(&[]);
-    if let Some(word) = words.get(MAX_WRITE_REGISTERS) {
-        return Err(Refusal::Word {
-            word,
-            why: "one write has at most 123 registers",
-        });
-    }
+    map: &Map,
+    words: &[&'a str],
+) -> Result<Vec<Choice<'a>>, Refusal<'a>> {
+    let mut choices = Vec::new(alloc);
     for word in words {
-        match word.parse() {
-            Ok(value) => values.push(value)?,
-            Err(_) => {
-                return Err(Refusal::Word {
-                    word,
-                    why: "no number from 0 to 65535",
-                });
-            }
-        }
+        choices.push(chosen(map, word)?)?;
     }
-    check_end(matches, first, values.len())?;
-    Ok(WriteTask {
-        device: device(matches)?,
-        first,
-        values,
-    })
+    Ok(choices)
 }
 
-/// The write of coils that the words ask for.
-pub fn coils<'a>(alloc: Global, matches: &ArgMatches<'a>) -> Result<WriteTask<Coil>, Refusal<'a>> {
-    let first = matches.get_one("first").unwrap_or(0);
-    let mut states = Vec::new(alloc);
-    let words = matches.get_strs("states").unwrap_or(&[]);
-    if let Some(word) = words.get(MAX_WRITE_COILS) {
-        return Err(Refusal::Word {
-            word,
-            why: "one write has at most 1968 coils",
-        });
+/// The devices of a map that are chosen.
+fn plant_of_choices(
+    alloc: Global,
+    matches: &ArgMatches<'_>,
+    map: Map,
+    choices: &[Choice<'_>],
+) -> Result<Plant, Refusal<'static>> {
+    let mut plant = Plant::new(alloc);
+    for (place, device) in map.devices.into_iter().enumerate() {
+        add_chosen(alloc, matches, &mut plant, device, place, choices)?;
     }
-    for word in words {
-        states.push(*word == "1")?;
+    Ok(plant)
+}
+
+/// The devices of the map of a file that the words name.
+fn plant_of_map<'a>(
+    rt: &HostRuntime,
+    matches: &ArgMatches<'a>,
+    path: &'a str,
+) -> Result<Plant, Refusal<'a>> {
+    let map = read_plant(rt, path)?;
+    let words = matches.get_strs("words").unwrap_or(&[]);
+    let choices = choices_of(rt.alloc(), &map, words)?;
+    plant_of_choices(rt.alloc(), matches, map, choices.as_slice())
+}
+
+/// The devices that the words name.
+fn plant<'a>(rt: &HostRuntime, matches: &ArgMatches<'a>) -> Result<Plant, Refusal<'a>> {
+    let word = matches.get_str("device").unwrap_or("");
+    if is_map(word) {
+        return plant_of_map(rt, matches, word);
     }
-    check_end(matches, first, states.len())?;
-    Ok(WriteTask {
-        device: device(matches)?,
-        first,
-        values: states,
+    plant_of_device(rt.alloc(), matches, word)
+}
+
+/// The poll that the words ask for.
+pub fn poll<'a>(rt: &HostRuntime, matches: &ArgMatches<'a>) -> Result<PollTask, Refusal<'a>> {
+    let plant = plant(rt, matches)?;
+    let every = matches.get_one("every").map(Duration::from_millis);
+    let most = if every.is_some() { u64::MAX } else { 1 };
+    Ok(PollTask {
+        plant,
+        every,
+        count: matches.get_one("count").unwrap_or(most),
+        style: style(matches, is_map(matches.get_str("device").unwrap_or(""))),
+        is_plan: matches.get_flag("plan"),
     })
 }

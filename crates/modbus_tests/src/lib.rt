@@ -9,6 +9,8 @@ mod fleet;
 #[cfg(test)]
 mod hub;
 #[cfg(test)]
+mod lines;
+#[cfg(test)]
 mod link;
 #[cfg(test)]
 mod links;
@@ -16,5 +18,7 @@ mod links;
 mod listeners;
 #[cfg(test)]
 mod map;
+#[cfg(test)]
+mod plant;
 #[cfg(test)]
 mod store;

@@ -4,7 +4,7 @@ ghost use Rattle.std.specs.List.{AllPass};
 ghost use Rattle.modbus_map.specs.Sound.{is_sound, IsSoundDevice};
 
 use crate::device::{Device, LinkKind};
-use crate::file::fault::{Fault, MapError, Place, Reason, refused};
+use crate::file::fault::{At, Fault, MapError, Reason, refused};
 use crate::file::names::{first_repeat, told_name};
 use crate::file::point::read_point;
 use crate::file::{fields, words};
@@ -150,7 +150,7 @@ fn add_points(
 {
     for value in list {
         if let Err(fault) = add_point(alloc, points, value, most) {
-            return Err(Place::Point(device, told_name(value)).error(alloc, fault));
+            return Err(At::Point(device, told_name(value)).error(alloc, fault));
         }
     }
     Ok(())
@@ -194,7 +194,7 @@ fn add_groups(
     for value in list {
         match group_of(alloc, groups, value) {
             Ok(group) => add_points(alloc, device, points, group, most)?,
-            Err(fault) => return Err(Place::Device(device).error(alloc, fault)),
+            Err(fault) => return Err(At::Device(device).error(alloc, fault)),
         }
     }
     Ok(())
@@ -209,7 +209,7 @@ fn list_of<'a>(
 ) -> Result<Option<&'a Array>, MapError> {
     match fields::list(alloc, table, key) {
         Ok(list) => Ok(list),
-        Err(fault) => Err(Place::Device(device).error(alloc, fault)),
+        Err(fault) => Err(At::Device(device).error(alloc, fault)),
     }
 }
 
@@ -241,7 +241,7 @@ fn names_differ(alloc: Global, device: &str, points: &[Point]) -> Result<(), Map
         .collect(alloc)?;
     match first_repeat(&mut names) {
         None => Ok(()),
-        Some(name) => Err(Place::Device(device).error(alloc, refused(alloc, name, Reason::Twice))),
+        Some(name) => Err(At::Device(device).error(alloc, refused(alloc, name, Reason::Twice))),
     }
 }
 
@@ -258,11 +258,11 @@ pub(crate) fn read_device(
 {
     let name = told_name(value);
     let Value::Table(table) = value else {
-        return Err(Place::Map.error(alloc, refused(alloc, "device", Reason::Table)));
+        return Err(At::Map.error(alloc, refused(alloc, "device", Reason::Table)));
     };
     match settings_of(alloc, table) {
         Ok(settings) => with_points(alloc, settings, name, table, groups),
-        Err(fault) => Err(Place::Device(name).error(alloc, fault)),
+        Err(fault) => Err(At::Device(name).error(alloc, fault)),
     }
 }
 

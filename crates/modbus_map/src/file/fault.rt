@@ -1,6 +1,7 @@
 //! Why a text is no map.
 
 use std::alloc::{AllocError, Global};
+use std::fmt;
 
 /// Why a word of a map is refused.
 #[derive(Clone, Copy, Debug, PartialEq, Eq, thiserror::Error)]
@@ -113,6 +114,27 @@ pub(crate) fn refused(alloc: Global, word: &str, reason: Reason) -> Fault {
     }
 }
 
+/// Where in a map a word stands.
+#[derive(Debug, PartialEq, Eq, Drop)]
+pub enum MapPlace {
+    /// In no device.
+    Map,
+    /// In the device of this name.
+    Device(String),
+    /// In the device of the first name, and there in the point of the second.
+    Point(String, String),
+}
+
+impl fmt::Display for MapPlace {
+    fn fmt<W: fmt::Write>(&self, f: &mut fmt::Formatter<W>) -> fmt::Result {
+        match self {
+            MapPlace::Map => f.write_str("the map"),
+            MapPlace::Device(device) => write!(f, "device {device}"),
+            MapPlace::Point(device, point) => write!(f, "device {device}, point {point}"),
+        }
+    }
+}
+
 /// Why a text is no map, in one line.
 #[derive(Debug, PartialEq, Eq, Drop, thiserror::Error)]
 pub enum MapError {
@@ -125,7 +147,7 @@ pub enum MapError {
     /// It is TOML, and at this place a word is refused.
     #[error("{place}: {word}: {reason}")]
     Refused {
-        place: String,
+        place: MapPlace,
         word: String,
         reason: Reason,
     },
@@ -145,9 +167,9 @@ impl From<AllocError> for MapError {
     }
 }
 
-/// Where in a map a word stands.
+/// Where in a map a word stands, while it is read.
 #[derive(Clone, Copy)]
-pub(crate) enum Place<'a> {
+pub(crate) enum At<'a> {
     /// In no device.
     Map,
     /// In the device of this name.
@@ -156,13 +178,16 @@ pub(crate) enum Place<'a> {
     Point(&'a str, &'a str),
 }
 
-impl Place<'_> {
-    /// Its text.
-    fn shown(self, alloc: Global) -> Result<String, AllocError> {
+impl At<'_> {
+    /// The place.
+    fn place(self, alloc: Global) -> Result<MapPlace, AllocError> {
         match self {
-            Place::Map => String::from_str(alloc, "the map"),
-            Place::Device(device) => format!(in alloc; "device {device}"),
-            Place::Point(device, point) => format!(in alloc; "device {device}, point {point}"),
+            At::Map => Ok(MapPlace::Map),
+            At::Device(device) => Ok(MapPlace::Device(String::from_str(alloc, device)?)),
+            At::Point(device, point) => {
+                let device = String::from_str(alloc, device)?;
+                Ok(MapPlace::Point(device, String::from_str(alloc, point)?))
+            }
         }
     }
 
@@ -172,7 +197,7 @@ impl Place<'_> {
             Fault::Refused { word, reason } => (word, reason),
             Fault::NoMemory => return MapError::NoMemory,
         };
-        match self.shown(alloc) {
+        match self.place(alloc) {
             Ok(place) => MapError::Refused {
                 place,
                 word,

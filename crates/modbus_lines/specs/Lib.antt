@@ -1,0 +1,5 @@
+pub mod CsvLines
+pub mod Influx
+pub mod JsonLines
+pub mod Readings
+pub mod Rows

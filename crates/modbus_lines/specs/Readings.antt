@@ -1,0 +1,46 @@
+-- The points of a device in a poll, and the text of each.
+use Rattle.std.specs.Prelude.{◌≡◌, ℕ, List, map, All, Option, Some, None, Result, Ok, Err, String, string_bytes}
+use Rattle.std.specs.declared.alloc.Global.{Global}
+use Rattle.modbus_frame.specs.Meaning.{Asked}
+use Rattle.modbus_frame.specs.declared.code.ExceptionCode.{ExceptionCode}
+use Rattle.modbus_client.specs.Matches.{Answer}
+use Rattle.modbus_map.specs.declared.given.Given.{Given}
+use Rattle.modbus_map.specs.declared.point.Point.{Point}
+use Rattle.modbus_map.specs.declared.tables.Tables.{Tables}
+use Rattle.modbus_map.specs.declared.value.PointValue.{PointValue}
+use Rattle.modbus_map.specs.Gathering.{of_table, seen_by, value_among, GathersAll}
+use Rattle.modbus_map.specs.Text.{IsTextOf, IsJsonOf}
+use Rattle.modbus_lines.specs.declared.reading.Format.{Format}
+use Rattle.modbus_lines.specs.declared.reading.Format.TheVariants.{Table, Csv, Json, Influx}
+use Rattle.modbus_lines.specs.declared.reading.Reading.{Reading}
+use Rattle.modbus_lines.specs.declared.reading.Polled.{Polled}
+use Rattle.modbus_lines.specs.declared.points.Points.{Points}
+
+-- what the reads of its table give of a point
+abbrev pub found_in : Tables (List Given) → Point → Option (Result PointValue ExceptionCode)
+found_in given point = value_among (of_table given point.table) point
+
+-- the text of a value in a format
+abbrev pub IsTextIn : Format → PointValue → List ℕ → Type 0
+IsTextIn Table value text = IsTextOf value text
+IsTextIn Csv value text = IsTextOf value text
+IsTextIn Json value text = IsJsonOf value text
+IsTextIn Influx value text = IsTextOf value text
+
+-- a text for a value, and none where there is no value
+abbrev pub IsTextOfFound : Format → Option (Result PointValue ExceptionCode) → Option (String Global) → Type 0
+IsTextOfFound format (Some (Ok value)) (Some text) = IsTextIn format value (string_bytes text)
+IsTextOfFound format (Some (Ok value)) None = ⊥
+IsTextOfFound format (Some (Err code)) text = text ≡ None
+IsTextOfFound format None text = text ≡ None
+
+-- the points in their order, what the reads of its table give of each, and the text of that
+pub record AreReadings (format : Format) (given : Tables (List Given)) (points : List Point) (readings : List Reading) : Type 0 where
+  pub points_are : map (λ (reading : Reading). reading.point.now) readings ≡ points
+  pub found_are : map (λ (reading : Reading). reading.found) readings ≡ map (found_in given) points
+  pub texts : All (λ (reading : Reading). IsTextOfFound format reading.found reading.text) readings
+
+-- The reads of a device were made, each once, and gave its points so.
+pub record Polls {S : Type 0} (answers : S → Asked → Answer → S → Type 0) (old : S) (points : Points) (format : Format) (polled : Polled) (new : S) : Type 0 where
+  pub gathered : GathersAll answers old points.plans (seen_by (λ v. v.items) polled.given) new
+  pub readings : AreReadings format (seen_by (λ v. v.items) polled.given) points.points.items polled.readings.items

@@ -1,0 +1,7 @@
+pub mod Writes
+pub mod ReadsBack
+pub mod Linked
+pub mod Connectors
+pub mod Opened
+pub mod Hosts
+pub mod Stty
