@@ -2,15 +2,13 @@
 ghost use Rattle.std.specs.Prelude.{◌≡◌, false, Ok};
 ghost use Rattle.modbus_link.specs.Line.{meaning_of};
 ghost use Rattle.modbus_frame.specs.Meaning.{meaning, Custom};
-ghost use Rattle.modbus_client.specs.LineReading.{line_protocol, silent_protocol};
-ghost use Rattle.modbus_client.specs.Rtu.{rtu_heading};
 ghost use Rattle.modbus_reconnect.specs.OnLine.{BeginsCall, CallsStanding, CallsRaw};
 ghost use Rattle.modbus_reconnect.specs.Tells.{SendsStanding};
 ghost use Rattle.modbus_adapter.specs.DeadlineLine.{BeginsDeadline, line_within};
 
 use crate::deadline_line::DeadlineLine;
 use modbus_client::rtu::LineFrames;
-use modbus_client::{Client, LineProtocol};
+use modbus_client::{Client, LineProtocol, RawLineProtocol};
 use modbus_frame::{Error, Request, Response, Result, ShutdownFault, Slave, SlaveContext};
 use modbus_link::TimedLink;
 use modbus_reconnect::{IdleLink, SettlingClient};
@@ -73,16 +71,16 @@ impl<'c, C: Clock, P: LineProtocol, L: TimedLink + IdleLink> DeadlineClient<'c, 
     }
 }
 
-impl<'c, C: Clock, L: TimedLink + IdleLink> DeadlineClient<'c, C, LineFrames, L> {
+impl<'c, C: Clock, P: RawLineProtocol, L: TimedLink + IdleLink> DeadlineClient<'c, C, P, L> {
     /// Asks for a function by its code, with the bytes that follow it in the PDU, as that client does, before the deadline.
     ///
     /// # Errors
     /// Those of `call_raw` of a `SettlingClient`.
     pub fn call_raw(&mut self, function: u8, data: &[u8]) -> Result<Response>
         ensures { BeginsCall
-            (line_within line_protocol silent_protocol rtu_heading (meaning_of L.input L.output L.line) L.not_ready L.looks)
+            (line_within P.protocol P.silent P.heading (meaning_of L.input L.output L.line) L.not_ready L.looks)
             BeginsDeadline (CallsRaw
-            (line_within line_protocol silent_protocol rtu_heading (meaning_of L.input L.output L.line) L.not_ready L.looks))
+            (line_within P.protocol P.silent P.heading (meaning_of L.input L.output L.line) L.not_ready L.looks))
             self.old (Custom function data.now) result self.new }
     {
         self.client.begin();

@@ -16,10 +16,10 @@ use Rattle.modbus_ascii.specs.WholeReading.{stream_of}
 use Rattle.modbus_client.specs.declared.protocol.Reply.{Reply}
 use Rattle.modbus_client.specs.declared.protocol.LookError.{LookError}
 use Rattle.modbus_client.specs.declared.protocol.LookError.TheVariants.{Broken, Refused, NoMemory}
-use Rattle.modbus_client.specs.Call.{LooksAs, IsOwn}
-use Rattle.modbus_client.specs.Protocol.{Found, waiting, reply, broken, IsOfMessage}
+use Rattle.modbus_client.specs.Call.{LooksAs}
+use Rattle.modbus_client.specs.Protocol.{Meaning, Found, waiting, reply, broken, IsOfMessage}
 use Rattle.modbus_client.specs.Rtu.{slave_seen}
-use Rattle.modbus_ascii_client.specs.Frames.{first_of, others_before, reply_of, counted, ascii_protocol}
+use Rattle.modbus_ascii_client.specs.Frames.{first_of, others_before, reply_of, counted, texts_by}
 use Rattle.modbus_ascii_client.specs.Laws.{IsFirstOf}
 use Rattle.modbus_ascii_client.specs.Reads.{ReadsReply}
 use Rattle.modbus_ascii_client.specs.Search.{AreOthers}
@@ -93,23 +93,30 @@ pub held-on : Delivers → Leaves → (slave : ℕ) (bytes earlier more held : L
     → found ≡ reply_of slave held → found ≡ reply_of slave (bytes ++ more)
 held-on delivers leaves slave bytes earlier more held found e is f = f ∙ ap (reply_of slave) is ∙ sym (reply-on delivers leaves slave bytes earlier more e)
 
-pub looks-read : (asked : HeaderSeen) (bytes cuts : List ℕ) (slave : ℕ) (pdu held : List ℕ) (result : Result (Option Reply) LookError)
-    → reply [] (slave_seen slave) pdu ≡ reply_of asked.slave_id bytes → held ≡ [] → ReadsReply slave pdu result → LooksAs ascii_protocol asked bytes cuts held result
-looks-read asked bytes cuts slave pdu held (Ok None) e none r = absurd r
-looks-read asked bytes cuts slave pdu held (Ok (Some found)) e none r = (pdu, ap (λ h. reply h found.header pdu) none ∙ ap (λ seen. reply [] seen pdu) r.0 ∙ e, r.1)
-looks-read asked bytes cuts slave pdu held (Err (Broken fault)) e none r = absurd r
-looks-read asked bytes cuts slave pdu held (Err (Refused reason)) e none r = (slave_seen slave, pdu, ap (λ h. reply h (slave_seen slave) pdu) none ∙ e, r)
-looks-read asked bytes cuts slave pdu held (Err NoMemory) e none r = ([], slave_seen slave, pdu, e, r)
+-- one look at held bytes
+module _ (means : Meaning) (asked : HeaderSeen) (bytes : List ℕ) where
+  pub looks-read : (slave : ℕ) (pdu held : List ℕ) (result : Result (Option Reply) LookError)
+      → reply [] (slave_seen slave) pdu ≡ reply_of asked.slave_id bytes → held ≡ [] → ReadsReply means slave pdu result → LooksAs (texts_by means) asked bytes [] held result
+  looks-read slave pdu held (Ok None) e none r = absurd r
+  looks-read slave pdu held (Ok (Some found)) e none r = (pdu, ap (λ h. reply h found.header pdu) none ∙ ap (λ seen. reply [] seen pdu) r.0 ∙ e, r.1)
+  looks-read slave pdu held (Err (Broken fault)) e none r = absurd r
+  looks-read slave pdu held (Err (Refused reason)) e none r = (slave_seen slave, pdu, ap (λ h. reply h (slave_seen slave) pdu) none ∙ e, r)
+  looks-read slave pdu held (Err NoMemory) e none r = ([], slave_seen slave, pdu, e, r)
 
-pub looks-none : (asked : HeaderSeen) (bytes cuts left held : List ℕ) (result : Result (Option Reply) LookError)
-    → waiting left ≡ reply_of asked.slave_id bytes → held ≡ left → result ≡ Ok None → LooksAs ascii_protocol asked bytes cuts held result
-looks-none asked bytes cuts left held result e is none = subst (λ x. LooksAs ascii_protocol asked bytes cuts held x) (sym none) (ap waiting is ∙ e)
+-- bytes in which the same is found, give the same look
+pub looks-same : (means : Meaning) (asked : HeaderSeen) (held bytes cuts left : List ℕ) (result : Result (Option Reply) LookError) → reply_of asked.slave_id held ≡ reply_of asked.slave_id bytes
+    → LooksAs (texts_by means) asked held [] left result → LooksAs (texts_by means) asked bytes cuts left result
+looks-same means asked held bytes cuts left (Ok None) same finds = finds ∙ same
+looks-same means asked held bytes cuts left (Ok (Some found)) same (pdu, finds, is) = (pdu, finds ∙ same, is)
+looks-same means asked held bytes cuts left (Err (Broken fault)) same finds = finds ∙ same
+looks-same means asked held bytes cuts left (Err (Refused reason)) same (header, pdu, finds, is) = (header, pdu, finds ∙ same, is)
+looks-same means asked held bytes cuts left (Err NoMemory) same (rest, header, pdu, finds, carries) = (rest, header, pdu, finds ∙ same, carries)
 
-pub read-own : (slave : ℕ) (pdu : List ℕ) (result : Result (Option Reply) LookError) → ReadsReply slave pdu result → IsOwn result
-read-own slave pdu (Ok found) r = tt
-read-own slave pdu (Err (Broken fault)) r = absurd r
-read-own slave pdu (Err (Refused reason)) r = tt
-read-own slave pdu (Err NoMemory) r = tt
+-- a look at held bytes, in terms of all bytes that were read
+pub looks-on : Delivers → Leaves → (means : Meaning) (asked : HeaderSeen) (bytes cuts earlier more held left : List ℕ) (result : Result (Option Reply) LookError)
+    → waiting earlier ≡ reply_of asked.slave_id bytes → held ≡ earlier ++ more → LooksAs (texts_by means) asked held [] left result → LooksAs (texts_by means) asked (bytes ++ more) cuts left result
+looks-on delivers leaves means asked bytes cuts earlier more held left result e is looks =
+    looks-same means asked held (bytes ++ more) cuts left result (held-on delivers leaves asked.slave_id bytes earlier more held _ e is refl) looks
 
 -- ---- no byte, and a frame alone
 

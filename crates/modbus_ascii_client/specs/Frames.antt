@@ -8,7 +8,7 @@ use Rattle.modbus_pdu.specs.ResponseOf.{response_result_of}
 use Rattle.modbus_ascii.specs.Encoder.{frame}
 use Rattle.modbus_ascii.specs.Frames.{frames}
 use Rattle.modbus_ascii.specs.OpenFrames.{open_frame}
-use Rattle.modbus_client.specs.Protocol.{Protocol, Found, waiting, reply}
+use Rattle.modbus_client.specs.Protocol.{Protocol, Meaning, Found, waiting, reply}
 use Rattle.modbus_client.specs.Rtu.{slave_seen}
 
 -- The first frame of this slave is the reply; with none the search waits, and holds these bytes.
@@ -38,16 +38,19 @@ counted n = min n (2 ^ 64 - 1)
 abbrev pub CountsOthers : HeaderSeen → List ℕ → List ℕ → ℕ → Type 0
 CountsOthers asked bytes cuts dropped = dropped ≡ counted (others_before asked.slave_id (frames bytes))
 
--- a frame has the address of its slave alone, as on a line of the RTU mode
-abbrev pub ascii_protocol : Protocol Header
-ascii_protocol = record {
+-- the search for a reply, whose PDU stands for what `means` tells; a frame has the address of its slave alone, as on a line of the RTU mode
+abbrev pub texts_by : Meaning → Protocol Header
+texts_by means = record {
   seen = λ header. slave_seen header.slave_id;
   adu = λ header pdu. frame header.slave_id pdu;
-  means = response_result_of;
+  means = means;
   Finds = FindsReplyFrame;
   Counts = CountsOthers;
   IsWhole = λ header pdu. IsFramed (message header.slave_id pdu);
 }
+
+abbrev pub ascii_protocol : Protocol Header
+ascii_protocol = texts_by response_result_of
 
 -- At a silence there is no reply, and what is held of a frame that was begun is dropped.
 abbrev pub FindsNone : HeaderSeen → List ℕ → List ℕ → Found → Type 0

@@ -1,32 +1,39 @@
 //! Clients of a serial line in the ASCII transmission mode (MODBUS over Serial Line V1.02, section 2.5.2).
-ghost use Rattle.std.specs.Prelude.{◌≡◌};
+ghost use Rattle.std.specs.Prelude.{◌≡◌, ◌+◌, min, []};
 ghost use Rattle.modbus_frame.specs.Meaning.{meaning};
 ghost use Rattle.modbus_client.specs.Polled.{OpensPolled};
+ghost use Rattle.modbus_client.specs.Call.{LooksAs, IsOwn};
 ghost use Rattle.modbus_client.specs.Rtu.{rtu_heading};
 ghost use Rattle.modbus_client.specs.State.{attached_client};
-ghost use Rattle.modbus_ascii_client.specs.Frames.{ascii_protocol, silent_ascii};
+ghost use Rattle.modbus_ascii.specs.Frames.{frames};
+ghost use Rattle.modbus_ascii_client.specs.Frames.{ascii_protocol, silent_ascii, texts_by, others_before, counted};
 ghost use Rattle.modbus_ascii_client.specs.Reads.{ReadsReply};
 
 use crate::search::first_reply;
 use bytes::BytesMut;
 use modbus_ascii::{AsciiFrame, encode_request_frame};
-use modbus_client::{LineProtocol, LinkClient, LookError, Protocol, Reply};
+use modbus_client::{
+    AsBytes, AsResponse, LineProtocol, LinkClient, LookError, Protocol, RawLineProtocol,
+    RawProtocol, Reading, Reply,
+};
 use modbus_frame::rtu::Header;
 use modbus_frame::{EncodeError, Error, HeaderSeen, PduError, Request, Slave};
 use modbus_link::Link;
-use modbus_pdu::read_response_pdu;
 use std::alloc::Global;
 use std::marker::Model;
 
 /// Reads the PDU of the frame that is the reply.
 ///
 /// # Errors
-/// `Refused` with the reason, exactly where the PDU is no response. `NoMemory` where memory is refused, only for a response that carries a
-/// list or bytes.
-fn read_reply(alloc: Global, frame: &AsciiFrame) -> std::result::Result<Option<Reply>, LookError>
-    ensures { ReadsReply frame.now.slave frame.now.pdu.items result }
+/// `Refused` with the reason, exactly where the PDU stands for nothing. `NoMemory` where memory is refused, only for what carries a list or
+/// bytes.
+fn read_reply<R: Reading>(
+    alloc: Global,
+    frame: &AsciiFrame,
+) -> std::result::Result<Option<Reply>, LookError>
+    ensures { ReadsReply R.means frame.now.slave frame.now.pdu.items result }
 {
-    match read_response_pdu(alloc, frame.pdu.as_slice()) {
+    match R::read(alloc, frame.pdu.as_slice()) {
         Ok(pdu) => Ok(Some(Reply {
             header: HeaderSeen {
                 transaction_id: None,
@@ -36,6 +43,36 @@ fn read_reply(alloc: Global, frame: &AsciiFrame) -> std::result::Result<Option<R
         })),
         Err(PduError::Refused(reason)) => Err(LookError::Refused(reason)),
         Err(PduError::NoMemory) => Err(LookError::NoMemory),
+    }
+}
+
+/// Looks for the reply in held characters, and reads its PDU. The frames of other slaves before it are counted, and what can't be part of a
+/// reply is dropped.
+///
+/// # Errors
+/// Those of `read_reply`; the frame is gone.
+fn look_by<R: Reading>(
+    dropped: &mut u64,
+    alloc: Global,
+    asked: HeaderSeen,
+    held: &mut BytesMut,
+) -> std::result::Result<Option<Reply>, LookError>
+    ensures own { IsOwn result }
+    ensures looks { LooksAs (texts_by R.means) asked held.old.items [] held.new.items result }
+    ensures counts { dropped.new
+        ≡ min (dropped.old + counted (others_before asked.slave_id (frames held.old.items))) u64.MAX }
+{
+    let found = first_reply(asked.slave_id, held.as_slice());
+    *dropped = dropped.saturating_add(found.others);
+    match &found.reply {
+        Some(frame) => {
+            held.clear();
+            read_reply::<R>(alloc, frame)
+        }
+        None => {
+            held.advance(found.start);
+            Ok(None)
+        }
     }
 }
 
@@ -101,18 +138,7 @@ impl Protocol for Frames {
         held: &mut BytesMut,
     ) -> std::result::Result<Option<Reply>, LookError> {
         modbus_ascii::laws::open_frames_go_on();
-        let found = first_reply(asked.slave_id, held.as_slice());
-        self.dropped = self.dropped.saturating_add(found.others);
-        match &found.reply {
-            Some(frame) => {
-                held.clear();
-                read_reply(alloc, frame)
-            }
-            None => {
-                held.advance(found.start);
-                Ok(None)
-            }
-        }
+        look_by::<AsResponse>(&mut self.dropped, alloc, asked, held)
     }
 
     fn dropped(&self) -> u64 {
@@ -125,11 +151,36 @@ impl Protocol for Frames {
     }
 }
 
+/// The PDU of a reply is read no further than its function code.
+impl RawProtocol for Frames {
+    fn look_raw(
+        &mut self,
+        alloc: Global,
+        asked: HeaderSeen,
+        held: &mut BytesMut,
+    ) -> std::result::Result<Option<Reply>, LookError> {
+        modbus_ascii::laws::open_frames_go_on();
+        look_by::<AsBytes>(&mut self.dropped, alloc, asked, held)
+    }
+}
+
 /// A silence ends a frame that was begun: what is held of it is dropped.
 impl LineProtocol for Frames {
     ghost silent = { silent_ascii };
 
     fn look_silent(
+        &mut self,
+        _alloc: Global,
+        _asked: HeaderSeen,
+        held: &mut BytesMut,
+    ) -> std::result::Result<Option<Reply>, LookError> {
+        held.clear();
+        Ok(None)
+    }
+}
+
+impl RawLineProtocol for Frames {
+    fn look_silent_raw(
         &mut self,
         _alloc: Global,
         _asked: HeaderSeen,

@@ -11,6 +11,7 @@ pub mod LineVerdict
 pub mod LineReads
 pub mod LineAlone
 pub mod LineLooks
+pub mod StreamVerdict
 pub mod FrameAlone
 pub mod OneAdu
 pub mod OwnAdu

@@ -3,6 +3,7 @@ use Rattle.std.proofs.Common.{◌≡◌, ◌≢◌, ℕ, ◌+◌, ◌-◌, ◌*�
 use Rattle.std.specs.Prelude.{slice_index}
 use Rattle.std.proofs.lemmas.Bool.{ltb-false, le-ltb, lt-ltb}
 use Rattle.std.proofs.lemmas.List.{take_all, take_at, drop_all, get_or-append_right}
+use Rattle.modbus_rtu.specs.declared.verdict.Verdict.{Verdict}
 use Rattle.modbus_rtu.specs.declared.verdict.Verdict.TheVariants.{Open, Good}
 use Rattle.modbus_rtu.specs.Checksum.{crc}
 use Rattle.modbus_rtu.specs.Frame.{frame, verdict_by}
@@ -35,11 +36,17 @@ bounded_some code count n most = rw (le-ltb 253 n most) refl
 bounded_none : (code count : ℕ) → count ≤ 256 → bounded code count None ≡ Ok None
 bounded_none code count few = rw (le-ltb 256 count few) refl
 
+-- few bytes that tell no length wait for more
+pub waits_none : (adu : List ℕ) → length adu ≤ 256 → told_len adu ≡ None → line_verdict adu ≡ Open
+unfolding line_verdict line_head
+waits_none adu few none =
+    ap (λ o. verdict_by adu (bounded (slice_index adu 1) (length adu) o)) (ap told_len (take_all 256 adu few) ∙ none) ∙ rw (bounded_none (slice_index adu 1) (length adu) few) refl
+
 module _ (slave : ℕ) (pdu : List ℕ) (has : HasLineHead slave pdu) where
-  abbrev sum : ℕ
+  abbrev pub sum : ℕ
   sum = crc (slave ∷ pdu)
 
-  abbrev whole : List ℕ
+  abbrev pub whole : List ℕ
   whole = (slave ∷ pdu) ++ (sum % 256 ∷ sum / 256 ∷ [])
 
   pub is_whole : frame slave pdu ≡ whole
@@ -56,7 +63,7 @@ module _ (slave : ℕ) (pdu : List ℕ) (has : HasLineHead slave pdu) where
   size : length whole ≡ length pdu + overhead
   size = omega (arith, length-append (slave ∷ pdu) (sum % 256 ∷ sum / 256 ∷ []))
 
-  told_whole : told_len whole ≡ Some (length pdu)
+  pub told_whole : told_len whole ≡ Some (length pdu)
   told_whole =
       let all : take 256 (slave ∷ pdu) ≡ slave ∷ pdu = take_all 256 (slave ∷ pdu) (omega (arith, most)) in
       told_on (slave ∷ pdu) (sum % 256 ∷ sum / 256 ∷ []) (length pdu) (sym (ap told_len all) ∙ told_short.0)
@@ -112,16 +119,21 @@ module _ (slave : ℕ) (pdu : List ℕ) (has : HasLineHead slave pdu) where
   found_whole : (found : Found) → found ≡ reply [] (slave_seen slave) pdu → IsOfMessage (slave_seen slave) pdu [] found
   found_whole found is = subst (IsOfMessage (slave_seen slave) pdu []) (sym is) (refl, refl, refl, refl)
 
+  -- by a judge to whom it is good, and each front of it open
+  module _ (judge : List ℕ → Verdict) (good : judge whole ≡ Good (length pdu)) (waits : (bytes rest : List ℕ) → whole ≡ bytes ++ rest → rest ≢ [] → judge bytes ≡ Open) where
+    pub alone_by : (bytes rest : List ℕ) (found : Found) → frame slave pdu ≡ bytes ++ rest → found ≡ (read_from judge slave 0 bytes).found → IsOfMessage (slave_seen slave) pdu rest found
+    alone_by bytes [] found joined is =
+        let same : bytes ≡ whole = sym (append-nil bytes) ∙ sym joined ∙ is_whole in
+        let n = length pdu in
+        let read = reads_own judge slave whole n good (omega (arith, size)) refl in
+        let none : drop (n + overhead) whole ≡ [] = drop_all (n + overhead) whole (omega (arith, size)) in
+        let own : take n (drop 1 whole) ≡ pdu = take_at pdu (sum % 256 ∷ sum / 256 ∷ []) n refl in
+        found_whole found (is ∙ ap (λ b. (read_from judge slave 0 b).found) same ∙ ap (λ (r : LineRead). r.found) read
+        ∙ ap (λ h. reply h (slave_seen slave) (take n (drop 1 whole))) none ∙ ap (λ p. reply [] (slave_seen slave) p) own)
+    alone_by bytes (byte ∷ rest) found joined is =
+        let some : byte ∷ rest ≢ [] = λ e. absurd cc in
+        let open' = waits bytes (byte ∷ rest) (sym is_whole ∙ joined) some in
+        found_waiting bytes (byte ∷ rest) found (is ∙ ap (λ (r : LineRead). r.found) (reads_open judge slave bytes open')) some
+
   pub line_alone : (bytes rest : List ℕ) (found : Found) → frame slave pdu ≡ bytes ++ rest → found ≡ (read_from line_verdict slave 0 bytes).found → IsOfMessage (slave_seen slave) pdu rest found
-  line_alone bytes [] found joined is =
-      let same : bytes ≡ whole = sym (append-nil bytes) ∙ sym joined ∙ is_whole in
-      let n = length pdu in
-      let read = reads_own line_verdict slave whole n whole_good (omega (arith, size)) refl in
-      let none : drop (n + overhead) whole ≡ [] = drop_all (n + overhead) whole (omega (arith, size)) in
-      let own : take n (drop 1 whole) ≡ pdu = take_at pdu (sum % 256 ∷ sum / 256 ∷ []) n refl in
-      found_whole found (is ∙ ap (λ b. (read_from line_verdict slave 0 b).found) same ∙ ap (λ (r : LineRead). r.found) read
-      ∙ ap (λ h. reply h (slave_seen slave) (take n (drop 1 whole))) none ∙ ap (λ p. reply [] (slave_seen slave) p) own)
-  line_alone bytes (byte ∷ rest) found joined is =
-      let some : byte ∷ rest ≢ [] = λ e. absurd cc in
-      let open' = front_open bytes (byte ∷ rest) (sym is_whole ∙ joined) some in
-      found_waiting bytes (byte ∷ rest) found (is ∙ ap (λ (r : LineRead). r.found) (reads_open line_verdict slave bytes open')) some
+  line_alone = alone_by line_verdict whole_good front_open

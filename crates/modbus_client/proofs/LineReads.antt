@@ -72,8 +72,16 @@ module _ (judge : List ℕ → Verdict) (asked : ℕ) where
       past : (n : ℕ) → n + overhead ≡ suc (n + 2)
       past n = omega arith
 
--- what is decided while bytes come, is decided so by another judge of the same bytes with more behind them
-module _ (judge judge' : List ℕ → Verdict) (more : List ℕ) (agrees : (adu : List ℕ) → judge adu ≢ Open → judge' (adu ++ more) ≡ judge adu) (within : (adu : List ℕ) (n : ℕ) → judge adu ≡ Good n → n + overhead ≤ length adu) (asked : ℕ) where
+-- the reading goes on behind the front of these bytes
+abbrev pub Passes : (List ℕ → Verdict) → ℕ → List ℕ → Type 0
+Passes judge asked adu = (judge adu ≡ Bad) ⊎ ((n : ℕ) × (judge adu ≡ Good n) × (slice_index adu 0 ≢ asked))
+
+pub passes_decided : {v : Verdict} {A : Type 0} → (v ≡ Bad) ⊎ ((n : ℕ) × (v ≡ Good n) × A) → v ≢ Open
+passes_decided (inl b) o = cc
+passes_decided (inr (n, g, a)) o = cc
+
+-- what is passed while bytes come, is decided so by another judge of the same bytes with more behind them
+module _ (judge judge' : List ℕ → Verdict) (more : List ℕ) (asked : ℕ) (agrees : (adu : List ℕ) → Passes judge asked adu → judge' (adu ++ more) ≡ judge adu) (within : (adu : List ℕ) (n : ℕ) → judge adu ≡ Good n → n + overhead ≤ length adu) where
   same_waiting : (a b : List ℕ) → waiting a ≡ waiting b → a ≡ b
   same_waiting a b e = cc
 
@@ -81,16 +89,10 @@ module _ (judge judge' : List ℕ → Verdict) (more : List ℕ) (agrees : (adu 
   no_reply e = cc
 
   bad_is : (adu : List ℕ) → judge adu ≡ Bad → judge' (adu ++ more) ≡ Bad
-  bad_is adu is = agrees adu (not_open is) ∙ is
-    where
-      not_open : {v : Verdict} → v ≡ Bad → v ≢ Open
-      not_open b o = cc
+  bad_is adu is = agrees adu (inl is) ∙ is
 
-  good_is : (adu : List ℕ) (n : ℕ) → judge adu ≡ Good n → judge' (adu ++ more) ≡ Good n
-  good_is adu n is = agrees adu (not_open is) ∙ is
-    where
-      not_open : {v : Verdict} {n : ℕ} → v ≡ Good n → v ≢ Open
-      not_open g o = cc
+  good_is : (adu : List ℕ) (n : ℕ) → judge adu ≡ Good n → slice_index adu 0 ≢ asked → judge' (adu ++ more) ≡ Good n
+  good_is adu n is apart = agrees adu (inr (n, is, apart)) ∙ is
 
   abbrev GoesOn : LineRead → LineRead → Type 0
   GoesOn read whole = (held : List ℕ) → read.found ≡ waiting held → whole ≡ behind read.others (read_from judge' asked 0 (held ++ more))
@@ -107,7 +109,7 @@ module _ (judge judge' : List ℕ → Verdict) (more : List ℕ) (agrees : (adu 
     by_slave n is (inl same) = λ held e. no_reply (sym (ap (λ (r : LineRead). r.found) (reads_own judge asked (byte ∷ rest) n is (omega arith) same)) ∙ e)
     by_slave n is (inr apart) =
         let fits : n + 2 ≤ length rest = omega (arith, within (byte ∷ rest) n is) in
-        rw (reads_past judge asked byte rest n is apart, reads_past judge' asked byte (rest ++ more) n (good_is (byte ∷ rest) n is) apart)
+        rw (reads_past judge asked byte rest n is apart, reads_past judge' asked byte (rest ++ more) n (good_is (byte ∷ rest) n is apart) apart)
         (past_on (read_from judge asked (n + 2) rest) (read_from judge' asked (n + 2) (rest ++ more)) (later n fits))
 
     by_verdict : (v : Verdict) → judge (byte ∷ rest) ≡ v → GoesOn (read_from judge asked 0 (byte ∷ rest)) (read_from judge' asked 0 (byte ∷ rest ++ more))

@@ -112,7 +112,7 @@ same_next (x ∷ []) = refl
 same_next (x ∷ y ∷ []) = refl
 same_next (x ∷ y ∷ z ∷ rest) = refl
 
-not_true : (b : Bool) → not b ≡ true → b ≡ false
+pub not_true : (b : Bool) → not b ≡ true → b ≡ false
 not_true true e = cc
 not_true false e = refl
 

@@ -16,7 +16,6 @@ use Rattle.modbus_rtu.specs.Limits.{overhead, max_frame}
 use Rattle.modbus_rtu.specs.ResponseHead.{ResponseRule, response_rule, word_len, identified_len}
 use Rattle.modbus_rtu.specs.ResponseHead.ResponseRule.{fixed, counted, counted_word, identification, unknown}
 use Rattle.modbus_pdu.specs.ResponseOf.{AnswerCarriesMemory, response_result_of}
-use Rattle.modbus_client.specs.Raw.{raw_result_of}
 use Rattle.modbus_client.specs.declared.line.Step.{Step}
 use Rattle.modbus_client.specs.declared.line.Step.TheVariants.{Waits, Own, Past}
 use Rattle.modbus_client.specs.declared.protocol.Reply.{Reply}
@@ -105,6 +104,19 @@ line_verdict adu = judged_by line_head adu
 unfoldable pub silent_verdict : List ℕ → Verdict
 silent_verdict adu = closed (judged_by silent_head adu)
 
+-- what is no frame yet is waited for, in no more bytes than one has
+abbrev pub awaited : ℕ → Verdict → Verdict
+awaited count Bad = if nat_lt max_frame count then Bad else Open
+awaited count verdict = verdict
+
+-- The same over a connection, on which no silence ends a frame. There one of the slave that was asked whose function tells no length is all
+-- that came, and one of another slave is passed byte by byte.
+unfoldable pub stream_verdict : ℕ → List ℕ → Verdict
+stream_verdict asked adu =
+    if not (is_untold adu (slice_get adu 1)) then line_verdict adu else
+    if slice_index adu 0 == asked then awaited (length adu) (judged_by silent_head adu) else
+    Bad
+
 -- what a reading found, and how many frames of other slaves it passed
 pub record LineRead : Type 0 where
   pub found : Found
@@ -167,33 +179,31 @@ TakesReply means asked n bytes left (Err (look.Broken fault)) = ⊥
 TakesReply means asked n bytes left (Err (look.Refused reason)) = (means (take n (drop 1 bytes)) ≡ Err reason) × (left ≡ drop (n + overhead) bytes)
 TakesReply means asked n bytes left (Err look.NoMemory) = IsOkAnd (means (take n (drop 1 bytes))) AnswerCarriesMemory
 
--- the frames of a serial line, as the front of bytes is judged, and as a PDU is read: the first of the slave that was asked is the reply
-abbrev pub frames_by : (List ℕ → Verdict) → Meaning → Protocol Header
+-- the frames of a serial line, as the front of bytes is judged for the slave that was asked, and as a PDU is read: the first of that slave
+-- is the reply
+abbrev pub frames_by : (ℕ → List ℕ → Verdict) → Meaning → Protocol Header
 frames_by judge means = record {
   seen = λ header. slave_seen header.slave_id;
   adu = λ header pdu. frame header.slave_id pdu;
   means = means;
-  Finds = λ asked bytes cuts found. found ≡ (read_from judge asked.slave_id 0 bytes).found;
-  Counts = λ asked bytes cuts dropped. dropped ≡ told_count (read_from judge asked.slave_id 0 bytes).others;
+  Finds = λ asked bytes cuts found. found ≡ (read_from (judge asked.slave_id) asked.slave_id 0 bytes).found;
+  Counts = λ asked bytes cuts dropped. dropped ≡ told_count (read_from (judge asked.slave_id) asked.slave_id 0 bytes).others;
   IsWhole = λ header pdu. HasLineHead header.slave_id pdu;
 }
 
 -- while more bytes may come, and in those that came until the line fell silent
 abbrev pub line_protocol : Protocol Header
-line_protocol = frames_by line_verdict response_result_of
+line_protocol = frames_by (λ asked. line_verdict) response_result_of
 
 abbrev pub silent_protocol : Protocol Header
-silent_protocol = frames_by silent_verdict response_result_of
+silent_protocol = frames_by (λ asked. silent_verdict) response_result_of
 
--- the same, where the PDU of the reply is given as it is
-abbrev pub raw_line_protocol : Protocol Header
-raw_line_protocol = frames_by line_verdict raw_result_of
+-- over a connection
+abbrev pub stream_protocol : Protocol Header
+stream_protocol = frames_by stream_verdict response_result_of
 
-abbrev pub raw_silent_protocol : Protocol Header
-raw_silent_protocol = frames_by silent_verdict raw_result_of
-
--- One look at held bytes, as the front of bytes is judged: what their reading finds, and how many frames of other slaves it passed, beside
--- those that were passed before.
-pub record LooksBy (judge : List ℕ → Verdict) (means : Meaning) (asked : HeaderSeen) (bytes left : List ℕ) (before after : ℕ) (result : Result (Option Reply) LookError) : Type 0 where
+-- One look at held bytes, as their front is judged for the slave that was asked: what their reading finds, and how many frames of other
+-- slaves it passed, beside those that were passed before.
+pub record LooksBy (judge : ℕ → List ℕ → Verdict) (means : Meaning) (asked : HeaderSeen) (bytes left : List ℕ) (before after : ℕ) (result : Result (Option Reply) LookError) : Type 0 where
   pub finds : LooksAs (frames_by judge means) asked bytes [] left result
-  pub counts : after ≡ told_count (before + (read_from judge asked.slave_id 0 bytes).others)
+  pub counts : after ≡ told_count (before + (read_from (judge asked.slave_id) asked.slave_id 0 bytes).others)

@@ -4,29 +4,30 @@ ghost use Rattle.std.specs.Prelude.{◌≡◌, ◌≢◌, ℕ, ◌+◌, ◌<◌,
 ghost use Rattle.modbus_rtu.specs.Limits.{overhead};
 ghost use Rattle.modbus_rtu.specs.declared.verdict.Verdict.{Verdict};
 ghost use Rattle.modbus_rtu.specs.declared.verdict.Verdict.TheVariants.{Open, Good};
-ghost use Rattle.modbus_client.specs.LineReading.{line_verdict, silent_verdict, closed, StepsAs, DropsFront, LooksBy, TakesReply, line_protocol, silent_protocol, raw_line_protocol, raw_silent_protocol};
+ghost use Rattle.modbus_client.specs.LineReading.{line_verdict, silent_verdict, stream_verdict, closed, StepsAs, DropsFront, LooksBy, TakesReply, line_protocol, silent_protocol};
 ghost use Rattle.modbus_client.specs.Call.{IsOwn};
 ghost use Rattle.modbus_client.specs.Rtu.{rtu_heading};
 
-use crate::line_length::{LineRule, OVERHEAD, SilentRule};
+use crate::line_length::{LineRule, OVERHEAD, SilentRule, is_untold};
 use crate::protocol::{LineProtocol, LookError, Protocol, Reply};
+use crate::raw::{RawLineProtocol, RawProtocol};
 use crate::reading::{AsBytes, AsResponse, Reading};
 use crate::rtu::Frames;
 use bytes::BytesMut;
 use modbus_frame::rtu::Header;
 use modbus_frame::{EncodeError, HeaderSeen, PduError, Request, Slave};
-use modbus_rtu::{Verdict, judge_by};
+use modbus_rtu::{MAX_FRAME, Verdict, judge_by};
 use std::alloc::Global;
 use std::marker::Model;
 
 /// How the front of bytes is judged.
 pub(crate) trait Judge {
-    // what stands at the front of bytes
-    ghost verdict: { List ℕ → Verdict };
+    // what stands at the front of bytes, for the slave that was asked
+    ghost verdict: { ℕ → List ℕ → Verdict };
 
     /// Judges the front of bytes, which begins with a slave address if there is a frame.
-    fn judge(adu: &[u8]) -> Verdict
-        ensures exact { result ≡ verdict adu.now }
+    fn judge(asked: u8, adu: &[u8]) -> Verdict
+        ensures exact { result ≡ verdict asked adu.now }
         ensures whole { (n : ℕ) → result ≡ Good n → n + overhead ≤ length adu.now };
 }
 
@@ -34,10 +35,10 @@ pub(crate) trait Judge {
 pub(crate) struct Coming;
 
 impl Judge for Coming {
-    ghost verdict = { line_verdict };
+    ghost verdict = { λ asked. line_verdict };
 
     #[tactic(auto, unfolding(crate::specs::LineReading::line_verdict))]
-    fn judge(adu: &[u8]) -> Verdict {
+    fn judge(_asked: u8, adu: &[u8]) -> Verdict {
         judge_by(&LineRule, adu)
     }
 }
@@ -46,12 +47,33 @@ impl Judge for Coming {
 pub(crate) struct Silent;
 
 impl Judge for Silent {
-    ghost verdict = { silent_verdict };
+    ghost verdict = { λ asked. silent_verdict };
 
     #[tactic(auto, unfolding(crate::specs::LineReading::silent_verdict))]
-    fn judge(adu: &[u8]) -> Verdict {
+    fn judge(_asked: u8, adu: &[u8]) -> Verdict {
         match judge_by(&SilentRule, adu) {
             Verdict::Open => Verdict::Bad,
+            verdict => verdict,
+        }
+    }
+}
+
+/// Over a connection, on which no silence ends a frame.
+pub(crate) struct Streaming;
+
+impl Judge for Streaming {
+    ghost verdict = { stream_verdict };
+
+    #[tactic(auto, unfolding(crate::specs::LineReading::stream_verdict, crate::specs::LineReading::line_verdict))]
+    fn judge(asked: u8, adu: &[u8]) -> Verdict {
+        if !is_untold(adu) {
+            return judge_by(&LineRule, adu);
+        }
+        if adu[0] != asked {
+            return Verdict::Bad;
+        }
+        match judge_by(&SilentRule, adu) {
+            Verdict::Bad if adu.len() <= MAX_FRAME => Verdict::Open,
             verdict => verdict,
         }
     }
@@ -70,12 +92,12 @@ pub(crate) enum Step {
 
 /// What stands at the front of bytes for the client of this slave.
 fn step_at<J: Judge>(asked: u8, adu: &[u8]) -> Step
-    ensures { StepsAs J.verdict asked adu.now result }
+    ensures { StepsAs (J.verdict asked) asked adu.now result }
 {
     if adu.is_empty() {
         return Step::Waits;
     }
-    match J::judge(adu) {
+    match J::judge(asked, adu) {
         Verdict::Open => Step::Waits,
         Verdict::Bad => Step::Past { end: 1, others: 0 },
         Verdict::Good(pdu_len) => {
@@ -94,7 +116,7 @@ fn step_at<J: Judge>(asked: u8, adu: &[u8]) -> Step
 /// Drops noise and the frames of other slaves from the front of the held bytes, and tells how many frames, and the length of the PDU of the
 /// reply, if it stands there then.
 fn drop_front<J: Judge>(asked: u8, held: &mut BytesMut) -> (u64, Option<usize>)
-    ensures { DropsFront J.verdict asked held.old.items held.new.items result.0 result.1 }
+    ensures { DropsFront (J.verdict asked) asked held.old.items held.new.items result.0 result.1 }
 {
     let mut dropped = 0u64;
     'front: loop {
@@ -144,7 +166,7 @@ fn take_reply<R: Reading>(
 ///
 /// # Errors
 /// Those of `take_reply`.
-fn look_by<J: Judge, R: Reading>(
+pub(crate) fn look_by<J: Judge, R: Reading>(
     others: &mut u64,
     alloc: Global,
     asked: HeaderSeen,
@@ -244,56 +266,9 @@ impl LineProtocol for LineFrames {
     }
 }
 
-/// The same frames, where the PDU of the reply is given as it came: its function code and the bytes behind it, or an exception.
-///
-/// So a client reads what no kind of response has room for, as the run status of a server that isn't 00 or FF (V1.1b3, section 6.13).
-#[derive(Drop)]
-pub struct RawLineFrames {
-    others: u64,
-}
-
-/// A contract sees how many frames of other slaves were dropped.
-impl Model for RawLineFrames {
-    ghost Value = { ℕ };
-
-    ghost view = { λ frames. frames.others };
-}
-
-impl Protocol for RawLineFrames {
-    type Header = Header;
-
-    type Ids = ();
-
-    ghost protocol = { raw_line_protocol };
-
-    ghost heading = { rtu_heading };
-
-    ghost dropped_by = { λ dropped. dropped };
-
-    fn new() -> RawLineFrames {
-        RawLineFrames { others: 0 }
-    }
-
-    fn first_ids() {}
-
-    fn draw(_ids: &mut (), slave: Slave) -> Header {
-        Header { slave_id: slave.0 }
-    }
-
-    fn seen(header: Header) -> HeaderSeen {
-        Frames::seen(header)
-    }
-
-    fn encode(
-        alloc: Global,
-        header: Header,
-        request: &Request<'_>,
-        buf: &mut BytesMut,
-    ) -> std::result::Result<(), EncodeError> {
-        Frames::encode(alloc, header, request, buf)
-    }
-
-    fn look(
+/// The PDU of a reply is read no further than its function code.
+impl RawProtocol for LineFrames {
+    fn look_raw(
         &mut self,
         alloc: Global,
         asked: HeaderSeen,
@@ -301,18 +276,10 @@ impl Protocol for RawLineFrames {
     ) -> std::result::Result<Option<Reply>, LookError> {
         look_by::<Coming, AsBytes>(&mut self.others, alloc, asked, held)
     }
-
-    fn dropped(&self) -> u64 {
-        self.others
-    }
-
-    fn laws() {}
 }
 
-impl LineProtocol for RawLineFrames {
-    ghost silent = { raw_silent_protocol };
-
-    fn look_silent(
+impl RawLineProtocol for LineFrames {
+    fn look_silent_raw(
         &mut self,
         alloc: Global,
         asked: HeaderSeen,

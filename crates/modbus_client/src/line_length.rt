@@ -153,7 +153,7 @@ impl LengthRule for LineRule {
 }
 
 /// Whether the bytes begin a reply of a function that tells no length.
-fn is_untold(adu: &[u8]) -> bool
+pub(crate) fn is_untold(adu: &[u8]) -> bool
     ensures exact { result ≡ is_untold adu.now (slice_get adu.now 1) }
     ensures coded { IsTrue result → 1 < length adu.now }
 {

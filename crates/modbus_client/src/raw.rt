@@ -9,7 +9,7 @@ ghost use Rattle.modbus_rtu.specs.ResponseHead.{response_verdict};
 ghost use Rattle.modbus_client.specs.Tcp.{tcp_protocol};
 
 use crate::line_length::OVERHEAD;
-use crate::protocol::{LookError, Protocol, Reply};
+use crate::protocol::{LineProtocol, LookError, Protocol, Reply};
 use crate::reading::{AsBytes, Reading};
 use crate::tcp::Adus;
 use bytes::BytesMut;
@@ -44,9 +44,28 @@ pub trait RawProtocol: Protocol {
             (Self.dropped_by self.new) };
 }
 
-/// The same protocol, which gives the PDU of each reply as it came. So a client reads what no kind of response has room for.
+/// A protocol of a line that can give the PDU of a reply as it came, also at the line's silence.
+pub trait RawLineProtocol: RawProtocol + LineProtocol {
+    /// Looks for the reply as `look_silent` does, and reads no more of its PDU than the function code.
+    ///
+    /// # Errors
+    /// Those of `look_raw`.
+    fn look_silent_raw(
+        &mut self,
+        alloc: Global,
+        asked: HeaderSeen,
+        held: &mut BytesMut,
+    ) -> Result<Option<Reply>, LookError>
+        ensures own { IsOwn result }
+        ensures looks { (bytes cuts : List ℕ)
+            → Self.protocol.Finds asked bytes cuts (waiting held.old.items)
+            → LooksAs (read_raw Self.silent) asked bytes cuts held.new.items result };
+}
+
+/// The same protocol, which gives the PDU of each reply as it came. So a client reads what no kind of response has room for, as the run
+/// status of a server that isn't 00 or FF (V1.1b3, section 6.13).
 #[derive(Drop)]
-pub(crate) struct AsItCame<P> {
+pub struct AsItCame<P> {
     protocol: P,
 }
 
@@ -101,6 +120,19 @@ impl<P: RawProtocol> Protocol for AsItCame<P> {
 
     fn laws() {
         P::laws();
+    }
+}
+
+impl<P: RawLineProtocol> LineProtocol for AsItCame<P> {
+    ghost silent = { read_raw P.silent };
+
+    fn look_silent(
+        &mut self,
+        alloc: Global,
+        asked: HeaderSeen,
+        held: &mut BytesMut,
+    ) -> Result<Option<Reply>, LookError> {
+        self.protocol.look_silent_raw(alloc, asked, held)
     }
 }
 

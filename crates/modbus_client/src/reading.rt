@@ -12,7 +12,7 @@ use modbus_pdu::{decode_exception, read_response_pdu};
 use std::alloc::Global;
 
 /// How the PDU of a reply is read.
-pub(crate) trait Reading {
+pub trait Reading {
     // what a PDU stands for
     ghost means: { Meaning };
 
@@ -27,7 +27,7 @@ pub(crate) trait Reading {
 }
 
 /// As the response of its function.
-pub(crate) struct AsResponse;
+pub struct AsResponse;
 
 impl Reading for AsResponse {
     ghost means = { response_result_of };
@@ -38,7 +38,7 @@ impl Reading for AsResponse {
 }
 
 /// As the bytes that came, whatever the function.
-pub(crate) struct AsBytes;
+pub struct AsBytes;
 
 impl Reading for AsBytes {
     ghost means = { raw_result_of };

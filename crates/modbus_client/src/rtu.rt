@@ -5,10 +5,11 @@ ghost use Rattle.modbus_client.specs.Rtu.{rtu_protocol, rtu_heading};
 ghost use Rattle.modbus_client.specs.State.{attached_client};
 ghost use Rattle.modbus_client.specs.Polled.{OpensPolled};
 
-pub use crate::line::{LineFrames, RawLineFrames};
+pub use crate::line::LineFrames;
 use crate::link_client::LinkClient;
 use crate::protocol::{LookError, Protocol, Reply};
 use crate::raw::{RawProtocol, take_raw_frame};
+pub use crate::stream::StreamFrames;
 use bytes::BytesMut;
 use modbus_frame::rtu::Header;
 use modbus_frame::{EncodeError, Error, HeaderSeen, Request, Slave, TransportError};

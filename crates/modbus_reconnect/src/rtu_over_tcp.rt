@@ -3,7 +3,8 @@ ghost use Rattle.std.specs.Prelude.{◌≡◌, ◌↔◌, IsNone, IfSome};
 ghost use Rattle.modbus_link.specs.Line.{meaning_of};
 ghost use Rattle.modbus_frame.specs.Meaning.{Custom};
 ghost use Rattle.modbus_client.specs.Connects.{connector_of};
-ghost use Rattle.modbus_client.specs.Rtu.{rtu_protocol, rtu_heading};
+ghost use Rattle.modbus_client.specs.LineReading.{stream_protocol};
+ghost use Rattle.modbus_client.specs.Rtu.{rtu_heading};
 ghost use Rattle.modbus_reconnect.specs.State.{unconnected_client, meaning_by};
 ghost use Rattle.modbus_reconnect.specs.Calls.{Disconnects, Limits, with_slave, with_turns};
 ghost use Rattle.modbus_reconnect.specs.LooksFirst.{CallsLooked, CallsRawLooked};
@@ -12,7 +13,8 @@ use crate::client::ReconnectingClient;
 use crate::idle::LookFirst;
 use crate::raw::AskRaw;
 use crate::resend::Resend;
-use modbus_client::{Client, IdleLink, rtu};
+use modbus_client::rtu::StreamFrames;
+use modbus_client::{Client, IdleLink};
 use modbus_frame::{Request, Response, Result, ShutdownFault, Slave, SlaveContext};
 use modbus_link::{Connector, Link};
 use std::alloc::Global;
@@ -25,12 +27,15 @@ use std::time::Duration;
 ///
 /// No frame tells to which request it is the reply. So a call looks at the link before it sends: where something came that was not asked for,
 /// as a second reply to the request before, where the link ended, or where a read of it failed, it is shut down, and the call connects anew.
+///
+/// While a call waits, the frames of other slaves and what is no frame are passed, and the timeout runs on (MODBUS over Serial Line V1.02,
+/// section 2.4.1). No silence tells where a frame ends here, so a reply of a function that tells no length is all that came.
 #[derive(Drop)]
 pub struct RtuOverTcpClient<C: Connector>
 where
     C::Link: Link,
 {
-    client: ReconnectingClient<rtu::Frames, C>,
+    client: ReconnectingClient<StreamFrames, C>,
 }
 
 /// A contract sees what it sees of the client that connects anew.
@@ -110,14 +115,14 @@ where
     /// Asks for a function by its code, with the bytes that follow it in the PDU, and gives those of the reply as they came: a `Custom`
     /// response of that code, or the exception. The link is looked at first, as for a `call`.
     ///
-    /// A function that tells no length has no reply here, since no silence ends a frame on a connection.
+    /// A reply of a function that tells no length is all that came, since no silence ends a frame on a connection.
     ///
     /// # Errors
     /// Those of `call`; `InvalidResponse` only where a reply has no function code or no exception code. An answer of another function is
     /// `FunctionCodeMismatch`.
     pub fn call_raw(&mut self, function: u8, data: &[u8]) -> Result<Response>
         ensures { CallsRawLooked
-            (meaning_by rtu_protocol rtu_heading (connector_of C.connects C.faults)
+            (meaning_by stream_protocol rtu_heading (connector_of C.connects C.faults)
             (meaning_of C.Link.input C.Link.output C.Link.line)) C.Link.looks
             self.old (Custom function data.now) result self.new }
     {
@@ -144,15 +149,15 @@ impl<C: Connector + Send + Drop> Client for RtuOverTcpClient<C>
 where
     C::Link: Link + IdleLink + Send + Drop,
 {
-    ghost answers = { CallsLooked (meaning_by rtu_protocol rtu_heading (connector_of C.connects C.faults)
+    ghost answers = { CallsLooked (meaning_by stream_protocol rtu_heading (connector_of C.connects C.faults)
         (meaning_of C.Link.input C.Link.output C.Link.line)) C.Link.looks };
 
-    ghost disconnects = { Disconnects (meaning_by rtu_protocol rtu_heading (connector_of C.connects C.faults)
+    ghost disconnects = { Disconnects (meaning_by stream_protocol rtu_heading (connector_of C.connects C.faults)
         (meaning_of C.Link.input C.Link.output C.Link.line)) };
 
     ghost time_limit = { λ client. client.settings.timeout };
 
-    ghost limits = { Limits (meaning_by rtu_protocol rtu_heading (connector_of C.connects C.faults)
+    ghost limits = { Limits (meaning_by stream_protocol rtu_heading (connector_of C.connects C.faults)
         (meaning_of C.Link.input C.Link.output C.Link.line)) };
 
     fn call(&mut self, request: Request<'_>) -> Result<Response> {

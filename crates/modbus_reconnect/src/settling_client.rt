@@ -2,8 +2,6 @@
 ghost use Rattle.std.specs.Prelude.{◌≡◌, ◌↔◌, ℕ, List, length, not, false, Ok, Some, IsNone, IfSome};
 ghost use Rattle.modbus_link.specs.Line.{meaning_of};
 ghost use Rattle.modbus_frame.specs.Meaning.{meaning, Custom};
-ghost use Rattle.modbus_client.specs.LineReading.{line_protocol, silent_protocol};
-ghost use Rattle.modbus_client.specs.Rtu.{rtu_heading};
 ghost use Rattle.modbus_reconnect.specs.SettleState.{line_by, unsettled_client};
 ghost use Rattle.modbus_reconnect.specs.Looks.{ClearsLine};
 ghost use Rattle.modbus_reconnect.specs.Owes.{leaves_nothing};
@@ -20,8 +18,7 @@ use crate::settling::{Unsettled, settle};
 use crate::silences::{silences_for, time_or};
 use crate::telling::{is_sent, told_of};
 use crate::waiting::ask;
-use modbus_client::rtu::{LineFrames, RawLineFrames};
-use modbus_client::{Client, IdleLink, LineProtocol, Protocol, TURNS};
+use modbus_client::{AsItCame, Client, IdleLink, LineProtocol, Protocol, RawLineProtocol, TURNS};
 use modbus_frame::{
     Error, Request, Response, Result, ShutdownFault, Slave, SlaveContext, TransportError,
 };
@@ -305,16 +302,16 @@ impl<P: LineProtocol, L: TimedLink + IdleLink> SettlingClient<P, L> {
     }
 }
 
-impl<L: TimedLink + IdleLink> SettlingClient<LineFrames, L> {
+impl<P: RawLineProtocol, L: TimedLink + IdleLink> SettlingClient<P, L> {
     /// Sends a request, and waits for its reply, whose bytes are given as they came.
     fn ask_raw(&mut self, request: &Request<'_>) -> Result<Response>
         ensures { AsksOn
-            (read_raw (line_by line_protocol silent_protocol rtu_heading (meaning_of L.input L.output L.line) L.not_ready L.looks))
+            (read_raw (line_by P.protocol P.silent P.heading (meaning_of L.input L.output L.line) L.not_ready L.looks))
             self.old (meaning request.now) self.old.settings.turns result self.new }
     {
-        let header = LineFrames::draw(&mut self.ids, self.slave);
+        let header = P::draw(&mut self.ids, self.slave);
         let silences = silences_for(self.timeout, self.silence);
-        let (answer, held) = ask::<RawLineFrames, L>(
+        let (answer, held) = ask::<AsItCame<P>, L>(
             self.alloc,
             &mut self.link,
             header,
@@ -333,7 +330,7 @@ impl<L: TimedLink + IdleLink> SettlingClient<LineFrames, L> {
     /// `FunctionCodeMismatch`.
     pub fn call_raw(&mut self, function: u8, data: &[u8]) -> Result<Response>
         ensures { CallsRaw
-            (line_by line_protocol silent_protocol rtu_heading (meaning_of L.input L.output L.line) L.not_ready L.looks)
+            (line_by P.protocol P.silent P.heading (meaning_of L.input L.output L.line) L.not_ready L.looks)
             self.old (Custom function data.now) result self.new }
     {
         if !self.is_connected || !self.clear() {

@@ -1,15 +1,17 @@
 //! Clients that are never one reply behind: over a connector that gives one link after another, and over a line that tells silence.
 
-use crate::clients::{milliseconds, push_sent, step, steps};
+use crate::clients::{milliseconds, push_sent, step};
 use crate::left::{push_link, push_written};
 use crate::outside::{read_idle, read_line};
 use crate::text::Text;
 use crate::word::{Word, bytes_of};
-use modbus_client::Client;
+use modbus_client::{Client, RawLineProtocol};
 use modbus_frame::Slave;
 use modbus_link::{Connector, Failed, TimedMemoryLink};
 use modbus_pdu::decode_request;
-use modbus_reconnect::{IdleMemoryLink, Resend, RtuOverTcpClient, SerialClient, TcpClient, settle};
+use modbus_reconnect::{
+    IdleMemoryLink, Resend, RtuOverTcpClient, SerialClient, SettlingClient, TcpClient, settle,
+};
 use std::alloc::{AllocError, Global};
 use std::net::{Ipv4Addr, SocketAddr};
 use std::time::Duration;
@@ -256,7 +258,11 @@ fn send_word(text: &mut Text, client: &mut Line, word: &str) -> bool {
 }
 
 /// Asks for the function of a PDU, whose reply is given as it came.
-fn call_raw(text: &mut Text, client: &mut Line, word: &str) -> bool {
+fn call_raw<P: RawLineProtocol>(
+    text: &mut Text,
+    client: &mut SettlingClient<P, TimedMemoryLink>,
+    word: &str,
+) -> bool {
     let Some(pdu) = bytes_of(text.alloc, word) else {
         return false;
     };
@@ -327,12 +333,33 @@ fn push_line(text: &mut Text, line: Option<&TimedMemoryLink>) {
     }
 }
 
+type AsciiLine = modbus_ascii_client::SerialClient<TimedMemoryLink>;
+
+/// What a step does to a client of a line in the ASCII mode, which also has `raw=11`.
+fn ascii_step(text: &mut Text, client: &mut AsciiLine, word: &str) -> bool {
+    match word.strip_prefix("raw=") {
+        Some(pdu) => call_raw(text, client, pdu),
+        None => step(text, client, word),
+    }
+}
+
+/// The answers of such a client.
+fn ascii_steps(text: &mut Text, client: &mut AsciiLine, words: &str) -> bool {
+    for word in words.split(',') {
+        if !ascii_step(text, client, word) {
+            return false;
+        }
+        text.push_str("; ");
+    }
+    true
+}
+
 /// The answers of a client of this line in the ASCII mode.
 fn answers_in_ascii(text: &mut Text, slave: Slave, words: &str, line: TimedMemoryLink) -> bool {
     let silence = Duration::from_millis(SILENCE);
-    let mut client = modbus_ascii_client::SerialClient::new(text.alloc, line, slave, silence);
+    let mut client = AsciiLine::new(text.alloc, line, slave, silence);
     client.set_timeout(Some(Duration::from_millis(TIMEOUT)));
-    let is_done = steps(text, &mut client, words);
+    let is_done = ascii_steps(text, &mut client, words);
     push_line(text, client.link());
     is_done
 }

@@ -9,7 +9,7 @@ front-init g c = (0, sym (behind_none _), refl)
 
 pub front-preserved : goal.front-preserved
 front-preserved g c =
-    let judge = g.J.Judge.verdict in
+    let judge = g.J.Judge.verdict c.args.asked in
     let (others, reads, tells) = c.front.invariant in
     let (some, fits, steps) = subst (λ b. StepsAs judge c.args.asked b (Past c.in-Past.end c.in-Past.others)) c.as_slice.ensures c.in-Past.ensures in (
       others + c.in-Past.others,

@@ -9,7 +9,7 @@ returns-in-Ok-clause-looks g c =
     let means = g.R.Reading.means in
     let held = c.drop_front-dropped.new.held.items in
     let dropped = c.drop_front-dropped.result.0 in
-    let d = subst (λ found. DropsFront judge c.args.asked.slave_id c.args.held.now.items held dropped found) c.in-Some.is c.drop_front-dropped.ensures in
+    let d = subst (λ found. DropsFront (judge c.args.asked.slave_id) c.args.asked.slave_id c.args.held.now.items held dropped found) c.in-Some.is c.drop_front-dropped.ensures in
     let takes = subst (λ result. TakesReply means c.args.asked.slave_id c.in-Some.pdu_len held c.take_reply.new.held.items result) c.in-Ok.is c.take_reply.ensures in
     looks_taken judge means c.args.asked c.args.held.now.items held dropped c.args.others.now c.saturating_add.result
     (omega (arith, c.saturating_add.ensures)) c.in-Some.pdu_len d c.take_reply.new.held.items c.in-Ok.reply takes
@@ -20,7 +20,7 @@ returns-in-Err-clause-looks g c =
     let means = g.R.Reading.means in
     let held = c.drop_front-dropped.new.held.items in
     let dropped = c.drop_front-dropped.result.0 in
-    let d = subst (λ found. DropsFront judge c.args.asked.slave_id c.args.held.now.items held dropped found) c.in-Some.is c.drop_front-dropped.ensures in
+    let d = subst (λ found. DropsFront (judge c.args.asked.slave_id) c.args.asked.slave_id c.args.held.now.items held dropped found) c.in-Some.is c.drop_front-dropped.ensures in
     let takes = subst (λ result. TakesReply means c.args.asked.slave_id c.in-Some.pdu_len held c.take_reply.new.held.items result) c.in-Err.is c.take_reply.ensures in
     looks_failed judge means c.args.asked c.args.held.now.items held dropped c.args.others.now c.saturating_add.result
     (omega (arith, c.saturating_add.ensures)) c.in-Some.pdu_len d c.take_reply.new.held.items c.in-Err.error takes

@@ -1,6 +1,6 @@
 use Rattle.modbus_client.specs.Raw.{raw_result_of}
 use Rattle.modbus_client.proofs.LineLooks.{silent_looks}
-use Rattle.modbus_client.proofs.line.RawLineFramesLineProtocol.look_silent.Goals as goal
+use Rattle.modbus_client.proofs.line.LineFramesRawLineProtocol.look_silent_raw.Goals as goal
 
 pub returns-clause-looks : goal.returns-clause-looks
 returns-clause-looks c = λ bytes cuts s.

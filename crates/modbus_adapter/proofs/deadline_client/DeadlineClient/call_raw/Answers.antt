@@ -1,4 +1,4 @@
-use Rattle.modbus_adapter.proofs.deadline_client.DeadlineClient+C+LineFrames+L.call_raw.Goals as goal
+use Rattle.modbus_adapter.proofs.deadline_client.DeadlineClient.call_raw.Goals as goal
 
 pub returns : goal.returns
 returns g c = rw (← c.self.view_is) (record {
