@@ -8,4 +8,5 @@ pub mod Leading
 pub mod Owing
 pub mod Guarding
 pub mod Outlasting
+pub mod Passing
 pub mod Reopening

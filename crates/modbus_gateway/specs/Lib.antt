@@ -2,10 +2,12 @@ pub mod Answer
 pub mod Forwards
 pub mod Records
 pub mod Forwarded
+pub mod Timely
 pub mod Turns
 pub mod Serial
 pub mod Rules
 pub mod Guarded
 pub mod Reopened
 pub mod Readings
+pub mod Told
 pub mod Sparing

@@ -1,12 +1,15 @@
 -- Devices of a line that is opened anew where it broke.
 use Rattle.std.specs.Prelude.{◌≡◌, ℕ, Bool, true, false, if◌then◌else◌, Option, Some, None}
+use Rattle.std.specs.Option.{is_some}
 use Rattle.modbus_frame.specs.Meaning.{Asked}
 use Rattle.modbus_frame.specs.declared.code.ExceptionCode.TheVariants.{GatewayPathUnavailable}
 use Rattle.modbus_reconnect.specs.declared.settling.Unsettled.{Unsettled}
 use Rattle.modbus_reconnect.specs.declared.settling.Unsettled.TheVariants.{StillSending, ReadFault, Ended}
 use Rattle.modbus_service.specs.Answering.{Answering}
 use Rattle.modbus_service.specs.Outcome.{Outcome, exception}
+use Rattle.modbus_gateway.specs.declared.watcher.LineChange.{LineChange}
 use Rattle.modbus_gateway.specs.Serial.{SerialState}
+use Rattle.modbus_gateway.specs.Told.{line_change, TellsIf}
 
 -- a line that its last call found so can't be read any more
 abbrev pub is_unreadable : Option Unsettled → Bool
@@ -19,15 +22,17 @@ is_unreadable (Some Ended) = true
 abbrev pub is_broken_line : {L : Type 0} → SerialState L → Bool
 is_broken_line line = if line.is_connected then is_unreadable line.unsettled else true
 
--- what opens the line, and the line where it is open
-pub record ReopenedState (O L : Type 0) : Type 0 where
+-- what opens the line, who is told, and the line where it is open
+pub record ReopenedState (O W L : Type 0) : Type 0 where
   pub opener : O
+  pub watcher : W
   pub line : Option L
 
--- what an opening may lead to, and whether a line broke
-pub record Reopening (O L : Type 0) : Type 1 where
+-- what an opening may lead to, whether a line broke, and what telling a change may lead to
+pub record Reopening (O W L : Type 0) : Type 1 where
   pub opens : O → Option L → O → Type 0
   pub broken : L → Bool
+  pub tells : W → LineChange → W → Type 0
 
 -- a line that is there stays, and where there is none it is opened
 abbrev pub OpensIfNone : {O L : Type 0} → (O → Option L → O → Type 0) → O → Option L → O → Option L → Type 0
@@ -54,15 +59,19 @@ abbrev pub left_of : {L : Type 0} → (L → Bool) → Option L → Option L
 left_of broken None = None
 left_of broken (Some line) = if broken line then None else Some line
 
--- A request is forwarded behind the opening of the line, where there was none, and the line is given up where it broke.
-pub record ForwardsBetween {O L : Type 0} (by : Reopening O L) (forwards : Option L → Option L → Type 0) (old new : ReopenedState O L) : Type 0 where
+-- A request is forwarded behind the opening of the line, where there was none, and the line is given up where it broke. That it is back is
+-- told where it was not open and is now, before the request is forwarded; that it is lost where it is given up, behind it; nothing else is.
+pub record ForwardsBetween {O W L : Type 0} (by : Reopening O W L) (forwards : Option L → Option L → Type 0) (old new : ReopenedState O W L) : Type 0 where
   pub line : Option L
   pub after : Option L
+  pub told : W
   pub opens : OpensIfNone by.opens old.opener old.line new.opener line
+  pub tells_back : TellsIf by.tells (line_change (is_some old.line) (is_some line)) old.watcher told
   pub forwarded : forwards line after
   pub left : new.line ≡ left_of by.broken after
+  pub tells_lost : TellsIf by.tells (line_change (is_some after) (is_some new.line)) told new.watcher
 
-abbrev pub reopened : {O L : Type 0} → Reopening O L → Answering L → Answering (ReopenedState O L)
+abbrev pub reopened : {O W L : Type 0} → Reopening O W L → Answering L → Answering (ReopenedState O W L)
 reopened by A = record {
   gives = λ old unit request outcome new. ForwardsBetween by (λ line after. GivesIfOpen A line unit request outcome after) old new;
   wants = λ old unit request new. ForwardsBetween by (λ line after. WantsIfOpen A line unit request after) old new;

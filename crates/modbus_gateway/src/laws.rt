@@ -7,8 +7,10 @@ ghost use Rattle.modbus_gateway.specs.Records.{RunsAreRecords, WantsAreRecords};
 ghost use Rattle.modbus_gateway.specs.Serial.{NothingIsOwed};
 ghost use Rattle.modbus_gateway.specs.Guarded.{GuardedRuns};
 ghost use Rattle.modbus_gateway.specs.Sparing.{SparingRuns, SparingCounts};
+ghost use Rattle.modbus_gateway.specs.Timely.{TimelyRuns};
 
 use crate::gateway::Forwarder;
+use crate::watcher::Watcher;
 use modbus_link::{Link, TimedLink};
 use modbus_reconnect::IdleLink;
 
@@ -37,7 +39,13 @@ pub fn only_what_is_allowed_is_sent<H, C: Forwarder>()
 /// Whatever masters ask of what spares its line the exchanges with dead slaves: the line has the requests that are not spared and no other,
 /// in their order. What is kept of each slave counts the exchanges that the line had: a slave is spared only where the last of these with
 /// it, as many as make it dead, ended with 0B.
-pub fn only_dead_slaves_are_spared<H, C: Forwarder>()
-    ensures runs { SparingRuns H C.forwarding }
-    ensures counts { SparingCounts H C.forwarding }
+pub fn only_dead_slaves_are_spared<H, W: Watcher, C: Forwarder>()
+    ensures runs { SparingRuns H W.tells C.forwarding }
+    ensures counts { SparingCounts H W.tells C.forwarding }
+{}
+
+/// However long masters wait for their turns at a shared line: the line has the requests that are not stale and no other, in their order. So
+/// nothing is done for one that waited longer than the limit, by the readings of the clock.
+pub fn only_fresh_requests_are_sent<H, C: Forwarder>()
+    ensures { TimelyRuns H C.forwarding }
 {}

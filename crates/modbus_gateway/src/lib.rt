@@ -4,7 +4,7 @@
 //! line answers goes back under the transaction and the unit of the request.
 //!
 //! Many masters share one line under a lock, so there is one exchange on it at a time, and none within another. Each connection has a
-//! service of its own, which takes the lock for one exchange. A line that may still bring a late reply is left to fall silent before its
+//! service of its own, which takes the lock for one exchange. A request that waited longer for its turn than masters wait is not made. A line that may still bring a late reply is left to fall silent before its
 //! next exchange, so no master gets the reply of another's request.
 #![tactic(auto)]
 
@@ -20,7 +20,9 @@ mod service;
 mod serving;
 mod sparing;
 mod standing;
+mod timely;
 mod turns;
+mod watcher;
 
 pub use crate::answer::{answer_broadcast, answer_call};
 pub use crate::gateway::{Forwarder, Gateway};
@@ -33,3 +35,4 @@ pub use crate::serving::process;
 pub use crate::sparing::Sparing;
 pub use crate::standing::SparingLimits;
 pub use crate::turns::{CONNECTIONS, Opening, SharedLine};
+pub use crate::watcher::{LineChange, Watcher};

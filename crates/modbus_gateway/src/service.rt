@@ -3,6 +3,7 @@ ghost use Rattle.std.specs.Prelude.{◌≡◌, ℕ, ◌+◌, ◌-◌, ◌^◌, I
 ghost use Rattle.modbus_gateway.specs.Turns.{served_in_turn};
 
 use crate::gateway::Forwarder;
+use crate::reading::Reading;
 use crate::turns::{CONNECTIONS, Opening, SharedLine};
 use modbus_frame::{Response, SlaveRequest};
 use modbus_service::{Answerer, ServiceError};
@@ -10,28 +11,37 @@ use std::alloc::Global;
 use std::marker::Model;
 use std::sync::Wait;
 use std::sync::ledger::Share;
+use std::time::Clock;
 
-/// The service of one connection. It takes the line for one exchange at a time.
+/// The service of one connection. It takes the line for one exchange at a time, where its turn comes before it has waited too long.
 #[derive(Drop)]
 pub struct LineService<'l, R, C: Forwarder, J: Opening<C>> {
     rt: &'l R,
     line: &'l SharedLine<C, J>,
     mine: Share<J>,
+    asked: Reading,
+    readings: u64,
 }
 
-/// A contract sees how many exchanges it made.
+/// A contract sees how many turns it took, what the clock told as its last request was read whole, and how often it read the clock.
 impl<'l, R, C: Forwarder, J: Opening<C>> Model for LineService<'l, R, C, J> {
-    ghost use Rattle.std.specs.Prelude.{ℕ, ◌<◌};
+    ghost use Rattle.std.specs.Prelude.{◌<◌};
+    ghost use Rattle.modbus_gateway.specs.Turns.{ServiceState};
 
-    ghost Value = { ℕ };
+    ghost Value = { ServiceState };
 
-    ghost view = { λ service. service.mine.amount };
+    ghost view = { λ service. record {
+      made = service.mine.amount;
+      asked = service.asked;
+      readings = service.readings;
+    } };
 
     ghost invariant = { λ service. 0 < service.mine.parts };
 }
 
-/// Each request is one whole exchange on the line, and is answered by what that exchange gave.
-impl<'l, R: Wait, C: Forwarder, J: Opening<C>> Answerer for LineService<'l, R, C, J> {
+/// Each request is one whole exchange on the line, and is answered by what that exchange gave; one that waited too long for its turn is
+/// answered by 06 (server device busy).
+impl<'l, R: Wait + Clock, C: Forwarder, J: Opening<C>> Answerer for LineService<'l, R, C, J> {
     ghost answering = { served_in_turn J.opens C.forwarding };
 
     #[tactic(auto, using(crate::proofs::Leading::keeps_turn))]
@@ -40,7 +50,10 @@ impl<'l, R: Wait, C: Forwarder, J: Opening<C>> Answerer for LineService<'l, R, C
         _alloc: Global,
         request: SlaveRequest<'_>,
     ) -> Result<Option<Response>, ServiceError> {
-        self.line.exchange(self.rt, &mut self.mine, request)
+        self.asked = Reading::next(self.rt, self.readings);
+        self.readings = self.asked.number();
+        self.line
+            .exchange(self.rt, &mut self.mine, &self.asked, request)
     }
 }
 
@@ -56,10 +69,10 @@ pub trait Services {
     // for how many more connections there is one
     ghost left: { Self → ℕ };
 
-    // how many exchanges a service made
+    // how many turns a service took
     ghost made: { Self.Service → ℕ };
 
-    /// A service for one more connection, which has made no exchange. It takes no memory, and does nothing with the line.
+    /// A service for one more connection, which has taken no turn. It takes no memory, and does nothing with the line.
     ///
     /// # Errors
     /// `ServicesOut` exactly where none is left.
@@ -106,12 +119,12 @@ impl<'l, R, C: Forwarder, J: Opening<C>> LineServices<'l, R, C, J> {
     }
 }
 
-impl<'l, R: Wait, C: Forwarder, J: Opening<C>> Services for LineServices<'l, R, C, J> {
+impl<'l, R: Wait + Clock, C: Forwarder, J: Opening<C>> Services for LineServices<'l, R, C, J> {
     type Service = LineService<'l, R, C, J>;
 
     ghost left = { λ services. services };
 
-    ghost made = { λ service. service };
+    ghost made = { λ service. service.made };
 
     fn open(&mut self) -> Result<LineService<'l, R, C, J>, ServicesOut> {
         if self.left == 0 {
@@ -122,6 +135,8 @@ impl<'l, R: Wait, C: Forwarder, J: Opening<C>> Services for LineServices<'l, R, 
             rt: self.rt,
             line: self.line,
             mine: self.rest.split_off(1, 0),
+            asked: Reading::none(),
+            readings: 0,
         })
     }
 }

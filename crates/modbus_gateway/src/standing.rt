@@ -2,7 +2,7 @@
 ghost use Rattle.std.specs.Prelude.{◌≡◌};
 ghost use Rattle.std.specs.Option.{option_map};
 ghost use Rattle.std.specs.Duration.{as_nanos};
-ghost use Rattle.modbus_gateway.specs.Sparing.{alive, missed_once_more, ago, is_soon, is_out};
+ghost use Rattle.modbus_gateway.specs.Sparing.{at_least_one, alive, missed_once_more, ago, is_soon, is_dead, is_out};
 
 use crate::reading::Reading;
 use std::time::{Duration, Instant};
@@ -17,6 +17,16 @@ pub struct SparingLimits {
 }
 
 impl SparingLimits {
+    /// The same, where no number stands for 1.
+    pub(crate) fn at_least_one(self) -> SparingLimits
+        ensures { result ≡ at_least_one self }
+    {
+        SparingLimits {
+            misses: if self.misses == 0 { 1 } else { self.misses },
+            retry: self.retry,
+        }
+    }
+
     /// Whether so much time is less than a dead slave is spared for; it is not where it is not known.
     fn is_soon(&self, passed: Option<Duration>) -> bool
         ensures { result ≡ is_soon self.now (option_map as_nanos passed) }
@@ -26,6 +36,17 @@ impl SparingLimits {
             None => false,
         }
     }
+}
+
+/// What the end of an exchange shows of its slave.
+#[derive(Clone, Copy)]
+pub enum Sign {
+    /// It did not respond.
+    Missed,
+    /// It answered.
+    Answered,
+    /// Nothing: there was no line to ask it on, or no memory.
+    Nothing,
 }
 
 /// What is kept of a slave.
@@ -70,10 +91,17 @@ impl Standing {
         }
     }
 
+    /// Whether it is dead: as many exchanges with it in a row ended with 0B as make it so.
+    pub(crate) fn is_dead(&self, limits: &SparingLimits) -> bool
+        ensures { result ≡ is_dead limits.now self.now }
+    {
+        limits.misses <= self.missed
+    }
+
     /// Whether it is dead, and the last exchange with it ended a short time before now.
     pub(crate) fn is_out(&self, limits: &SparingLimits, now: &Reading) -> bool
         ensures { result ≡ is_out limits.now self.now now.now.at }
     {
-        limits.misses <= self.missed && limits.is_soon(self.ago(now))
+        self.is_dead(limits) && limits.is_soon(self.ago(now))
     }
 }

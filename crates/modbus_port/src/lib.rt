@@ -1,6 +1,7 @@
 //! A port of this machine: what programs stand on that listen on one, with a thread of a scope for each connection.
 #![tactic(auto)]
 
+mod ending;
 pub mod laws;
 mod listen;
 mod patient;
@@ -12,6 +13,7 @@ mod telling;
 mod turning;
 mod watched;
 
+pub use crate::ending::Ending;
 pub use crate::listen::{Framing, run_listen};
 pub use crate::patient::{Keeper, PatientAcceptor};
 pub use crate::peers::{Network, Peers};

@@ -10,7 +10,7 @@ use modbus_link::{Sink, TcpAcceptor};
 use std::io::Result as IoResult;
 use std::marker::Model;
 use std::net::{Net, SocketAddr, TcpListener, TcpStream};
-use std::sync::atomic::AtomicBool;
+use std::sync::atomic::{AtomicBool, Ordering};
 use std::thread;
 use std::time::{Clock, Duration};
 
@@ -38,6 +38,7 @@ pub struct PortKeeper<'r, R, N> {
     peers: Peers<'r>,
     notes: N,
     program: &'r str,
+    ended: &'r AtomicBool,
     is_full: bool,
     is_faulty: bool,
     has_told: bool,
@@ -54,13 +55,14 @@ impl<'r, R, N> Model for PortKeeper<'r, R, N> {
 
 impl<'r, R, N> PortKeeper<'r, R, N> {
     /// One for the acceptor over this listener, and for these peers. It tells on `notes` what keeps peers waiting, once until it has passed, and
-    /// the first peer that is not served; each line begins with the name of the program.
+    /// the first peer that is not served; each line begins with the name of the program. Once `ended` is set it tells and waits no more.
     pub fn new(
         rt: &'r R,
         listener: TcpListener,
         peers: Peers<'r>,
         notes: N,
         program: &'r str,
+        ended: &'r AtomicBool,
     ) -> PortKeeper<'r, R, N>
         ensures { result ≡ peers.entry }
     {
@@ -70,6 +72,7 @@ impl<'r, R, N> PortKeeper<'r, R, N> {
             peers,
             notes,
             program,
+            ended,
             is_full: false,
             is_faulty: false,
             has_told: false,
@@ -116,6 +119,9 @@ impl<'r, R: Clock, N: Sink> Keeper for PortKeeper<'r, R, N> {
     }
 
     fn wait(&mut self) {
+        if self.ended.load(Ordering::Acquire) {
+            return;
+        }
         if !self.is_faulty {
             note(&mut self.notes, self.program, RETRY);
             self.is_faulty = true;
@@ -150,7 +156,8 @@ pub type PortAcceptor<'r, R, N> = PatientAcceptor<WatchedAcceptor<'r>, PortKeepe
 /// What accepts those peers of this listener that are served, by its other share too, for links that end once `ended` is set.
 ///
 /// A peer that is not served, or that there is no file descriptor for, is turned away; the first of several in a row is told on `notes`, in a line that begins with
-/// the name of the program. After a fault of accepting it waits for 100 milliseconds and tries again, 300 times in a row.
+/// the name of the program. After a fault of accepting it waits for 100 milliseconds and tries again, 300 times in a row; once `ended` is set
+/// it does not wait.
 pub fn accept_port<'r, R, N>(
     rt: &'r R,
     listener: (TcpListener, TcpListener),
@@ -165,7 +172,7 @@ pub fn accept_port<'r, R, N>(
     let accepting = WatchedAcceptor::new(TcpAcceptor::new(listener), ended);
     PatientAcceptor::new(
         accepting,
-        PortKeeper::new(rt, share, peers, notes, program),
+        PortKeeper::new(rt, share, peers, notes, program, ended),
         RETRIES,
     )
 }

@@ -3,6 +3,7 @@ ghost use Rattle.std.specs.Prelude.{◌≡◌};
 ghost use Rattle.modbus_port.specs.Listen.{ListenedOver};
 ghost use Rattle.modbus_port.specs.Port.{accepting, Port, port_accepting, port_at_start, port_for};
 
+use crate::ending::Ending;
 use crate::listen::{Framing, run_listen};
 use crate::peers::Peers;
 use crate::port::accept_port;
@@ -219,7 +220,8 @@ where
 /// Any other peer is turned away, and the first is told on the first of `notes`. So is a peer that there is no file descriptor or no thread for,
 /// and the first of several in a row is told, the descriptors on the first of them; each line begins with the name of the program. After a fault
 /// of accepting it waits for 100 milliseconds and tries again, 300 times in a row. A connection that moves no byte for ten minutes is let go. Once
-/// it does not go on, each of its connections ends within a second.
+/// it does not go on, each of its connections ends within a second. It does not go on either once another thread ends it by `ending`: then it
+/// accepts no more peers, and tells an accept fault.
 pub fn serve_peers<R, S, H, E, N>(
     rt: &R,
     alloc: Global,
@@ -230,6 +232,7 @@ pub fn serve_peers<R, S, H, E, N>(
     on_process_error: H,
     errors: E,
     notes: (N, N),
+    ending: &Ending,
 ) -> (S, E, u8)
 where
     R: Threads + Wait + Clock + Sync,
@@ -244,9 +247,10 @@ where
         (port_for peers.entry, services) (after, result.0) (E.output errors, E.output result.1)
         result.2 }
 {
-    let ended = AtomicBool::new(false);
+    let ended = ending.flag();
+    ending.attach(&listener.0);
     let listening = Listening {
-        acceptor: accept_port(rt, listener, peers, notes.0, S::program(), &ended),
+        acceptor: accept_port(rt, listener, peers, notes.0, S::program(), ended),
         services,
         errors,
     };
@@ -257,8 +261,9 @@ where
         listening,
         on_process_error,
         notes.1,
-        &ended,
+        ended,
     );
+    ending.detach();
     (listening.services, listening.errors, status)
 }
 
@@ -295,5 +300,6 @@ where
         on_process_error,
         errors,
         notes,
+        &Ending::new(),
     )
 }

@@ -3,3 +3,4 @@ pub mod Ends
 pub mod RuleWords
 pub mod PeerWords
 pub mod SparingWords
+pub mod StaleWords

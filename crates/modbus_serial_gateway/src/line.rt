@@ -1,6 +1,7 @@
 //! The serial line of a gateway: on the standard streams, or at the file of a serial port that is opened anew where it is gone.
 
 use crate::PROGRAM;
+use crate::telling::{NoOpener, PortNotes, StreamEnd};
 use crate::words::LineKind;
 use modbus_adapter::{EchoedLink, PacedLink, pause_of};
 use modbus_client::Client;
@@ -8,6 +9,7 @@ use modbus_frame::Slave;
 use modbus_gateway::{LineOpener, Reopened, SerialLine};
 use modbus_idle::PortLine;
 use modbus_link::{ReadSource, WriteSink};
+use modbus_port::Ending;
 use modbus_reconnect::SerialClient;
 use std::fs::{File, OpenOptions};
 use std::io::{self, IsTerminal, Read, Stdin, Stdout, Write};
@@ -43,14 +45,14 @@ type Ends<I, O> = EchoedLink<PortLine<ReadSource<I>, WriteSink<O>>>;
 /// The slaves of a line over these ends.
 type Slaves<'r, I, O> = SerialLine<PacedLink<'r, HostRuntime, Ends<I, O>>>;
 
-/// The slaves of the line over the standard streams.
-pub type StreamLine<'r> = Slaves<'r, Stdin, Stdout>;
+/// The slaves of the line over the standard streams, with which the program ends.
+pub type StreamLine<'r> = Reopened<NoOpener, StreamEnd<'r>, Slaves<'r, Stdin, Stdout>>;
 
 /// The slaves of the line at the file of a serial port.
 pub type PortSlaves<'r> = Slaves<'r, File, File>;
 
 /// The slaves of a serial port that is opened anew where it is gone.
-pub type FileLine<'r> = Reopened<PortOpener<'r>, PortSlaves<'r>>;
+pub type FileLine<'r> = Reopened<PortOpener<'r>, PortNotes<'r>, PortSlaves<'r>>;
 
 /// The slaves of a line over these ends, which stand behind this descriptor. Where it is in doubt it has to be silent for as long as a reply is
 /// waited for.
@@ -74,10 +76,11 @@ fn slaves_over<I: Read + Send + Drop, O: Write + Send + Drop>(
     SerialLine::new(client)
 }
 
-/// The slaves of the line over the standard streams.
-pub fn stream_line(rt: &HostRuntime, asking: Asking) -> StreamLine<'_> {
+/// The slaves of the line over the standard streams. Once it has ended it ends the listener of the program by `ending`.
+pub fn stream_line<'r>(rt: &'r HostRuntime, asking: Asking, ending: &'r Ending) -> StreamLine<'r> {
     let fd = rt.stdin().as_raw_fd();
-    slaves_over(rt, (rt.stdin(), rt.stdout()), fd, asking)
+    let slaves = slaves_over(rt, (rt.stdin(), rt.stdout()), fd, asking);
+    Reopened::new(NoOpener, StreamEnd::new(rt, ending), Some(slaves))
 }
 
 /// The slaves of the serial port at this path.
@@ -116,11 +119,11 @@ impl<'r> PortOpener<'r> {
         }
     }
 
-    /// Tells once that the port is gone, and keeps when that was.
+    /// Tells once why the port can't be opened, and keeps when that was.
     fn note(&mut self, error: &io::Error) {
         let path = self.path;
         if self.tried.is_none() {
-            let _ = eprintln!(self.rt; "{PROGRAM}: {path} is gone: {error}");
+            let _ = eprintln!(self.rt; "{PROGRAM}: {path} can't be opened: {error}");
         }
         self.tried = Instant::now(self.rt).ok();
     }
@@ -136,8 +139,6 @@ impl<'r> LineOpener<PortSlaves<'r>> for PortOpener<'r> {
         }
         match open_port(self.rt, self.path, self.asking) {
             Ok(line) => {
-                let path = self.path;
-                let _ = eprintln!(self.rt; "{PROGRAM}: {path} is open again");
                 self.tried = None;
                 Some(line)
             }
@@ -165,5 +166,5 @@ pub fn file_line<'r>(
         asking,
         tried: None,
     };
-    Ok(Reopened::new(opener, Some(line)))
+    Ok(Reopened::new(opener, PortNotes::new(rt, path), Some(line)))
 }

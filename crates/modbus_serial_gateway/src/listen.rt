@@ -1,5 +1,6 @@
 //! Listening on a port, with a thread of a scope for each connection, all over one line.
 ghost use Rattle.std.specs.Prelude.{◌≡◌, ◌+◌, ◌^◌, IfOk, IfErr};
+ghost use Rattle.modbus_gateway.specs.Timely.{timely_at_start};
 ghost use Rattle.modbus_serial_gateway.specs.Ends.{line_of, HasEnded, IsRefused, IsRefusedOrEnded};
 
 use crate::PROGRAM;
@@ -7,7 +8,7 @@ use crate::ending::{BIND_LINE, NO_MEMORY_LINE, line};
 use modbus_about::FAILED;
 use modbus_gateway::{Forwarder, LineServices, Opening, ServicesOut, SharedLine};
 use modbus_link::Sink;
-use modbus_port::{Framing, Peers, Services, bind, report, serve_peers};
+use modbus_port::{Ending, Framing, Peers, Services, bind, report, serve_peers};
 use modbus_server::{ProcessError, ServeError};
 use std::alloc::{AllocError, Global};
 use std::io::{Error, ErrorKind};
@@ -16,7 +17,7 @@ use std::net::{Net, SocketAddr, TcpListener, TcpStream};
 use std::sync::Wait;
 use std::sync::ledger::Blank;
 use std::thread::Threads;
-use std::time::Clock;
+use std::time::{Clock, Duration};
 
 /// Into how many parts the ledger of a line is cut: one for each connection that it may have, and one more.
 const PARTS: u64 = 1 << 32;
@@ -76,17 +77,28 @@ impl<S: modbus_gateway::Services> Services for Masters<S> {
     }
 }
 
-/// Serves the links of these peers of a listener over a line that was opened, whose exchanges are counted in this ledger.
+/// What masters share, and whom.
+#[derive(Drop)]
+pub struct Shared<'p, C> {
+    /// The line.
+    pub line: C,
+    /// For how long a request waits at most for its turn at the line.
+    pub limit: Duration,
+    /// The masters that are served.
+    pub peers: Peers<'p>,
+}
+
+/// Serves the links of these peers of a listener over a line that was opened, whose turns are counted in this ledger.
 fn serve_line<R, C, J, H, E, N>(
     rt: &R,
     alloc: Global,
     listener: (TcpListener, TcpListener),
-    peers: Peers<'_>,
-    line: C,
+    shared: Shared<'_, C>,
     ledger: Blank,
     on_process_error: H,
     errors: E,
     notes: (N, N),
+    ending: &Ending,
 ) -> (E, u8)
 where
     R: Threads + Wait + Clock + Sync,
@@ -96,15 +108,16 @@ where
     E: Sink + Drop,
     N: Sink + Drop,
     requires error_hook { H.IsAlwaysCallable on_process_error }
-    requires opens { J.opens line }
+    requires opens { J.opens (timely_at_start shared.line shared.limit) }
     requires name { ledger.name ≡ J.name }
     requires parts { ledger.parts ≡ J.parts }
     requires all { ledger.parts ≡ 2 ^ 32 }
     ensures { HasEnded (E.output errors) (E.output result.0) result.1 }
 {
     let (turns, shares) = ledger.open::<J>();
-    let shared = SharedLine::new(line, turns);
-    let masters = Masters(LineServices::new(rt, &shared, shares));
+    let Shared { line, limit, peers } = shared;
+    let line = SharedLine::new(line, limit, turns);
+    let masters = Masters(LineServices::new(rt, &line, shares));
     let (_masters, errors, status) = serve_peers(
         rt,
         alloc,
@@ -115,22 +128,23 @@ where
         on_process_error,
         errors,
         notes,
+        ending,
     );
     (errors, status)
 }
 
 /// Serves all connections of these peers to this address over one line, each in a thread, by ADUs with an MBAP header. The error of a single connection ends
-/// that connection alone. It tells on `notes` what keeps peers waiting, and on the first of them where it listens.
+/// that connection alone. It tells on `notes` what keeps peers waiting, and on the first of them where it listens. It ends once `ending` says so.
 ///
 /// It gives `errors` back, with the line that tells why it does not go on, or that the system refuses the listener.
 pub fn serve<R, C, E, N>(
     rt: &R,
     alloc: Global,
     address: SocketAddr,
-    peers: Peers<'_>,
-    line: C,
+    shared: Shared<'_, C>,
     errors: E,
     notes: (N, N),
+    ending: &Ending,
 ) -> (E, u8)
 where
     R: Threads + Wait + Clock + Net<Listener = TcpListener, Stream = TcpStream> + Sync,
@@ -147,12 +161,12 @@ where
                 rt,
                 alloc,
                 listener,
-                peers,
-                line,
+                shared,
                 Blank::new(PARTS),
                 |_error: ProcessError| {},
                 errors,
                 notes,
+                ending,
             )
         }
         Err(error) => {

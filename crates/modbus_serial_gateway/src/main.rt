@@ -1,8 +1,9 @@
 //! A gateway that makes the devices of one serial line reachable over Modbus TCP, for any number of masters:
 //! `modbus_serial_gateway [ADDRESS:]PORT MILLISECONDS`. The line is that of its standard streams, or with `--serial FILE` of a serial port, which
 //! was set by `stty raw -echo`. `--echo` is for an adapter that gives back what is sent, and `--baud N` tells the line's speed, by which a pause is
-//! kept between a reply and the next request. `--allow`, `--units`, `--read-only` and `--writes` say who may come and what masters may do, and
-//! `--dead-after N` after how many requests that it did not answer a slave is not asked for a while.
+//! kept between a reply and the next request. `--allow`, `--units`, `--read-only` and `--writes` say who may come and what masters may do,
+//! `--dead-after N` after how many requests that it did not answer a slave is not asked for a while, and `--stale MILLISECONDS` for how long a
+//! request waits at most for its turn at the line.
 #![tactic(auto)]
 
 mod ending;
@@ -11,14 +12,17 @@ mod listen;
 mod peer_words;
 mod rule_words;
 mod sparing_words;
+mod stale_words;
+mod telling;
 mod words;
 
 use ending::NO_MEMORY_LINE;
 use line::{Asking, file_line, stream_line};
-use listen::serve;
+use listen::{Shared, serve};
 use modbus_about::{About, FAILED, USAGE, asked, fill_closed_streams, tell};
 use modbus_gateway::{Forwarder, Guarded, Sparing};
 use modbus_link::WriteSink;
+use modbus_port::Ending;
 use std::alloc::Global;
 use std::env::{self, Args};
 use std::io::{ErrorKind, Result};
@@ -28,6 +32,7 @@ use std::process::ExitCode;
 use std::sync::Wait;
 use std::thread::Threads;
 use std::time::Clock;
+use telling::SlaveNotes;
 use words::{HELP, LineWish, LineWords, Task, read_words};
 
 /// What its messages begin with.
@@ -68,46 +73,70 @@ fn wish_of(rt: &HostRuntime) -> Result<Option<Wish>> {
     }
 }
 
+/// What the line is served by: this machine, what was asked for, and what ends the listener.
+#[derive(Clone, Copy)]
+struct Place<'r> {
+    host: &'r HostRuntime,
+    task: Task,
+    wish: &'r LineWish,
+    ending: &'r Ending,
+}
+
 /// Serves a line as is wished for, with the threads of this machine; the status.
-fn serve_line<R, C>(host: &HostRuntime, rt: &R, task: Task, wish: &LineWish, line: C) -> u8
+fn serve_line<R, C>(rt: &R, place: Place<'_>, line: C) -> u8
 where
     R: Threads + Wait + Clock + Net<Listener = TcpListener, Stream = TcpStream> + Sync,
     C: Forwarder + Send + Drop,
 {
+    let Place {
+        host,
+        task,
+        wish,
+        ending,
+    } = place;
     let errors = WriteSink::new(host.stderr());
     let notes = (WriteSink::new(host.stderr()), WriteSink::new(host.stderr()));
-    let guarded = Guarded::new(wish.rules.rules(), line);
+    let shared = Shared {
+        line: Guarded::new(wish.rules.rules(), line),
+        limit: wish.stale.limit(task.millis),
+        peers: wish.peers(),
+    };
     let (_errors, status) = serve(
         rt,
         host.alloc(),
         task.address,
-        wish.peers(),
-        guarded,
+        shared,
         errors,
         notes,
+        ending,
     );
     status
 }
 
 /// Serves a line, which is spared the requests for dead slaves where that is wished for; the status.
-fn serve_slaves<R, C>(host: &HostRuntime, rt: &R, task: Task, wish: &LineWish, line: C) -> u8
+fn serve_slaves<R, C>(rt: &R, place: Place<'_>, line: C) -> u8
 where
     R: Threads + Wait + Clock + Net<Listener = TcpListener, Stream = TcpStream> + Sync,
     C: Forwarder + Send + Drop,
 {
-    match wish.sparing.limits() {
-        Some(limits) => serve_line(host, rt, task, wish, Sparing::new(rt, line, limits)),
-        None => serve_line(host, rt, task, wish, line),
+    let sparing = place.wish.sparing;
+    match sparing.limits() {
+        Some(limits) => {
+            let notes = SlaveNotes::new(place.host, sparing.retry_seconds());
+            serve_line(rt, place, Sparing::new(rt, notes, line, limits))
+        }
+        None => serve_line(rt, place, line),
     }
 }
 
 /// Serves the line at the file of a serial port; the status.
-fn serve_port<R>(host: &HostRuntime, rt: &R, task: Task, path: &str, wish: &LineWish) -> u8
+fn serve_port<R>(rt: &R, place: Place<'_>, path: &str) -> u8
 where
     R: Threads + Wait + Clock + Net<Listener = TcpListener, Stream = TcpStream> + Sync,
 {
-    match file_line(host, path, asking_of(task, wish)) {
-        Ok(line) => serve_slaves(host, rt, task, wish, line),
+    let host = place.host;
+    match file_line(host, path, asking_of(place)) {
+        Ok(line) => serve_slaves(rt, place, line),
         Err(error) if error.kind() == ErrorKind::Unsupported => {
             let _ = eprintln!(host; "{PROGRAM}: {path} is no serial port");
             FAILED
@@ -120,23 +149,23 @@ where
 }
 
 /// How the line is asked.
-fn asking_of(task: Task, wish: &LineWish) -> Asking {
+fn asking_of(place: Place<'_>) -> Asking {
     Asking {
-        millis: task.millis,
-        kind: wish.kind,
+        millis: place.task.millis,
+        kind: place.wish.kind,
     }
 }
 
 /// Serves the line that is wished for; the status.
-fn serve_wish<R>(host: &HostRuntime, rt: &R, task: Task, wish: &LineWish) -> u8
+fn serve_wish<R>(rt: &R, place: Place<'_>) -> u8
 where
     R: Threads + Wait + Clock + Net<Listener = TcpListener, Stream = TcpStream> + Sync,
 {
-    match &wish.path {
-        Some(path) => serve_port(host, rt, task, path.as_str(), wish),
+    match &place.wish.path {
+        Some(path) => serve_port(rt, place, path.as_str()),
         None => {
-            let line = stream_line(host, asking_of(task, wish));
-            serve_slaves(host, rt, task, wish, line)
+            let line = stream_line(place.host, asking_of(place), place.ending);
+            serve_slaves(rt, place, line)
         }
     }
 }
@@ -152,7 +181,16 @@ fn main(rt: HostRuntime) -> ExitCode {
         Err(_) => None,
     };
     match wish {
-        Some(Wish::Serve(task, line)) => ExitCode::from(serve_wish(&rt, &rt, task, &line)),
+        Some(Wish::Serve(task, wish)) => {
+            let ending = Ending::new();
+            let place = Place {
+                host: &rt,
+                task,
+                wish: &wish,
+                ending: &ending,
+            };
+            ExitCode::from(serve_wish(&rt, place))
+        }
         Some(Wish::Say(about)) => ExitCode::from(tell(&rt, PROGRAM, HELP, about)),
         None => {
             let _ = eprint!(rt; "{PROGRAM}: {HELP}");

@@ -2,7 +2,7 @@
 ghost use Rattle.std.specs.Prelude.{◌≡◌, None};
 ghost use Rattle.std.specs.Option.{option_map, is_some};
 ghost use Rattle.std.specs.Duration.{as_nanos};
-ghost use Rattle.modbus_serial_gateway.specs.SparingWords.{misses_named, seconds_named, limits_said, wants_misses};
+ghost use Rattle.modbus_serial_gateway.specs.SparingWords.{misses_named, seconds_named, or_ten, limits_said, wants_misses};
 
 use modbus_gateway::SparingLimits;
 use modbus_poll::number_within;
@@ -71,16 +71,22 @@ impl SparingWords {
         self.seconds.is_some() && self.misses.is_none()
     }
 
+    /// For how many seconds a dead slave is not asked.
+    pub fn retry_seconds(&self) -> u32
+        ensures { result ≡ or_ten self.now.seconds }
+    {
+        self.seconds.unwrap_or(RETRY)
+    }
+
     /// When a slave is dead, and for how long it is not asked then; `None` where each slave is asked at each request.
     pub fn limits(&self) -> Option<SparingLimits>
         ensures { option_map (λ limits. (limits.misses, as_nanos limits.retry)) result
             ≡ limits_said self.now.misses self.now.seconds }
     {
         let misses = self.misses?;
-        let seconds = self.seconds.unwrap_or(RETRY);
         Some(SparingLimits {
             misses,
-            retry: Duration::from_secs(u64::from(seconds)),
+            retry: Duration::from_secs(u64::from(self.retry_seconds())),
         })
     }
 }

@@ -7,6 +7,7 @@ ghost use Rattle.modbus_serial_gateway.specs.Words.{nonzero_port, time_named, Is
 use crate::peer_words::network_of;
 use crate::rule_words::RuleWords;
 use crate::sparing_words::SparingWords;
+use crate::stale_words::StaleWords;
 use modbus_poll::number_within;
 use modbus_port::{Network, Peers, loopback};
 use std::alloc::{AllocError, Global};
@@ -14,7 +15,7 @@ use std::net::SocketAddr;
 
 /// What it says of its words.
 pub const HELP: &str =
-    "usage: modbus_serial_gateway [ADDRESS:]PORT MILLISECONDS [--serial FILE] [--echo] [--baud N] [--allow NETWORK] [--units A-B] [--read-only | --writes UNITS:A-B] [--dead-after N [--retry-dead SECONDS]], a port from 1 to 65535 and a time from 1 to 60000\n";
+    "usage: modbus_serial_gateway [ADDRESS:]PORT MILLISECONDS [--serial FILE] [--echo] [--baud N] [--allow NETWORK] [--units A-B] [--read-only | --writes UNITS:A-B] [--dead-after N [--retry-dead SECONDS]] [--stale MILLISECONDS], a port from 1 to 65535 and a time from 1 to 60000\n";
 
 /// What the words ask for.
 #[derive(Clone, Copy, Debug, PartialEq, Eq)]
@@ -87,14 +88,16 @@ enum Awaited {
     Writes,
     DeadAfter,
     RetryDead,
+    Stale,
 }
 
-/// What the words say of the line, of dead slaves, and of the masters.
+/// What the words say of the line, of dead slaves, of requests that wait, and of the masters.
 #[derive(Drop)]
 pub struct LineWish {
     pub kind: LineKind,
     pub rules: RuleWords,
     pub sparing: SparingWords,
+    pub stale: StaleWords,
     /// The file of the serial port; none for the standard streams.
     pub path: Option<String>,
     /// The networks whose peers are served; none for each peer.
@@ -133,6 +136,7 @@ impl LineWords {
             kind,
             rules: RuleWords::new(alloc),
             sparing: SparingWords::new(),
+            stale: StaleWords::new(),
             path: None,
             networks: Vec::new(alloc),
         };
@@ -186,6 +190,7 @@ impl LineWords {
             "--writes" => self.awaited = Some(Awaited::Writes),
             "--dead-after" => self.awaited = Some(Awaited::DeadAfter),
             "--retry-dead" => self.awaited = Some(Awaited::RetryDead),
+            "--stale" => self.awaited = Some(Awaited::Stale),
             _ => return false,
         }
         true
@@ -204,6 +209,7 @@ impl LineWords {
             Some(Awaited::Writes) => self.wish.rules.add_writes(word),
             Some(Awaited::DeadAfter) => Ok(self.wish.sparing.read_misses(word)),
             Some(Awaited::RetryDead) => Ok(self.wish.sparing.read_seconds(word)),
+            Some(Awaited::Stale) => Ok(self.wish.stale.read(word)),
             None => Ok(self.read_option(word)),
         }
     }
