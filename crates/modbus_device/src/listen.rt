@@ -1,9 +1,10 @@
 //! Serving a port of Modbus TCP on one thread.
 
 use crate::device::Device;
+use crate::words::TcpPort;
 use mio::net::TcpListener;
 use modbus_field::stream::StreamBuffer;
-use modbus_hub::{EventServer, Limits, TurnLimits};
+use modbus_hub::{Counted, Deadlines, EventServer, Limits, TurnLimits};
 use modbus_link::FlagStop;
 use modbus_ready::{MioReadiness, PolledTcpAcceptor};
 use std::alloc::AllocGlobal;
@@ -11,16 +12,13 @@ use std::net::Net;
 use std::sync::Wait;
 use std::time::{Clock, Duration};
 
-/// How many connections there are at a time, where the system has as many file descriptors.
-const CONNECTIONS: usize = 10_000;
-
 /// What a connection may take before another has its turn. One read may give a score of messages.
 const TURN: TurnLimits = TurnLimits {
     reads: 16,
     messages: 16,
 };
 
-/// How many seconds a connection may stay that has no turn.
+/// How many seconds a connection may stay that sends nothing.
 const IDLE: u64 = 600;
 
 /// A server over the network of the machine.
@@ -30,6 +28,7 @@ type NetServer = EventServer<StreamBuffer, PolledTcpAcceptor, MioReadiness>;
 fn open_server<R: Net + AllocGlobal>(
     rt: &R,
     listener: TcpListener,
+    connections: usize,
 ) -> Result<NetServer, &'static str> {
     let Ok(mut readiness) = MioReadiness::new(rt) else {
         return Err("epoll fault");
@@ -39,7 +38,7 @@ fn open_server<R: Net + AllocGlobal>(
         return Err("epoll fault");
     }
     let limits = Limits {
-        connections: CONNECTIONS,
+        connections,
         turn: TURN,
     };
     Ok(EventServer::new(rt.alloc(), acceptor, readiness, limits))
@@ -49,26 +48,33 @@ fn open_server<R: Net + AllocGlobal>(
 fn run<R: Wait + Clock>(
     rt: &R,
     server: &mut NetServer,
-    device: &mut Device,
+    device: &mut Counted<Device>,
+    deadlines: Deadlines,
     signal: &mut FlagStop,
 ) -> &'static str {
-    match server.serve_until(rt, device, Some(Duration::from_secs(IDLE)), signal) {
+    match server.serve_until(rt, device, deadlines, signal) {
         Ok(_) => "stopped",
         Err(_) => "epoll fault",
     }
 }
 
-/// Serves the units to all who connect, until the system refuses something, and says what.
+/// Serves the units to all who connect to a port, until the system refuses something, and says what.
 pub fn serve<R: Net + AllocGlobal + Wait + Clock>(
     rt: &R,
     listener: TcpListener,
-    mut device: Device,
+    device: Device,
+    port: TcpPort,
 ) -> &'static str {
     let Ok(mut signal) = FlagStop::new(rt.alloc()) else {
         return "no memory";
     };
-    match open_server(rt, listener) {
-        Ok(mut server) => run(rt, &mut server, &mut device, &mut signal),
+    let deadlines = Deadlines {
+        idle: Some(Duration::from_secs(IDLE)),
+        message: Some(Duration::from_secs(port.message_timeout)),
+    };
+    let mut device = Counted::new(device);
+    match open_server(rt, listener, port.connections) {
+        Ok(mut server) => run(rt, &mut server, &mut device, deadlines, &mut signal),
         Err(fault) => fault,
     }
 }

@@ -27,7 +27,7 @@ use std::process::ExitCode;
 use std::sync::Wait;
 use std::thread;
 use std::time::{Clock, Duration};
-use words::{LinePlace, Place, SerialLine, Task};
+use words::{LinePlace, Place, SerialLine, Task, TcpPort};
 
 /// What its messages begin with.
 const PROGRAM: &str = "modbus_device";
@@ -171,8 +171,8 @@ fn read_task<'w>(rt: &HostRuntime, matches: &ArgMatches<'w>) -> Result<Task<'w>,
 
 /// The units that a task asks for, where they are reached.
 enum Opened<'w> {
-    /// Behind a port of Modbus TCP at this address.
-    Port(SocketAddr, Device),
+    /// Behind a port of Modbus TCP.
+    Port(TcpPort, Device),
     /// On this serial line.
     Line(SerialLine<'w>, LineDevice),
 }
@@ -184,9 +184,7 @@ fn open_place<'w>(
     plan: &Plan<'_>,
 ) -> Result<Opened<'w>, OpenError> {
     Ok(match place {
-        Place::Port(address, addressing) => {
-            Opened::Port(address, open(alloc, plan, addressing)?)
-        }
+        Place::Port(port, addressing) => Opened::Port(port, open(alloc, plan, addressing)?),
         Place::Line(line) => Opened::Line(line, open_line(alloc, plan)?),
     })
 }
@@ -224,17 +222,17 @@ fn main(rt: HostRuntime) -> ExitCode {
         Ok(words) => words,
         Err(status) => return ExitCode::from(status),
     };
-    let (address, device) = match open_task(&rt, words.as_slice()) {
-        Ok(Opened::Port(address, device)) => (address, device),
+    let (port, device) = match open_task(&rt, words.as_slice()) {
+        Ok(Opened::Port(port, device)) => (port, device),
         Ok(Opened::Line(line, mut device)) => {
             return ExitCode::from(serve_line(&rt, &rt, line, &mut device));
         }
         Err(status) => return ExitCode::from(status),
     };
-    let Some(listener) = bind(&rt, address) else {
+    let Some(listener) = bind(&rt, port.address) else {
         return ExitCode::from(FAILED);
     };
-    let fault = listen::serve(&rt, listener, device);
+    let fault = listen::serve(&rt, listener, device, port);
     let _ = eprintln!(rt; "modbus_device: {fault}");
     ExitCode::from(FAILED)
 }

@@ -114,6 +114,26 @@ fn silent<'a>(alloc: Global) -> Arg<'a> {
     )
 }
 
+fn message_timeout<'a>(alloc: Global) -> Arg<'a> {
+    option(
+        alloc,
+        "message-timeout",
+        "SECONDS",
+        "Over Modbus TCP let a master go that begins a message and does not complete it for so long, at the latest after twice that [default: 10]",
+    )
+    .value_parser(value_parser!(u64).range(1..=86_400))
+}
+
+fn connections<'a>(alloc: Global) -> Arg<'a> {
+    option(
+        alloc,
+        "connections",
+        "N",
+        "How many masters over Modbus TCP are connected at a time; to one more the one that was idle for longest gives way [default: 1000]",
+    )
+    .value_parser(value_parser!(u32).range(1..=1_000_000))
+}
+
 fn server_id<'a>(alloc: Global) -> Arg<'a> {
     option(alloc, "server-id", "N", "Its number in Report Server ID")
         .value_parser(value_parser!(u8))
@@ -151,6 +171,8 @@ fn words<'a>(alloc: Global) -> Result<Vec<Arg<'a>>, AllocError> {
         default_unit(alloc),
         broadcast_zero(alloc),
         silent(alloc),
+        message_timeout(alloc),
+        connections(alloc),
         line(alloc),
         serial(alloc),
         silence(alloc),

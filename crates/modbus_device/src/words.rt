@@ -18,6 +18,12 @@ const PORT_SILENCE: u64 = 20;
 /// How many milliseconds without a byte end a frame of a line behind an address, unless told.
 const STREAM_SILENCE: u64 = 5;
 
+/// How many seconds a message over Modbus TCP may be begun and not completed, unless told.
+const MESSAGE_TIMEOUT: u64 = 10;
+
+/// How many connections over Modbus TCP there are at a time, unless told. A process often may have 1,024 file descriptors.
+const CONNECTIONS: u32 = 1_000;
+
 /// Where a serial line is.
 #[derive(Clone, Copy, Debug, PartialEq, Eq)]
 pub enum LinePlace<'w> {
@@ -50,13 +56,24 @@ pub struct SerialLine<'w> {
     pub has_echo: bool,
 }
 
+/// A port of Modbus TCP.
+#[derive(Clone, Copy, Debug, PartialEq, Eq)]
+pub struct TcpPort {
+    /// Where it is.
+    pub address: SocketAddr,
+    /// How many seconds a message may be begun and not completed.
+    pub message_timeout: u64,
+    /// How many connections there are at a time.
+    pub connections: usize,
+}
+
 /// Where the units are reached.
 #[derive(Clone, Copy, Debug, PartialEq, Eq)]
 pub enum Place<'w> {
     /// A serial line.
     Line(SerialLine<'w>),
-    /// A port of Modbus TCP at this address, and what its requests are for.
-    Port(SocketAddr, Addressing),
+    /// A port of Modbus TCP, and what its requests are for.
+    Port(TcpPort, Addressing),
 }
 
 /// What the program is to do.
@@ -128,10 +145,12 @@ fn address(word: &str) -> Result<SocketAddr, Wrong> {
 }
 
 /// Words that are of use beside another alone.
-const BESIDE: [(&str, &str); 3] = [
+const BESIDE: [(&str, &str); 5] = [
     ("default-unit", "listen"),
     ("broadcast-0", "listen"),
     ("silent", "listen"),
+    ("message-timeout", "listen"),
+    ("connections", "listen"),
 ];
 
 /// Whether a word stands on the command line.
@@ -204,10 +223,23 @@ fn line_of<'w>(matches: &ArgMatches<'w>) -> Result<SerialLine<'w>, Wrong> {
     })
 }
 
+/// How many connections the words want.
+fn connections_of(matches: &ArgMatches<'_>) -> usize {
+    let connections: u32 = matches.get_one("connections").unwrap_or(CONNECTIONS);
+    usize::try_from(connections).unwrap_or(usize::MAX)
+}
+
 /// Where the words want the units.
 fn place_of<'w>(matches: &ArgMatches<'w>) -> Result<Place<'w>, Wrong> {
     if let Some(word) = matches.get_str("listen") {
-        return Ok(Place::Port(address(word)?, addressing_of(matches)?));
+        let port = TcpPort {
+            address: address(word)?,
+            message_timeout: matches
+                .get_one("message-timeout")
+                .unwrap_or(MESSAGE_TIMEOUT),
+            connections: connections_of(matches),
+        };
+        return Ok(Place::Port(port, addressing_of(matches)?));
     }
     Ok(Place::Line(line_of(matches)?))
 }

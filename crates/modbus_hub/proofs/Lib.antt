@@ -2,6 +2,7 @@ pub mod Rationing
 pub mod Turning
 pub mod Counting
 pub mod Histories
+pub mod Idling
 pub mod Marks
 pub mod Rounding
 pub mod Rounds

@@ -1,9 +1,10 @@
 -- What is known to be left, over all connections.
 use Rattle.std.proofs.Common.{◌≡◌, ◌≢◌, inl, inr, ◌<◌, ◌+◌, ◌∙◌, ◌⊎◌, ℕ, Option, Some, None, Bool, true, false, if◌then◌else◌, refl, sym, ap, subst, arith, IsTrue}
 use Rattle.std.proofs.lemmas.Bool.{cases_eq}
-use Rattle.slab.specs.Slab.{Slab, get}
+use Rattle.slab.specs.Slab.{Slab, Updates, get}
 use Rattle.modbus_hub.specs.Events.{Place}
-use Rattle.modbus_hub.specs.Seats.{SeatsState, IsOneLeft, KeepsMarks, MarksLeft, SameLeft, is_spent_at, kept}
+use Rattle.modbus_hub.specs.Progress.{is_late, later}
+use Rattle.modbus_hub.specs.Seats.{SeatsState, IsOneLeft, KeepsMarks, MarksLeft, SameLeft, is_spent_at, kept, on_time}
 
 no_both : (b : Bool) → b ≡ false → b ≡ true → ⊥
 no_both b e f = cc
@@ -64,14 +65,34 @@ module _ {L : Type 0} where
         | inr differs ↦ stays (all k (subst (λ (slot : Option (Place L)). IsTrue (is_spent_at slot)) (others k differs) spent))
       ]
 
-  spent_of : (fresh : Bool) (place : Place L) → IsTrue (is_spent_at (if fresh then Some (record place { is_fresh = false }) else None)) → IsTrue place.is_spent
-  spent_of true place spent = spent
-  spent_of false place spent = absurd (no_both false refl spent)
+  spent_if : (stays : Bool) (place now : Place L) → now.is_spent ≡ place.is_spent → IsTrue (is_spent_at (if stays then Some now else None)) → IsTrue place.is_spent
+  spent_if true place now same spent = subst IsTrue same spent
+  spent_if false place now same spent = absurd (no_both false refl spent)
 
-  spent_kept : (slot : Option (Place L)) → IsTrue (is_spent_at (kept slot)) → IsTrue (is_spent_at slot)
+  spent_unless : (goes : Bool) (place now : Place L) → now.is_spent ≡ place.is_spent → IsTrue (is_spent_at (if goes then None else Some now)) → IsTrue place.is_spent
+  spent_unless false place now same spent = subst IsTrue same spent
+  spent_unless true place now same spent = absurd (no_both false refl spent)
+
+  pub spent_kept : (slot : Option (Place L)) → IsTrue (is_spent_at (kept slot)) → IsTrue (is_spent_at slot)
   spent_kept None spent = spent
-  spent_kept (Some place) spent = spent_of place.is_fresh place spent
+  spent_kept (Some place) spent = spent_if place.is_fresh place (record place { is_fresh = false }) refl spent
+
+  pub spent_on_time : (slot : Option (Place L)) → IsTrue (is_spent_at (on_time slot)) → IsTrue (is_spent_at slot)
+  spent_on_time None spent = spent
+  spent_on_time (Some place) spent = spent_unless (is_late place.progress) place (record place { progress = later place.progress }) refl spent
+
+  marks_stay : (stays : Option (Place L) → Option (Place L)) (old new : SeatsState L) → ((slot : Option (Place L)) → IsTrue (is_spent_at (stays slot)) → IsTrue (is_spent_at slot))
+      → ((key : ℕ) → get new.seats key ≡ stays (get old.seats key)) → (IsTrue old.has_spent → IsTrue new.has_spent) → KeepsMarks old new
+  marks_stay stays old new unmade lets same all k spent =
+      same (all k (unmade (get old.seats k) (subst (λ (slot : Option (Place L)). IsTrue (is_spent_at slot)) (lets k) spent)))
 
   pub marks_kept : (old new : SeatsState L) → ((key : ℕ) → get new.seats key ≡ kept (get old.seats key)) → (IsTrue old.has_spent → IsTrue new.has_spent) → KeepsMarks old new
-  marks_kept old new lets stays all k spent =
-      stays (all k (spent_kept (get old.seats k) (subst (λ (slot : Option (Place L)). IsTrue (is_spent_at slot)) (lets k) spent)))
+  marks_kept old new lets same = marks_stay kept old new spent_kept lets same
+
+  pub marks_on_time : (old new : SeatsState L) → ((key : ℕ) → get new.seats key ≡ on_time (get old.seats key)) → (IsTrue old.has_spent → IsTrue new.has_spent) → KeepsMarks old new
+  marks_on_time old new lets same = marks_stay on_time old new spent_on_time lets same
+
+  -- a connection that is gone leaves no mark
+  pub marks_gone : (old new : SeatsState L) (key : ℕ) → Updates old.seats new.seats key None → (IsTrue old.has_spent → IsTrue new.has_spent) → KeepsMarks old new
+  marks_gone old new key u stays =
+      marks_at old new key u.others stays (λ spent. absurd (no_both (is_spent_at (get new.seats key)) (ap is_spent_at u.changed) spent))

@@ -1,6 +1,7 @@
 -- Reads of a link that is lent to one turn, counted by its cuts.
 use Rattle.std.proofs.Common.{◌≡◌, inl, inr, ◌⊎◌, ℕ, ◌+◌, ◌-◌, ◌<◌, ◌≤◌, List, [], ◌∷◌, Bool, true, false, length, refl, sym, ap, ◌∙◌, subst, arith, IsTrue, ne_eqb}
-use Rattle.std.specs.Prelude.{if◌then◌else◌}
+use Rattle.std.specs.Prelude.{if◌then◌else◌, nat_lt}
+use Rattle.std.proofs.lemmas.Bool.{ltb_from_iff, ltb-true, lt-ltb}
 use Rattle.std.proofs.lemmas.List.{length-take, length-drop, length-map}
 use Rattle.modbus_link.specs.declared.outside.Cut.{Cut}
 use Rattle.modbus_link.specs.Outside.{cut_at, outside, Input, Output, Advances, Gives, cuts_made, one_cut, input_through, output_through}
@@ -10,7 +11,7 @@ use Rattle.modbus_link.specs.Line.{LinkMeaning}
 use Rattle.modbus_hub.specs.declared.turn.Turn.{Turn}
 use Rattle.modbus_hub.specs.declared.turn.Turn.TheVariants.{Spent}
 use Rattle.modbus_hub.specs.declared.turn.TurnLimits.{TurnLimits}
-use Rattle.modbus_hub.specs.Turn.{IsWithin}
+use Rattle.modbus_hub.specs.Turn.{GaveIfTold, IsWithin}
 use Rattle.modbus_hub.specs.Rationed.{reads_in_all, left_behind, rationed_input}
 
 pub cuts_counted : (a b : Input) → Gives a b → length b.cuts ≡ length a.cuts + length (cuts_made a b)
@@ -115,3 +116,13 @@ keeps_within M limits a b taken turn left left' refused refused' name name' s al
             let empty = none_left (M.input a) (M.input b) left left' refused refused' name name' s none some in omega (arith, c, all, empty))
       ];
 }
+
+-- a link that was lent to a turn gave bytes exactly where fewer of its reads are left
+pub gives_told : {L : Type 0} (M : LinkMeaning L) (limits : TurnLimits) (a b : L) (left left' refused refused' name name' : ℕ)
+    → Advances (rationed_input left refused name (M.input a)) (rationed_input left' refused' name' (M.input b)) → left ≡ limits.reads → GaveIfTold M a b (nat_lt left' limits.reads)
+gives_told M limits a b left left' refused refused' name name' s all told =
+    let c = counted (M.input a) (M.input b) left left' refused refused' name name' s told in
+    ltb_from_iff (
+      λ fewer. let less = ltb-true left' limits.reads fewer in omega (arith, c, all, less),
+      λ some. lt-ltb left' limits.reads (omega (arith, c, all, some)),
+    )

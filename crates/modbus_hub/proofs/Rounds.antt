@@ -5,7 +5,7 @@ use Rattle.slab.specs.Slab.{Slab, get, Updates}
 use Rattle.slab.proofs.SlabLemmas.{ContainsKey-within}
 use Rattle.modbus_ready.specs.declared.readiness.Ready.{Ready}
 use Rattle.modbus_hub.specs.Events.{Event, came, refused, told, turned, dropped, Place, HasAnyTurn, TurnsAmong}
-use Rattle.modbus_hub.specs.Seats.{is_spent_at, IsDrop, IsFound, IsLeft, ServesInTurn, ServesSpent, TurnsIfLeft, kept}
+use Rattle.modbus_hub.specs.Seats.{is_spent_at, IsDrop, IsFound, IsLeft, ServesInTurn, ServesSpent, TurnsIfLeft}
 use Rattle.modbus_hub.proofs.Histories.{among_as, among_both, serves_both, turn_before, turn_after}
 
 no_both : (b : Bool) → b ≡ false → b ≡ true → ⊥
@@ -61,11 +61,12 @@ module _ {L : Type 0} where
     among_as (λ key. (key < below) × IsLeft found key (get old key)) (λ key. IsLeft found key (get old key)) more serves.2 (λ key is. is.1),
   )
 
-  pub drops_below : (old now next : Slab (Place L)) (key : ℕ) → Updates now next key (kept (get now key)) → ((k : ℕ) → k < key → get now k ≡ kept (get old k)) → LikeAbove key old now
-      → (k : ℕ) → k < key + 1 → get next k ≡ kept (get old k)
-  drops_below old now next key u below above k low =
+  -- of what stays of each connection
+  pub drops_below : (stays : Option (Place L) → Option (Place L)) (old now next : Slab (Place L)) (key : ℕ) → Updates now next key (stays (get now key))
+      → ((k : ℕ) → k < key → get now k ≡ stays (get old k)) → LikeAbove key old now → (k : ℕ) → k < key + 1 → get next k ≡ stays (get old k)
+  drops_below stays old now next key u below above k low =
       elim (cases_eq k key) [
-        | inl same ↦ subst (λ (n : ℕ). get next n ≡ kept (get old n)) (sym same) (u.changed ∙ ap kept (above key (omega arith)))
+        | inl same ↦ subst (λ (n : ℕ). get next n ≡ stays (get old n)) (sym same) (u.changed ∙ ap stays (above key (omega arith)))
         | inr differs ↦ u.others k differs ∙ below k (omega (arith, low, differs))
       ]
 

@@ -10,7 +10,7 @@ use Rattle.modbus_service.specs.Answering.{Answering}
 use Rattle.modbus_hub.specs.declared.turn.Turn.{Turn}
 use Rattle.modbus_hub.specs.declared.turn.Turn.TheVariants.{Waiting, Spent, Over}
 use Rattle.modbus_hub.specs.declared.turn.TurnLimits.{TurnLimits}
-use Rattle.modbus_hub.specs.Turn.{SeatStands, TurnLeaves, TakesTurn, IsWithin, is_going_on, is_spent, ends_of}
+use Rattle.modbus_hub.specs.Turn.{SeatState, SeatStands, TurnLeaves, TakesTurn, IsWithin, is_going_on, is_spent, ends_of}
 use Rattle.slab.specs.Slab.{Slab, get, Updates}
 use Rattle.modbus_hub.specs.Events.{Event, Refusal, came, refused, told, turned, dropped, Place, Account, begun_with, KeyAccount, after_turn, account_of, by_key, HasAnyTurn, TurnsAmong}
 use Rattle.modbus_hub.specs.Seats.{PolledMeaning, polled_by, turns, EndsSo, EndsTurn, RunsOn, AsksNone, IsSeatedAs, AllStand, SeatsStay, AreSeated, SeatsGoOn, IsTurnOf, ServesInTurn, Admits, IsDrop, is_spent_at}
@@ -180,26 +180,32 @@ module _ (F : Framing) {L : Type 0} (M : LinkMeaning L) where
         tt,
       )
 
-  -- a seat whose connection stays, and whose mark alone changed
-  pub kept_fresh : (key : ℕ) (olds news : Slab (Place L)) (place now : Place L) → get olds key ≡ Some place → now ≡ record place { is_fresh = false } → Updates olds news key (Some now)
-      → SeatsStay F M IsDrop olds news
-  kept_fresh key olds news place now here e u history all = (
+  -- a seat whose connection stays, and whose marks alone changed
+  pub kept_marked : (key : ℕ) (olds news : Slab (Place L)) (place now : Place L) → get olds key ≡ Some place → now.seat ≡ place.seat → now.is_spent ≡ place.is_spent
+      → Updates olds news key (Some now) → SeatsStay F M IsDrop olds news
+  kept_marked key olds news place now here same spent u history all = (
     [],
     tt,
     subst (λ (h : List (Event L)). AllStand F M h news) (sym (append-nil history)) (λ k.
         elim (cases_eq k key) [
-          | inl same ↦
-              subst (λ (n : ℕ). Seated (account_of n None history) (get news n)) (sym same)
-              (subst (λ (p : Option (Place L)). Seated (account_of key None history) p) (ap (λ (x : Place L). Some x) (sym e) ∙ sym u.changed)
+          | inl is ↦
+              subst (λ (n : ℕ). Seated (account_of n None history) (get news n)) (sym is)
+              (subst (λ (p : Option (Place L)). Seated (account_of key None history) p) (sym u.changed)
               (unmarked (account_of key None history) (subst (λ (p : Option (Place L)). Seated (account_of key None history) p) here (all key))))
           | inr differs ↦ subst (λ (p : Option (Place L)). Seated (account_of k None history) p) (sym (u.others k differs)) (all k)
         ]),
     tt,
   )
     where
-      unmarked : (account : KeyAccount L) → Seated account (Some place) → Seated account (Some (record place { is_fresh = false }))
+      unmarked : (account : KeyAccount L) → Seated account (Some place) → Seated account (Some now)
       unmarked None s = absurd s
-      unmarked (Some account) s = (s.0, s.1, s.2, s.3, s.4)
+      unmarked (Some account) (is_open, stands, last, spends, between) = (
+        subst (λ (seat : SeatState L). IsTrue seat.process.connection.is_open) (sym same) is_open,
+        subst (λ (seat : SeatState L). SeatStands F M turns account.first account.own seat) (sym same) stands,
+        subst (λ (seat : SeatState L). seat.link ≡ account.last) (sym same) last,
+        spent ∙ spends,
+        between,
+      )
 
   no_open : (b : Bool) → b ≡ false → b ≡ true → ⊥
   no_open b e f = cc

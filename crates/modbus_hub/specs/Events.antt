@@ -1,6 +1,7 @@
 -- What happens to the connections of one thread, in order, and what that says of the connection under each key.
 use Rattle.std.specs.Prelude.{◌≡◌, ◌⊎◌, ℕ, ◌+◌, ◌==◌, List, [], ◌∷◌, ◌++◌, map, Option, Some, None, Bool, true, false, if◌then◌else◌}
 use Rattle.modbus_link.specs.Memory.{next_count}
+use Rattle.modbus_hub.specs.declared.progress.Progress.{Progress}
 use Rattle.modbus_hub.specs.declared.turn.Turn.{Turn}
 use Rattle.modbus_hub.specs.declared.turn.Turn.TheVariants.{Waiting, Spent, Over}
 use Rattle.modbus_hub.specs.Turn.{Said}
@@ -22,16 +23,20 @@ pub data Event (L : Type 0) : Type 0 where
   told : ℕ → Said → Event L
   -- a turn of the connection under this key ended so, with its link as it was then; that of one that is over is dropped
   turned : ℕ → L → Turn → Event L
-  -- the connection under this key was let go, since it had been idle
+  -- the connection under this key was let go, since it had been idle or late, or gave way to another
   dropped : ℕ → Event L
 
 -- a connection as its seat keeps it
 pub record Place (L : Type 0) : Type 0 where
   pub seat : SeatState L
-  -- whether it had a turn, or came, since that was last asked
+  -- whether it moved in a turn, or came, since that was last asked
   pub is_fresh : Bool
   -- whether its last turn was cut off by its limits
   pub is_spent : Bool
+  -- how far it is with its next message
+  pub progress : Progress
+  -- the number of the last turn in which it moved
+  pub last : ℕ
 
 -- The account of a connection: the link with which it came, all that it was told since, how many messages that is since its last turn
 -- ended, its link after that, and whether that was cut off by its limits.

@@ -1,6 +1,10 @@
+pub mod Counted
 pub mod Rationed
 pub mod Turn
 pub mod Events
+pub mod Progress
 pub mod Accepts
 pub mod Seats
+pub mod Idlest
+pub mod Sweeps
 pub mod Turns

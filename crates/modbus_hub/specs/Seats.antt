@@ -10,6 +10,7 @@ use Rattle.modbus_hub.specs.declared.turn.Turn.TheVariants.{Waiting, Spent, Over
 use Rattle.modbus_hub.specs.Turn.{Said}
 use Rattle.modbus_hub.specs.Turn.{SeatStands, SeatEnds, IsWithin, TakesFew}
 use Rattle.modbus_hub.specs.declared.turn.TurnLimits.{TurnLimits}
+use Rattle.modbus_hub.specs.Progress.{Marks, is_late, later}
 use Rattle.slab.specs.Slab.{Slab, get, slab_len}
 use Rattle.modbus_ready.specs.declared.readiness.Ready.{Ready}
 use Rattle.modbus_ready.specs.declared.readiness.Ready.TheVariants.{Peer, Link}
@@ -24,6 +25,8 @@ pub record SeatsState (L : Type 0) : Type 0 where
   pub limits : TurnLimits
   -- how many connections there may be at a time
   pub most : ℕ
+  -- how many turns there were, with the connections that came
+  pub count : ℕ
 
 -- no more connections than there were, under the same limits
 abbrev pub NoMore : {L : Type 0} → SeatsState L → SeatsState L → Type 0
@@ -140,6 +143,11 @@ module _ {L : Type 0} where
   is_spent_at None = false
   is_spent_at (Some place) = place.is_spent
 
+  -- the number of the last turn in which it moved
+  abbrev pub last_at : Option (Place L) → ℕ
+  last_at None = 0
+  last_at (Some place) = place.last
+
   -- each connection is still there, or had a turn
   abbrev pub StaysOrTurns : List (Event L) → List (Event L) → Type 0
   StaysOrTurns history more = (key : ℕ) → IsSome (account_of key None history) → HasAnyTurn key more ⊎ IsSome (account_of key None (history ++ more))
@@ -170,12 +178,22 @@ module _ {L : Type 0} where
   ServesSpent found old history more = ServesInTurn history more × ((key : ℕ) → IsTrue (is_spent_at (get old key)) → IsFound key found ⊎ HasAnyTurn key more)
       × TurnsAmong (λ key. IsLeft found key (get old key)) more
 
-  -- a connection stays where it had a turn, or came, since this was last asked
+  -- a connection stays where it moved in a turn, or came, since this was last asked
   abbrev pub kept : Option (Place L) → Option (Place L)
   kept None = None
   kept (Some place) = if place.is_fresh then Some (record place { is_fresh = false }) else None
 
-  -- the same of the connection under a key, where it goes on
+  -- a connection stays but where it was late already; it is late from then on where it began a message
+  abbrev pub on_time : Option (Place L) → Option (Place L)
+  on_time None = None
+  on_time (Some place) = if is_late place.progress then None else Some (record place { progress = later place.progress })
+
+  -- what is marked of the connection under a key in a turn with this number, where it goes on
+  abbrev pub MarksAt : LinkMeaning L → ℕ → Bool → Option (Place L) → Option (Place L) → Type 0
+  MarksAt M number completed (Some old) (Some new) = Marks M number completed old new
+  MarksAt M number completed _ _ = Unit {0}
+
+  -- a turn of the connection under a key takes few reads, where it goes on
   abbrev pub TakesFewAt : LinkMeaning L → ℕ → Option (Place L) → Option (Place L) → Type 0
   TakesFewAt M reads (Some old) (Some new) = TakesFew M reads old.seat.link new.seat.link
   TakesFewAt M reads _ _ = Unit {0}

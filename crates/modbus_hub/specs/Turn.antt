@@ -1,5 +1,5 @@
 -- What one turn of a connection promises, where others have their turns before and after it.
-use Rattle.std.specs.Prelude.{◌≡◌, ◌⊎◌, ℕ, ◌≤◌, List, ◌++◌, map, length, Bool, true, false, IsTrue, Result}
+use Rattle.std.specs.Prelude.{◌≡◌, ◌⊎◌, ℕ, ◌≤◌, nat_lt, List, ◌++◌, map, length, Bool, true, false, IsTrue, Result}
 use Rattle.modbus_link.specs.declared.outside.Cut.{Cut}
 use Rattle.modbus_link.specs.Line.{LinkMeaning}
 use Rattle.modbus_link.specs.Outside.{Outside, outside, cuts_made}
@@ -57,6 +57,10 @@ TakesFew M reads old new = IsTrue (M.input old).told → length (cuts_made (M.in
 -- of the same: so many of its reads gave bytes, no more and no fewer
 abbrev pub UsesUp : {L : Type 0} → LinkMeaning L → ℕ → L → L → Type 0
 UsesUp M reads old new = IsTrue (M.input old).told → length (cuts_made (M.input old) (M.input new)) ≡ reads
+
+-- of the same: whether some of its reads gave bytes
+abbrev pub GaveIfTold : {L : Type 0} → LinkMeaning L → L → L → Bool → Type 0
+GaveIfTold M old new gave = IsTrue (M.input old).told → gave ≡ nat_lt 0 (length (cuts_made (M.input old) (M.input new)))
 
 -- A turn that took so many messages keeps to its limits, whatever its link tells. Where they cut it off, it took as many messages as it may,
 -- or as many reads.

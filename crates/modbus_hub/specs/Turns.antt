@@ -1,13 +1,17 @@
 -- What a server of many connections on one thread does, round by round.
-use Rattle.std.specs.Prelude.{◌≡◌, ◌⊎◌, ℕ, ◌≤◌, ◌==◌, min, nat_lt, ◌&&◌, if◌then◌else◌, List, [], ◌∷◌, ◌++◌, length, Option, Some, None, IsSome, Result, Ok, Err, Bool, true, false, IsTrue}
+use Rattle.std.specs.Prelude.{◌≡◌, ◌⊎◌, ℕ, ◌≤◌, ◌==◌, nat_le, nat_lt, ◌&&◌, if◌then◌else◌, List, [], ◌∷◌, ◌++◌, length, Option, Some, None, IsSome, Result, Ok, Err, Bool, true, false, IsTrue}
 use Rattle.modbus_link.specs.declared.outside.Failed.{Failed}
 use Rattle.modbus_link.specs.declared.polled.Polled.{Polled}
-use Rattle.slab.specs.Slab.{get, slab_len}
+use Rattle.slab.specs.Slab.{Slab, get, slab_len}
 use Rattle.modbus_ready.specs.declared.readiness.Ready.{Ready}
 use Rattle.modbus_ready.specs.declared.readiness.Ready.TheVariants.{Peer}
 use Rattle.modbus_hub.specs.Accepts.{GivesLinks, GivesUntil, IsNobody, IsFault}
-use Rattle.modbus_hub.specs.Events.{Event, no_watch, no_memory, account_of, HasAnyTurn, TurnsAmong, links_of, counted_over}
-use Rattle.modbus_hub.specs.Seats.{SeatsState, DropsNone, IsDrop, IsFound, IsLeft, IsOneLeft, IsTold, KeepsMarks, ServesInTurn, is_spent_at}
+use Rattle.modbus_hub.specs.Events.{Event, Place, no_watch, no_memory, account_of, HasAnyTurn, TurnsAmong, links_of, counted_over}
+use Rattle.modbus_link.specs.Memory.{next_count}
+use Rattle.modbus_hub.specs.declared.sweeps.Deadlines.{Deadlines}
+use Rattle.modbus_hub.specs.Sweeps.{Reading, Sweeps, all_looked, begun_with, is_due, shorter_of, stays_if}
+use Rattle.modbus_hub.specs.Seats.{SeatsState, DropsNone, IsDrop, IsFound, IsLeft, IsOneLeft, IsTold, KeepsMarks, ServesInTurn, is_spent_at, kept, on_time}
+use Rattle.modbus_hub.specs.Idlest.{LeavesIdlest}
 
 -- a server over such an acceptor and source of readiness, with such links
 pub record ServerState (A S L : Type 0) : Type 0 where
@@ -21,9 +25,10 @@ pub record ServerState (A S L : Type 0) : Type 0 where
   -- whether as many peers were accepted in the last round as are accepted in a round
   pub is_crowded : Bool
 
--- a round, as the state that it left, and what happened in it
+-- a round, as the state that it left, when it is looked next who is to be let go, and what happened in it
 pub record Round (A S L : Type 0) : Type 0 where
   pub left : ServerState A S L
+  pub sweeps : Sweeps
   pub happened : List (Event L)
 
 -- how many peers are accepted in a round at most
@@ -34,14 +39,22 @@ accepts_a_round = 64
 abbrev pub retry : ℕ
 retry = 50_000_000
 
--- the shorter of two times, where the first may be any time
-abbrev pub shorter_of : Option ℕ → ℕ → ℕ
-shorter_of None other = other
-shorter_of (Some time) other = min time other
-
 -- a peer may wait, and there are fewer connections than there may be
 abbrev pub can_accept : {A S L : Type 0} → ServerState A S L → Bool
 can_accept it = it.is_asked && nat_lt (slab_len it.seats.seats) it.seats.most
+
+-- no place is left for a peer that comes
+abbrev pub is_full : {L : Type 0} → ℕ → Slab (Place L) → Bool
+is_full most seats = nat_le most (slab_len seats)
+
+-- Where no place is left, the connection that has not moved for longest is let go. All others stay, and where a place is left all do.
+abbrev pub GivesWay : {L : Type 0} → ℕ → Slab (Place L) → Slab (Place L) → Type 0
+GivesWay most old new = (IsTrue (is_full most old) × LeavesIdlest old new) ⊎ ((is_full most old ≡ false) × ((key : ℕ) → get new key ≡ get old key))
+
+-- Idle connections are let go and late ones, each where that is due, and no others; and then one where no place is left.
+abbrev pub Went : {A S L : Type 0} → Bool → Bool → ServerState A S L → Slab (Place L) → Type 0
+Went {A} {S} {L} idle late old new = (between : Slab (Place L)) × ((key : ℕ) → get between key ≡ stays_if late on_time (stays_if idle kept (get old.seats.seats key)))
+    × GivesWay old.seats.most between new
 
 -- How long a wait may take that is to take so many nanoseconds, or any time: none where a connection is left whose last turn was cut off,
 -- or more peers can be accepted than were in a round; and not past the next try where an accept failed.
@@ -155,24 +168,37 @@ module _ {A S L : Type 0} (accepts : A → Result (Polled L) Failed → A → Ty
   LetsGo old new history more = IsDrop history more × (new.acceptor ≡ old.acceptor) × (new.readiness ≡ old.readiness) × (new.unseated ≡ old.unseated) × (new.is_asked ≡ old.is_asked)
       × (new.is_crowded ≡ old.is_crowded)
 
-  -- a round, and then, where that was due, idle connections were let go; what is left stays marked
-  abbrev pub RoundAndDrops : (S → List Ready) → ServerState A S L → ServerState A S L → List (Event L) → List (Event L) → Type 0
-  RoundAndDrops found old new history more = (now : ServerState A S L) × (taken : List (Event L)) × (gone : List (Event L)) × (more ≡ taken ++ gone)
-      × TakesRound found old now (Ok tt) history taken × LetsGo now new (history ++ taken) gone × KeepsMarks old.seats new.seats
+  -- A round, and then, by the next reading of the clock, idle and late connections were let go, where that was due, and one where no place was
+  -- left, and no others; what is left stays marked.
+  pub record RoundAndDrops (found : S → List Ready) (sweeps sweeps' : Sweeps) (old new : ServerState A S L) (history more : List (Event L)) : Type 0 where
+    pub now : ServerState A S L
+    pub taken : List (Event L)
+    pub gone : List (Event L)
+    pub both : more ≡ taken ++ gone
+    pub round : TakesRound found old now (Ok tt) history taken
+    pub lets_go : LetsGo now new (history ++ taken) gone
+    pub marks : KeepsMarks old.seats new.seats
+    pub next : sweeps'.last.number ≡ next_count sweeps.last.number
+    pub looked : sweeps' ≡ all_looked sweeps sweeps'.last
+    pub went : Went (is_due sweeps.idle sweeps'.last.at) (is_due sweeps.late sweeps'.last.at) now new.seats.seats
 
   -- such rounds, one after another
-  abbrev pub GoesByRounds : (S → List Ready) → List (Round A S L) → ServerState A S L → ServerState A S L → List (Event L) → List (Event L) → Type 0
-  GoesByRounds found [] old new history more = (more ≡ []) × (new ≡ old)
-  GoesByRounds found (round ∷ rounds) old new history more = (later : List (Event L)) × (more ≡ round.happened ++ later) × RoundAndDrops found old round.left history round.happened
-      × GoesByRounds found rounds round.left new (history ++ round.happened) later
+  abbrev pub GoesByRounds : (S → List Ready) → List (Round A S L) → Sweeps → ServerState A S L → ServerState A S L → List (Event L) → List (Event L) → Type 0
+  GoesByRounds found [] sweeps old new history more = (more ≡ []) × (new ≡ old)
+  GoesByRounds found (round ∷ rounds) sweeps old new history more = (later : List (Event L)) × (more ≡ round.happened ++ later)
+      × RoundAndDrops found sweeps round.sweeps old round.left history round.happened
+      × GoesByRounds found rounds round.sweeps round.left new (history ++ round.happened) later
 
   -- one that may have failed, and the links that came
-  abbrev pub TellsRound : (S → List Ready) → ServerState A S L → ServerState A S L → Result (Unit {0}) Failed → List (Event L) → List (Event L) → Type 0
-  TellsRound found old new (Ok done) history more = Comes old new history more × RoundAndDrops found old new history more
-  TellsRound found old new (Err failed) history more = Comes old new history more × TakesRound found old new (Err failed) history more
+  abbrev pub TellsRound : (S → List Ready) → Sweeps → Sweeps → ServerState A S L → ServerState A S L → Result (Unit {0}) Failed → List (Event L) → List (Event L) → Type 0
+  TellsRound found sweeps sweeps' old new (Ok done) history more = Comes old new history more × RoundAndDrops found sweeps sweeps' old new history more
+  TellsRound found sweeps sweeps' old new (Err failed) history more = Comes old new history more × TakesRound found old new (Err failed) history more
 
-  -- rounds one after another, of which the last may have failed, and the links that came
-  abbrev pub TellsRounds : {R : Type 0} → (S → List Ready) → ServerState A S L → ServerState A S L → Result R Failed → List (Event L) → List (Event L) → Type 0
-  TellsRounds found old new (Ok done) history more = Comes old new history more × ((rounds : List (Round A S L)) × GoesByRounds found rounds old new history more)
-  TellsRounds found old new (Err failed) history more = Comes old new history more
-      × ((rounds : List (Round A S L)) × (last : ServerState A S L) × GoesByRounds found rounds old last history more × TakesRound found last new (Err failed) (history ++ more) [])
+  -- rounds one after another, of which the last may have failed, and the links that came; the time of these deadlines ran from a first reading
+  -- of the clock on
+  abbrev pub TellsRounds : {R : Type 0} → (S → List Ready) → Deadlines → ServerState A S L → ServerState A S L → Result R Failed → List (Event L) → List (Event L) → Type 0
+  TellsRounds found deadlines old new (Ok done) history more = Comes old new history more
+      × ((first : Reading) × (first.number ≡ 1) × (rounds : List (Round A S L)) × GoesByRounds found rounds (begun_with deadlines first) old new history more)
+  TellsRounds found deadlines old new (Err failed) history more = Comes old new history more
+      × ((first : Reading) × (first.number ≡ 1) × (rounds : List (Round A S L)) × (last : ServerState A S L)
+      × GoesByRounds found rounds (begun_with deadlines first) old last history more × TakesRound found last new (Err failed) (history ++ more) [])

@@ -5,14 +5,20 @@
 //! connection has the contract of `process` over its own messages.
 #![tactic(auto)]
 
+mod counted;
 pub mod laws;
+mod progress;
 mod rationed;
 mod seat;
 mod seats;
 mod server;
+mod sweeps;
 mod turn;
 
+pub use counted::Counted;
+pub use progress::Progress;
 pub use seat::Seat;
 pub use seats::{Limits, Seats};
 pub use server::EventServer;
-pub use turn::{Turn, TurnLimits, take_turn};
+pub use sweeps::Deadlines;
+pub use turn::{Taken, Turn, TurnLimits, take_turn};

@@ -1,11 +1,15 @@
 //! The connections of one thread.
-ghost use Rattle.std.specs.Prelude.{◌≡◌, ◌≢◌, ◌↔◌, ℕ, ◌==◌, ◌<◌, ◌≤◌, ◌⊎◌, [], Some, IsTrue, IfOk, length, take, get_or};
+ghost use Rattle.std.specs.Prelude.{◌≡◌, ◌≢◌, ◌↔◌, ℕ, ◌+◌, ◌==◌, ◌<◌, ◌≤◌, ◌⊎◌, [], nat_lt, Some, IsTrue, IfOk, length, take, get_or};
 ghost use Rattle.modbus_ready.specs.declared.readiness.Ready.TheVariants.{Peer, Link};
 ghost use Rattle.modbus_link.specs.Line.{meaning_of};
+ghost use Rattle.modbus_link.specs.Memory.{next_count};
+ghost use Rattle.modbus_hub.specs.Counted.{counted};
 ghost use Rattle.modbus_hub.specs.declared.turn.Turn.TheVariants.{Spent};
 ghost use Rattle.slab.specs.Slab.{Updates, get, slab_len};
-ghost use Rattle.modbus_hub.specs.Seats.{SeatsGoOn, SeatsStay, polled_by, IsFound, IsTold, IsTurnOf, Admits, TurnsIfLeft, ServesSpent, IsDrop, IsOneLeft, KeepsMarks, MarksLeft, SameLeft, TakesFewAt, NoMore, OneMore, is_spent_at, kept};
+ghost use Rattle.modbus_hub.specs.Idlest.{IsIdlest, IsIdlestBelow, LeavesIdlest};
+ghost use Rattle.modbus_hub.specs.Seats.{SeatsGoOn, SeatsStay, polled_by, IsFound, IsTold, IsTurnOf, Admits, TurnsIfLeft, ServesSpent, IsDrop, IsOneLeft, KeepsMarks, MarksLeft, SameLeft, MarksAt, TakesFewAt, NoMore, OneMore, is_spent_at, kept, last_at, on_time};
 
+use crate::counted::Counted;
 use crate::seat::Seat;
 use crate::turn::{Turn, TurnLimits};
 use modbus_link::PolledLink;
@@ -18,7 +22,7 @@ use std::marker::Model;
 /// What connections of one thread may take.
 #[derive(Clone, Copy, Debug, PartialEq, Eq, Drop)]
 pub struct Limits {
-    /// How many connections there are at a time.
+    /// How many connections there are at a time. Between two rounds an `EventServer` has no more; in a round one more may come.
     pub connections: usize,
     /// What one turn of a connection may take.
     pub turn: TurnLimits,
@@ -30,16 +34,25 @@ pub struct Seats<I: Framing, L> {
     seats: Slab<Seat<I, L>>,
     limits: Limits,
     has_spent: bool,
+    // how many turns there were, with the connections that came
+    count: u64,
     alloc: Global,
 }
 
-/// A contract sees the connections, whether one may be left whose last turn was cut off, and the limits.
+/// A contract sees the connections, whether one may be left whose last turn was cut off, the limits, and how many turns there were,
+/// with the connections that came.
 impl<I: Framing, L> Model for Seats<I, L> {
     ghost use Rattle.modbus_hub.specs.Seats.{SeatsState};
 
     ghost Value = { SeatsState L };
 
-    ghost view = { λ it. record { seats = it.seats; has_spent = it.has_spent; limits = it.limits.turn; most = it.limits.connections } };
+    ghost view = { λ it. record {
+      seats = it.seats;
+      has_spent = it.has_spent;
+      limits = it.limits.turn;
+      most = it.limits.connections;
+      count = it.count;
+    } };
 }
 
 impl<I: Framing, L: PolledLink + Drop> Seats<I, L> {
@@ -55,6 +68,7 @@ impl<I: Framing, L: PolledLink + Drop> Seats<I, L> {
             seats: Slab::new(alloc),
             limits,
             has_spent: false,
+            count: 0,
             alloc,
         }
     }
@@ -102,13 +116,16 @@ impl<I: Framing, L: PolledLink + Drop> Seats<I, L> {
         ensures left { SameLeft self.old self.new }
         ensures one { OneMore self.old self.new }
         ensures key { IfOk result (λ key. key ≡ self.old.seats.vacant_key) }
+        ensures count { self.new.count ≡ next_count self.old.count }
+        ensures last { IfOk result (λ key. last_at (get self.new.seats key) ≡ self.new.count) }
         ensures stays { SeatsStay I.framing (meaning_of L.input L.output L.line)
             (Admits link result) self.old.seats self.new.seats }
     {
+        self.count = self.count.saturating_add(1);
         if self.seats.reserve(1).is_err() {
             return Err(AllocError);
         }
-        match Seat::open(self.alloc, link) {
+        match Seat::open(self.alloc, link, self.count) {
             Ok(seat) => Ok(self.seats.insert_reserved(seat)),
             Err(error) => Err(error),
         }
@@ -118,8 +135,8 @@ impl<I: Framing, L: PolledLink + Drop> Seats<I, L> {
     ///
     /// Only this connection is told something, by the service's own run; what it is told and how its turn ends is the turn that
     /// `take_turn` gives it.
-    pub fn serve<V: Answerer>(&mut self, key: usize, service: &mut V) -> Option<Turn>
-        ensures goes_on { SeatsGoOn I.framing V.answering
+    pub fn serve<V: Answerer>(&mut self, key: usize, service: &mut Counted<V>) -> Option<Turn>
+        ensures goes_on { SeatsGoOn I.framing (counted V.answering)
             (polled_by (meaning_of L.input L.output L.line) L.not_ready self.old.limits)
             (IsTurnOf key result) self.old.seats self.new.seats service.old
             service.new }
@@ -134,7 +151,12 @@ impl<I: Framing, L: PolledLink + Drop> Seats<I, L> {
         ensures one_left { IsTrue self.new.has_spent
             → IsTrue self.old.has_spent ⊎ IsTrue (is_spent_at (get self.new.seats key)) }
         ensures no_more { NoMore self.old self.new }
+        ensures count { self.new.count ≡ next_count self.old.count }
+        ensures marked { MarksAt (meaning_of L.input L.output L.line)
+            (next_count self.old.count) (nat_lt service.old.asked service.new.asked)
+            (get self.old.seats key) (get self.new.seats key) }
     {
+        self.count = self.count.saturating_add(1);
         let Some(seat) = self.seats.get_mut(key) else {
             return None;
         };
@@ -143,7 +165,7 @@ impl<I: Framing, L: PolledLink + Drop> Seats<I, L> {
             let _ = self.seats.try_remove(key);
             return None;
         }
-        match seat.serve(service, self.limits.turn) {
+        match seat.serve(service, self.limits.turn, self.count) {
             Turn::Waiting => Some(Turn::Waiting),
             Turn::Spent => {
                 self.has_spent = true;
@@ -168,8 +190,8 @@ impl<I: Framing, L: PolledLink + Drop> Seats<I, L> {
 
     // Gives the connection under a key another turn, where its last turn was cut off by its limits, unless its link is among these: then
     // it is left.
-    fn serve_if_left<V: Answerer>(&mut self, key: usize, found: &[Ready], service: &mut V)
-        ensures goes_on { SeatsGoOn I.framing V.answering
+    fn serve_if_left<V: Answerer>(&mut self, key: usize, found: &[Ready], service: &mut Counted<V>)
+        ensures goes_on { SeatsGoOn I.framing (counted V.answering)
             (polled_by (meaning_of L.input L.output L.line) L.not_ready self.old.limits)
             (TurnsIfLeft found.now key (get self.old.seats key)) self.old.seats self.new.seats
             service.old service.new }
@@ -194,8 +216,8 @@ impl<I: Framing, L: PolledLink + Drop> Seats<I, L> {
 
     /// Gives each connection another turn whose last turn was cut off by its limits, but those whose links are among these. Whether the last
     /// turn of a connection was cut off is known then.
-    pub fn serve_spent<V: Answerer>(&mut self, found: &[Ready], service: &mut V)
-        ensures goes_on { SeatsGoOn I.framing V.answering
+    pub fn serve_spent<V: Answerer>(&mut self, found: &[Ready], service: &mut Counted<V>)
+        ensures goes_on { SeatsGoOn I.framing (counted V.answering)
             (polled_by (meaning_of L.input L.output L.line) L.not_ready self.old.limits)
             (ServesSpent found.now self.old.seats) self.old.seats self.new.seats service.old
             service.new }
@@ -209,7 +231,7 @@ impl<I: Framing, L: PolledLink + Drop> Seats<I, L> {
         }
     }
 
-    // Lets the connection under a key go, unless it was served since this was last asked, or is new.
+    // Lets the connection under a key go, unless it moved since this was last asked, or is new.
     fn drop_if_idle(&mut self, key: usize)
         ensures stays { SeatsStay I.framing (meaning_of L.input L.output L.line) IsDrop
             self.old.seats self.new.seats }
@@ -227,7 +249,7 @@ impl<I: Framing, L: PolledLink + Drop> Seats<I, L> {
         let _ = self.seats.try_remove(key);
     }
 
-    /// Lets each connection go that was not served since the last call of this, and came before it. The others stay as they are.
+    /// Lets each connection go that did not move in a turn since the last call of this, and came before it. The others stay as they are.
     pub fn drop_idle(&mut self)
         ensures stays { SeatsStay I.framing (meaning_of L.input L.output L.line) IsDrop
             self.old.seats self.new.seats }
@@ -240,6 +262,90 @@ impl<I: Framing, L: PolledLink + Drop> Seats<I, L> {
             self.drop_if_idle(key);
         }
     }
+
+    // Lets the connection under a key go whose message was begun before this was last asked, and is not completed.
+    fn drop_if_late(&mut self, key: usize)
+        ensures stays { SeatsStay I.framing (meaning_of L.input L.output L.line) IsDrop
+            self.old.seats self.new.seats }
+        ensures lets_go { Updates self.old.seats self.new.seats key
+            (on_time (get self.old.seats key)) }
+        ensures spent { self.new.has_spent ≡ self.old.has_spent }
+        ensures no_more { NoMore self.old self.new }
+    {
+        let Some(late) = self.seats.get_mut(key) else {
+            return;
+        };
+        if !late.take_late() {
+            return;
+        }
+        let _ = self.seats.try_remove(key);
+    }
+
+    /// Lets each connection go that began a message before the last call of this, and completed none since. The others stay as they are.
+    pub fn drop_late(&mut self)
+        ensures stays { SeatsStay I.framing (meaning_of L.input L.output L.line) IsDrop
+            self.old.seats self.new.seats }
+        ensures lets_go { (key : ℕ) → get self.new.seats key ≡ on_time (get self.old.seats key) }
+        ensures spent { self.new.has_spent ≡ self.old.has_spent }
+        ensures marks { KeepsMarks self.old self.new }
+        ensures no_more { NoMore self.old self.new }
+    {
+        'keys: for key in 0..self.seats.capacity() {
+            self.drop_if_late(key);
+        }
+    }
+
+    // Of the connection that was found so far and the one under this key the one that has not moved for longer; the one found, where both
+    // moved in turns of the same number.
+    fn idler(&self, found: Option<Idle>, key: usize) -> Option<Idle>
+        ensures { IsIdlestBelow key self.now.seats found
+            → IsIdlestBelow (key + 1) self.now.seats result }
+    {
+        let Some(seat) = self.seats.get(key) else {
+            return found;
+        };
+        let last = seat.last();
+        match found {
+            Some(idle) if idle.last <= last => Some(idle),
+            _ => Some(Idle { key, last }),
+        }
+    }
+
+    // The connection that has not moved for longest; `None` where there is none.
+    fn idlest(&self) -> Option<Idle>
+        ensures { IsIdlest self.now.seats result }
+    {
+        let mut found = None;
+        'keys: for key in 0..self.seats.capacity() {
+            found = self.idler(found, key);
+        }
+        found
+    }
+
+    /// Lets the connection go that has not moved in a turn for longest: in no other was the last such turn an earlier one. The others stay as
+    /// they are.
+    pub fn drop_idlest(&mut self)
+        ensures stays { SeatsStay I.framing (meaning_of L.input L.output L.line) IsDrop
+            self.old.seats self.new.seats }
+        ensures gives_way { LeavesIdlest self.old.seats self.new.seats }
+        ensures spent { self.new.has_spent ≡ self.old.has_spent }
+        ensures marks { KeepsMarks self.old self.new }
+        ensures no_more { NoMore self.old self.new }
+    {
+        let Some(idle) = self.idlest() else {
+            return;
+        };
+        let _ = self.seats.try_remove(idle.key);
+    }
+}
+
+/// A connection, as its key and the number of the last turn in which it moved.
+#[derive(Clone, Copy, Debug, PartialEq, Eq, Drop)]
+pub struct Idle {
+    /// Its key.
+    pub key: usize,
+    /// The number of that turn.
+    pub last: u64,
 }
 
 /// Whether the link under this key is among those that were found ready.

@@ -4,12 +4,18 @@ ghost use Rattle.std.specs.Option.{option_map};
 ghost use Rattle.std.specs.Duration.{as_nanos};
 ghost use Rattle.modbus_ready.specs.declared.readiness.Ready.TheVariants.{Peer};
 ghost use Rattle.modbus_link.specs.Line.{meaning_of};
+ghost use Rattle.modbus_link.specs.Memory.{next_count};
 ghost use Rattle.modbus_link.specs.Outside.{Rose};
 ghost use Rattle.slab.specs.Slab.{get, slab_len};
-ghost use Rattle.modbus_hub.specs.Seats.{SeatsGoOn, SeatsStay, polled_by, IsDrop, IsFound, IsOneLeft, NoMore, OneMore, KeepsLimit, KeepsMarks, MarksLeft, SameLeft, kept};
-ghost use Rattle.modbus_hub.specs.Turns.{AcceptsNext, AcceptsAsked, AcceptsUpTo, Brings, IsPeerFound, ServesFound, ServesLeft, ServesNext, TakesRound, TellsRound, TellsRounds, can_accept, patience_of, shorter_of};
+ghost use Rattle.modbus_hub.specs.Counted.{counted};
+ghost use Rattle.modbus_hub.specs.Seats.{SeatsGoOn, SeatsStay, polled_by, IsDrop, IsFound, IsOneLeft, NoMore, OneMore, KeepsLimit, KeepsMarks, MarksLeft, SameLeft, kept, on_time};
+ghost use Rattle.modbus_hub.specs.Idlest.{LeavesIdlest};
+ghost use Rattle.modbus_hub.specs.Sweeps.{stays_if};
+ghost use Rattle.modbus_hub.specs.Turns.{GivesWay, AcceptsNext, AcceptsAsked, AcceptsUpTo, Brings, IsPeerFound, ServesFound, ServesLeft, ServesNext, TakesRound, TellsRound, TellsRounds, Went, can_accept, is_full, patience_of};
 
+use crate::counted::Counted;
 use crate::seats::{Limits, Seats, is_told};
+use crate::sweeps::{Deadlines, Due, Sweeps, shorter};
 use modbus_frame::Terminated;
 use modbus_link::{Failed, Polled, PolledLink, Stop};
 use modbus_ready::{PolledAcceptor, Readiness, Ready};
@@ -17,7 +23,7 @@ use modbus_server::{Answerer, Framing};
 use std::alloc::{AllocError, Global};
 use std::marker::Model;
 use std::sync::Wait;
-use std::time::{Clock, Duration, Instant};
+use std::time::{Clock, Duration};
 
 /// How many peers are accepted in a round at most.
 const ACCEPTS: u64 = 64;
@@ -65,7 +71,8 @@ where
     A::Link: PolledLink + Drop,
     S: Readiness<A::Link>,
 {
-    /// A server within these limits. The peers that come when there are as many connections as there may be wait.
+    /// A server within these limits. It has a place more than there are connections at a time, for a peer that comes: by `serve_until` another
+    /// gives way to it.
     pub fn new(alloc: Global, acceptor: A, readiness: S, limits: Limits) -> EventServer<I, A, S>
         requires reads { 0 < limits.turn.reads }
         requires messages { 0 < limits.turn.messages }
@@ -73,16 +80,20 @@ where
         ensures readiness { result.readiness ≡ readiness }
         ensures empty { result.seats.seats.slots ≡ [] }
         ensures turn { result.seats.limits ≡ limits.turn }
-        ensures most { result.seats.most ≡ limits.connections }
+        ensures most { result.seats.most ≡ next_count limits.connections }
         ensures unseated { result.unseated ≡ 0 }
         ensures marks { MarksLeft result.seats }
         ensures asked { IsTrue result.is_asked }
         ensures crowded { result.is_crowded ≡ false }
     {
+        let places = Limits {
+            connections: limits.connections.saturating_add(1),
+            turn: limits.turn,
+        };
         EventServer {
             acceptor,
             readiness,
-            seats: Seats::new(alloc, limits),
+            seats: Seats::new(alloc, places),
             is_asked: true,
             is_crowded: false,
             unseated: 0,
@@ -178,7 +189,7 @@ where
     }
 
     // Does what is to be done where this may be ready.
-    fn take<V: Answerer>(&mut self, ready: Ready, service: &mut V)
+    fn take<V: Answerer>(&mut self, ready: Ready, service: &mut Counted<V>)
         ensures acceptor { self.new.acceptor ≡ self.old.acceptor }
         ensures readiness { self.new.readiness ≡ self.old.readiness }
         ensures unseated { self.new.unseated ≡ self.old.unseated }
@@ -189,7 +200,7 @@ where
             ⊎ (get self.new.seats.seats key ≡ get self.old.seats.seats key) }
         ensures waits { IsTrue self.old.is_asked → IsTrue self.new.is_asked }
         ensures asked { ready ≡ Peer → IsTrue self.new.is_asked }
-        ensures goes_on { SeatsGoOn I.framing V.answering
+        ensures goes_on { SeatsGoOn I.framing (counted V.answering)
             (polled_by (meaning_of A.Link.input A.Link.output A.Link.line) A.Link.not_ready
             self.old.seats.limits)
             (ServesFound (ready ∷ []))
@@ -206,7 +217,7 @@ where
     }
 
     // Does what is to be done where the last wait found this, unless it tells of a link of which it told before.
-    fn take_at<V: Answerer>(&mut self, index: usize, service: &mut V)
+    fn take_at<V: Answerer>(&mut self, index: usize, service: &mut Counted<V>)
         requires { index < length (S.found self.old.readiness) }
         ensures acceptor { self.new.acceptor ≡ self.old.acceptor }
         ensures readiness { self.new.readiness ≡ self.old.readiness }
@@ -220,7 +231,7 @@ where
         ensures waits { IsTrue self.old.is_asked → IsTrue self.new.is_asked }
         ensures asked { get_or (S.found self.old.readiness) index Peer ≡ Peer
             → IsTrue self.new.is_asked }
-        ensures goes_on { SeatsGoOn I.framing V.answering
+        ensures goes_on { SeatsGoOn I.framing (counted V.answering)
             (polled_by (meaning_of A.Link.input A.Link.output A.Link.line) A.Link.not_ready
             self.old.seats.limits)
             (ServesNext (take index (S.found self.old.readiness))
@@ -236,7 +247,7 @@ where
     }
 
     // Gives each connection one turn that the last wait found ready.
-    fn serve_ready<V: Answerer>(&mut self, service: &mut V)
+    fn serve_ready<V: Answerer>(&mut self, service: &mut Counted<V>)
         ensures acceptor { self.new.acceptor ≡ self.old.acceptor }
         ensures readiness { self.new.readiness ≡ self.old.readiness }
         ensures unseated { self.new.unseated ≡ self.old.unseated }
@@ -247,7 +258,7 @@ where
             ⊎ (get self.new.seats.seats key ≡ get self.old.seats.seats key) }
         ensures waits { IsTrue self.old.is_asked → IsTrue self.new.is_asked }
         ensures asked { IsPeerFound (S.found self.old.readiness) → IsTrue self.new.is_asked }
-        ensures goes_on { SeatsGoOn I.framing V.answering
+        ensures goes_on { SeatsGoOn I.framing (counted V.answering)
             (polled_by (meaning_of A.Link.input A.Link.output A.Link.line) A.Link.not_ready
             self.old.seats.limits)
             (ServesFound (S.found self.old.readiness)) self.old.seats.seats self.new.seats.seats
@@ -259,7 +270,7 @@ where
     }
 
     // Gives each connection another turn whose last turn was cut off, but those that the last wait found ready, which had theirs.
-    fn serve_left<V: Answerer>(&mut self, service: &mut V)
+    fn serve_left<V: Answerer>(&mut self, service: &mut Counted<V>)
         ensures acceptor { self.new.acceptor ≡ self.old.acceptor }
         ensures readiness { self.new.readiness ≡ self.old.readiness }
         ensures unseated { self.new.unseated ≡ self.old.unseated }
@@ -267,7 +278,7 @@ where
         ensures marks { KeepsMarks self.old.seats self.new.seats }
         ensures asked { self.new.is_asked ≡ self.old.is_asked }
         ensures one_left { IsOneLeft self.new.seats }
-        ensures goes_on { SeatsGoOn I.framing V.answering
+        ensures goes_on { SeatsGoOn I.framing (counted V.answering)
             (polled_by (meaning_of A.Link.input A.Link.output A.Link.line) A.Link.not_ready
             self.old.seats.limits)
             (ServesLeft (S.found self.old.readiness) self.old.seats)
@@ -325,7 +336,7 @@ where
     /// `Failed`, only where the count of faults of the source of readiness rose; then nothing was done.
     pub fn turn<V: Answerer>(
         &mut self,
-        service: &mut V,
+        service: &mut Counted<V>,
         timeout: Option<Duration>,
     ) -> Result<(), Failed>
         ensures later { S.faults self.old.readiness ≤ S.faults self.new.readiness }
@@ -333,7 +344,7 @@ where
             (S.faults self.new.readiness)) }
         ensures limit { KeepsLimit self.old.seats self.new.seats }
         ensures marks { KeepsMarks self.old.seats self.new.seats }
-        ensures goes_on { SeatsGoOn I.framing V.answering
+        ensures goes_on { SeatsGoOn I.framing (counted V.answering)
             (polled_by (meaning_of A.Link.input A.Link.output A.Link.line) A.Link.not_ready
             self.old.seats.limits)
             (TakesRound A.accepts S.faults S.found self.old self.new result) self.old.seats.seats
@@ -351,7 +362,7 @@ where
         }
     }
 
-    /// Lets each connection go that was not served since the last call of this, and came before it.
+    /// Lets each connection go that did not move in a turn since the last call of this, and came before it.
     pub fn drop_idle(&mut self)
         ensures acceptor { self.new.acceptor ≡ self.old.acceptor }
         ensures readiness { self.new.readiness ≡ self.old.readiness }
@@ -368,43 +379,177 @@ where
         self.seats.drop_idle();
     }
 
-    // A round, and then, where it is due, lets the idle connections go.
+    /// Lets each connection go that began a message before the last call of this, and completed none since.
+    pub fn drop_late(&mut self)
+        ensures acceptor { self.new.acceptor ≡ self.old.acceptor }
+        ensures readiness { self.new.readiness ≡ self.old.readiness }
+        ensures asked { self.new.is_asked ≡ self.old.is_asked }
+        ensures crowded { self.new.is_crowded ≡ self.old.is_crowded }
+        ensures unseated { self.new.unseated ≡ self.old.unseated }
+        ensures no_more { NoMore self.old.seats self.new.seats }
+        ensures marks { KeepsMarks self.old.seats self.new.seats }
+        ensures stays { SeatsStay I.framing (meaning_of A.Link.input A.Link.output A.Link.line)
+            IsDrop self.old.seats.seats self.new.seats.seats }
+        ensures lets_go { (key : ℕ) → get self.new.seats.seats key
+            ≡ on_time (get self.old.seats.seats key) }
+    {
+        self.seats.drop_late();
+    }
+
+    // Lets idle connections go, where that is due.
+    fn sweep_idle(&mut self, is_due: bool)
+        ensures acceptor { self.new.acceptor ≡ self.old.acceptor }
+        ensures readiness { self.new.readiness ≡ self.old.readiness }
+        ensures asked { self.new.is_asked ≡ self.old.is_asked }
+        ensures crowded { self.new.is_crowded ≡ self.old.is_crowded }
+        ensures unseated { self.new.unseated ≡ self.old.unseated }
+        ensures no_more { NoMore self.old.seats self.new.seats }
+        ensures marks { KeepsMarks self.old.seats self.new.seats }
+        ensures stays { SeatsStay I.framing (meaning_of A.Link.input A.Link.output A.Link.line)
+            IsDrop self.old.seats.seats self.new.seats.seats }
+        ensures lets_go { (key : ℕ) → get self.new.seats.seats key
+            ≡ stays_if is_due kept (get self.old.seats.seats key) }
+    {
+        if is_due {
+            self.drop_idle();
+        }
+    }
+
+    // Lets late connections go, where that is due.
+    fn sweep_late(&mut self, is_due: bool)
+        ensures acceptor { self.new.acceptor ≡ self.old.acceptor }
+        ensures readiness { self.new.readiness ≡ self.old.readiness }
+        ensures asked { self.new.is_asked ≡ self.old.is_asked }
+        ensures crowded { self.new.is_crowded ≡ self.old.is_crowded }
+        ensures unseated { self.new.unseated ≡ self.old.unseated }
+        ensures no_more { NoMore self.old.seats self.new.seats }
+        ensures marks { KeepsMarks self.old.seats self.new.seats }
+        ensures stays { SeatsStay I.framing (meaning_of A.Link.input A.Link.output A.Link.line)
+            IsDrop self.old.seats.seats self.new.seats.seats }
+        ensures lets_go { (key : ℕ) → get self.new.seats.seats key
+            ≡ stays_if is_due on_time (get self.old.seats.seats key) }
+    {
+        if is_due {
+            self.drop_late();
+        }
+    }
+
+    // Lets idle connections go and then late ones, each where that is due.
+    fn sweep(&mut self, due: Due)
+        ensures acceptor { self.new.acceptor ≡ self.old.acceptor }
+        ensures readiness { self.new.readiness ≡ self.old.readiness }
+        ensures asked { self.new.is_asked ≡ self.old.is_asked }
+        ensures crowded { self.new.is_crowded ≡ self.old.is_crowded }
+        ensures unseated { self.new.unseated ≡ self.old.unseated }
+        ensures no_more { NoMore self.old.seats self.new.seats }
+        ensures marks { KeepsMarks self.old.seats self.new.seats }
+        ensures stays { SeatsStay I.framing (meaning_of A.Link.input A.Link.output A.Link.line)
+            IsDrop self.old.seats.seats self.new.seats.seats }
+        ensures lets_go { (key : ℕ) → get self.new.seats.seats key
+            ≡ stays_if due.late on_time
+            (stays_if due.idle kept (get self.old.seats.seats key)) }
+    {
+        self.sweep_idle(due.idle);
+        self.sweep_late(due.late);
+    }
+
+    /// Lets the connection go that has not moved in a turn for longest.
+    pub fn drop_idlest(&mut self)
+        ensures acceptor { self.new.acceptor ≡ self.old.acceptor }
+        ensures readiness { self.new.readiness ≡ self.old.readiness }
+        ensures asked { self.new.is_asked ≡ self.old.is_asked }
+        ensures crowded { self.new.is_crowded ≡ self.old.is_crowded }
+        ensures unseated { self.new.unseated ≡ self.old.unseated }
+        ensures no_more { NoMore self.old.seats self.new.seats }
+        ensures marks { KeepsMarks self.old.seats self.new.seats }
+        ensures stays { SeatsStay I.framing (meaning_of A.Link.input A.Link.output A.Link.line)
+            IsDrop self.old.seats.seats self.new.seats.seats }
+        ensures gives_way { LeavesIdlest self.old.seats.seats self.new.seats.seats }
+    {
+        self.seats.drop_idlest();
+    }
+
+    // Whether no place is left for a peer that comes.
+    fn is_full(&self) -> bool
+        ensures { result ≡ is_full self.now.seats.most self.now.seats.seats }
+    {
+        self.seats.is_full()
+    }
+
+    // Lets the connection go that has not moved for longest, where no place is left for a peer that comes.
+    fn give_way(&mut self)
+        ensures acceptor { self.new.acceptor ≡ self.old.acceptor }
+        ensures readiness { self.new.readiness ≡ self.old.readiness }
+        ensures asked { self.new.is_asked ≡ self.old.is_asked }
+        ensures crowded { self.new.is_crowded ≡ self.old.is_crowded }
+        ensures unseated { self.new.unseated ≡ self.old.unseated }
+        ensures no_more { NoMore self.old.seats self.new.seats }
+        ensures marks { KeepsMarks self.old.seats self.new.seats }
+        ensures stays { SeatsStay I.framing (meaning_of A.Link.input A.Link.output A.Link.line)
+            IsDrop self.old.seats.seats self.new.seats.seats }
+        ensures gives_way { GivesWay self.old.seats.most
+            self.old.seats.seats self.new.seats.seats }
+    {
+        if self.is_full() {
+            self.drop_idlest();
+        }
+    }
+
+    // Lets connections go: idle ones and late ones, each where that is due, and then one where no place is left.
+    fn let_go(&mut self, due: Due)
+        ensures acceptor { self.new.acceptor ≡ self.old.acceptor }
+        ensures readiness { self.new.readiness ≡ self.old.readiness }
+        ensures asked { self.new.is_asked ≡ self.old.is_asked }
+        ensures crowded { self.new.is_crowded ≡ self.old.is_crowded }
+        ensures unseated { self.new.unseated ≡ self.old.unseated }
+        ensures no_more { NoMore self.old.seats self.new.seats }
+        ensures marks { KeepsMarks self.old.seats self.new.seats }
+        ensures stays { SeatsStay I.framing (meaning_of A.Link.input A.Link.output A.Link.line)
+            IsDrop self.old.seats.seats self.new.seats.seats }
+        ensures went { Went due.idle due.late self.old self.new.seats.seats }
+    {
+        self.sweep(due);
+        self.give_way();
+    }
+
+    // A round, and then lets those go who are to be by the next reading of the clock, and one where no place is left.
     fn round<R: Clock, V: Answerer>(
         &mut self,
         rt: &R,
-        service: &mut V,
-        idle: Option<Duration>,
-        swept: &mut Option<Instant>,
+        service: &mut Counted<V>,
+        sweeps: &mut Sweeps,
     ) -> Result<(), Failed>
         ensures later { S.faults self.old.readiness ≤ S.faults self.new.readiness }
         ensures cause { OnErr result (Rose (S.faults self.old.readiness)
             (S.faults self.new.readiness)) }
         ensures limit { KeepsLimit self.old.seats self.new.seats }
         ensures marks { KeepsMarks self.old.seats self.new.seats }
-        ensures goes_on { SeatsGoOn I.framing V.answering
+        ensures goes_on { SeatsGoOn I.framing (counted V.answering)
             (polled_by (meaning_of A.Link.input A.Link.output A.Link.line) A.Link.not_ready
             self.old.seats.limits)
-            (TellsRound A.accepts S.faults S.found self.old self.new result) self.old.seats.seats
-            self.new.seats.seats service.old service.new }
+            (TellsRound A.accepts S.faults S.found sweeps.old sweeps.new self.old self.new result)
+            self.old.seats.seats self.new.seats.seats service.old service.new }
     {
-        let timeout = shorter(idle, Duration::from_millis(LOOK));
+        let timeout = sweeps.within(Duration::from_millis(LOOK));
         match self.turn(service, Some(timeout)) {
             Err(failed) => Err(failed),
             Ok(()) => {
-                if is_due(rt, *swept, idle) {
-                    *swept = Instant::now(rt).ok();
-                    self.drop_idle();
-                }
+                let due = sweeps.look(rt);
+                self.let_go(due);
                 Ok(())
             }
         }
     }
 
     /// Serves round by round until the signal is set, which is `Aborted`; it never answers `Finished`. It looks at the signal before each
-    /// round, and at least ten times a second. With `idle`, a connection that has no turn for that long is let go, at the latest after
-    /// twice that time.
+    /// round, and at least ten times a second. A connection that passes one of these deadlines is let go, at the latest after twice its time:
+    /// one that does not move, and one that begins a message and completes none.
     ///
-    /// It goes by rounds, each of which is a `turn`, behind which idle connections may be let go. Whatever the readiness that it is told of:
+    /// Where one more connection came than there are at a time, the one that has not moved for longest gives way, so one a round at most (MODBUS
+    /// Messaging on TCP/IP Implementation Guide V1.0b, section 4.2.1).
+    ///
+    /// It goes by rounds, each of which is a `turn`, behind which such connections are let go, exactly where that is due by a reading of the
+    /// clock. Whatever the readiness that it is told of:
     /// there is one run of the service over what all connections were told, in the order of their turns; the links that came are those that
     /// the acceptor gave; and each connection has, from the link as it came, the contract of `process`.
     ///
@@ -413,8 +558,8 @@ where
     pub fn serve_until<R: Wait + Clock, V: Answerer, X: Stop>(
         &mut self,
         rt: &R,
-        service: &mut V,
-        idle: Option<Duration>,
+        service: &mut Counted<V>,
+        deadlines: Deadlines,
         abort_signal: &mut X,
     ) -> Result<Terminated, Failed>
         ensures aborted { OnOk result ((result ≡ Ok Terminated.Aborted)
@@ -423,49 +568,22 @@ where
             (S.faults self.new.readiness)) }
         ensures limit { KeepsLimit self.old.seats self.new.seats }
         ensures marks { KeepsMarks self.old.seats self.new.seats }
-        ensures goes_on { SeatsGoOn I.framing V.answering
+        ensures goes_on { SeatsGoOn I.framing (counted V.answering)
             (polled_by (meaning_of A.Link.input A.Link.output A.Link.line) A.Link.not_ready
             self.old.seats.limits)
-            (TellsRounds A.accepts S.faults S.found self.old self.new result) self.old.seats.seats
-            self.new.seats.seats service.old service.new }
+            (TellsRounds A.accepts S.faults S.found deadlines self.old self.new result)
+            self.old.seats.seats self.new.seats.seats service.old service.new }
     {
-        let mut swept = Instant::now(rt).ok();
+        let mut sweeps = Sweeps::begin(rt, deadlines);
         'rounds: for _ in rt.forever() {
             if abort_signal.is_set() {
                 return Ok(Terminated::Aborted);
             }
-            match self.round(rt, service, idle, &mut swept) {
+            match self.round(rt, service, &mut sweeps) {
                 Ok(()) => {}
                 Err(failed) => return Err(failed),
             }
         }
         unreachable!()
-    }
-}
-
-// The shorter of two times, where none is any time.
-fn shorter(timeout: Option<Duration>, other: Duration) -> Duration
-    ensures { as_nanos result ≡ shorter_of (option_map as_nanos timeout) (as_nanos other) }
-{
-    match timeout {
-        Some(timeout) => {
-            if timeout.checked_sub(other).is_some() {
-                other
-            } else {
-                timeout
-            }
-        }
-        None => other,
-    }
-}
-
-// Whether so much time is over since then. It is not where the clock fails.
-fn is_due<R: Clock>(rt: &R, since: Option<Instant>, period: Option<Duration>) -> bool {
-    let (Some(since), Some(period)) = (since, period) else {
-        return false;
-    };
-    match since.elapsed(rt) {
-        Ok(elapsed) => elapsed >= period,
-        Err(_) => false,
     }
 }

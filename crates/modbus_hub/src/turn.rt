@@ -2,7 +2,7 @@
 ghost use Rattle.std.specs.Prelude.{◌≡◌, ◌≤◌, length, IsTrue};
 ghost use Rattle.modbus_link.specs.Line.{meaning_of};
 ghost use Rattle.modbus_link.specs.Outside.{Rose, cuts_made};
-ghost use Rattle.modbus_hub.specs.Turn.{is_going_on, TakesTurn};
+ghost use Rattle.modbus_hub.specs.Turn.{is_going_on, GaveIfTold, TakesTurn};
 
 use crate::rationed::Rationed;
 use modbus_link::PolledLink;
@@ -20,6 +20,15 @@ pub enum Turn {
     Over(Result<(), ProcessError>),
 }
 
+/// A turn that was taken.
+#[derive(Clone, Copy, Debug, PartialEq, Eq, Drop)]
+pub struct Taken {
+    /// What it came to.
+    pub turn: Turn,
+    /// Whether its link gave bytes.
+    pub has_bytes: bool,
+}
+
 /// What one turn of a connection may take. With none of either, no connection is ever served.
 #[derive(Clone, Copy, Debug, PartialEq, Eq, Drop)]
 pub struct TurnLimits {
@@ -34,7 +43,8 @@ pub struct TurnLimits {
 /// Whatever other connections did before and do after, the connection is served as `process` serves one that is alone: what it has written
 /// is the replies to its own messages, in order, each once, and once it is over the answer is the one that `process` gives, with its
 /// cause. The turn says by which exchanges the service went on, so one run of it goes over what all connections asked, in the order of their
-/// turns. A turn that is not over leaves no message unanswered, but where a reply waits to be written, or its messages are used up.
+/// turns. A turn that is not over leaves no message unanswered, but where a reply waits to be written, or its messages are used up. It tells
+/// whether its link gave bytes.
 ///
 /// # Errors
 /// Those of `PolledProcess::poll_turn` are in `Over`.
@@ -43,23 +53,39 @@ pub fn take_turn<I: Framing, L: PolledLink, V: Answerer>(
     link: &mut L,
     service: &mut V,
     limits: TurnLimits,
-) -> Turn
+) -> Taken
     requires { IsTrue process.old.connection.is_open }
-    ensures open { process.new.connection.is_open ≡ is_going_on result }
+    ensures open { process.new.connection.is_open ≡ is_going_on result.turn }
     ensures turn { TakesTurn I.framing V.answering (meaning_of L.input L.output L.line) limits
         (record { link = link.old; process = process.old })
-        (record { link = link.new; process = process.new }) service.old service.new result }
-    ensures waited { result ≡ Turn.Waiting → Rose (L.not_ready link.old) (L.not_ready link.new) }
+        (record { link = link.new; process = process.new }) service.old service.new result.turn }
+    ensures waited { result.turn ≡ Turn.Waiting
+        → Rose (L.not_ready link.old) (L.not_ready link.new) }
+    ensures came { GaveIfTold (meaning_of L.input L.output L.line) link.old link.new
+        result.has_bytes }
     ensures bounded { IsTrue (L.input link.old).told
         → length (cuts_made (L.input link.old) (L.input link.new)) ≤ limits.reads }
 {
     polled_lines_are_served::<I, V>();
     let mut rationed = Rationed::new(link, limits.reads);
     let answer = process.poll_turn(&mut rationed, service, limits.messages);
+    let has_bytes = rationed.left < limits.reads;
     match answer {
-        PolledTurn::Over(result) => Turn::Over(result),
-        PolledTurn::Spent => Turn::Spent,
-        PolledTurn::Waiting if rationed.refused > 0 => Turn::Spent,
-        PolledTurn::Waiting => Turn::Waiting,
+        PolledTurn::Over(result) => Taken {
+            turn: Turn::Over(result),
+            has_bytes,
+        },
+        PolledTurn::Spent => Taken {
+            turn: Turn::Spent,
+            has_bytes,
+        },
+        PolledTurn::Waiting if rationed.refused > 0 => Taken {
+            turn: Turn::Spent,
+            has_bytes,
+        },
+        PolledTurn::Waiting => Taken {
+            turn: Turn::Waiting,
+            has_bytes,
+        },
     }
 }

@@ -1,7 +1,9 @@
-//! A program that serves Modbus to many connections on one thread: `modbus_loop tcp PORT [SECONDS]`, or `modbus_loop rtu PORT [SECONDS]`.
+//! A program that serves Modbus to many connections on one thread: `modbus_loop tcp PORT [SECONDS [SECONDS [CONNECTIONS]]]`,
+//! or `modbus_loop rtu PORT ..`.
 //!
-//! It listens on 127.0.0.1, and lets a connection go that has no turn for so many seconds, or for ten minutes. All connections share one
-//! device of four tables of 1024 entries that hold 0 at first. `tcp` frames requests as ADUs with an MBAP header, and a header that no master
+//! It listens on 127.0.0.1, and lets a connection go that sends nothing for so many seconds, or for ten minutes, and one that begins a message
+//! and does not complete it for so many, or for ten seconds. Where there are so many connections, or 20,000, the one that was idle for longest
+//! gives way to a new one. All connections share one device of four tables of 1024 entries that hold 0 at first. `tcp` frames requests as ADUs with an MBAP header, and a header that no master
 //! sends ends its connection; `rtu` as RTU frames over TCP, and then the device takes part in broadcasts.
 #![tactic(auto)]
 
@@ -16,7 +18,7 @@ use std::process::ExitCode;
 use words::{Wish, parse_args};
 
 /// What it says of its words.
-const HELP: &str = "usage: modbus_loop tcp|rtu PORT [SECONDS]\n";
+const HELP: &str = "usage: modbus_loop tcp|rtu PORT [SECONDS [SECONDS [CONNECTIONS]]]\n";
 
 fn main(rt: HostRuntime) -> ExitCode {
     let _filled = fill_closed_streams(&rt);

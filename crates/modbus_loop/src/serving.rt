@@ -4,7 +4,7 @@ use crate::words::{Mode, Task};
 use mio::net::TcpListener;
 use modbus_field::standard::StandardAnswers;
 use modbus_field::stream::StreamBuffer;
-use modbus_hub::{EventServer, Limits, TurnLimits};
+use modbus_hub::{Counted, Deadlines, EventServer, Limits, TurnLimits};
 use modbus_link::FlagStop;
 use modbus_ready::{MioReadiness, PolledTcpAcceptor};
 use modbus_rtu::Inbox;
@@ -17,9 +17,6 @@ use std::time::{Clock, Duration};
 
 /// How many entries each table has.
 const ENTRIES: u32 = 1024;
-
-/// How many connections there are at a time, where the system has as many file descriptors.
-const CONNECTIONS: usize = 20_000;
 
 /// What a connection may take before another has its turn. One read may give a score of messages.
 const TURN: TurnLimits = TurnLimits {
@@ -38,12 +35,12 @@ fn open_store(alloc: Global, broadcast: bool) -> Result<RegisterStore, StoreErro
     RegisterStore::new(alloc, sizes, broadcast)
 }
 
-/// Serves a listener until the system refuses something, and says what.
-fn serve_listener<I: Framing, V: Answerer, R: Net + AllocGlobal + Wait + Clock>(
+/// Serves a listener by a device as the task wants until the system refuses something, and says what.
+fn serve_listener<I: Framing, V: Answerer + Drop, R: Net + AllocGlobal + Wait + Clock>(
     rt: &R,
     listener: TcpListener,
-    device: &mut V,
-    idle: Duration,
+    task: Task,
+    device: V,
 ) -> &'static str {
     let Ok(mut signal) = FlagStop::new(rt.alloc()) else {
         return "no memory";
@@ -56,7 +53,7 @@ fn serve_listener<I: Framing, V: Answerer, R: Net + AllocGlobal + Wait + Clock>(
         return "epoll fault";
     }
     let limits = Limits {
-        connections: CONNECTIONS,
+        connections: task.connections,
         turn: TURN,
     };
     let mut server: EventServer<I, _, _> = EventServer::new(
@@ -65,7 +62,11 @@ fn serve_listener<I: Framing, V: Answerer, R: Net + AllocGlobal + Wait + Clock>(
         readiness,
         limits,
     );
-    match server.serve_until(rt, device, Some(idle), &mut signal) {
+    let deadlines = Deadlines {
+        idle: Some(Duration::from_secs(task.idle)),
+        message: Some(Duration::from_secs(task.message)),
+    };
+    match server.serve_until(rt, &mut Counted::new(device), deadlines, &mut signal) {
         Ok(_) => "stopped",
         Err(_) => "epoll fault",
     }
@@ -77,15 +78,14 @@ pub fn serve<R: Net + AllocGlobal + Wait + Clock>(
     task: Task,
     listener: TcpListener,
 ) -> &'static str {
-    let Ok(mut store) = open_store(rt.alloc(), task.mode == Mode::Rtu) else {
+    let Ok(store) = open_store(rt.alloc(), task.mode == Mode::Rtu) else {
         return "no memory";
     };
-    let idle = Duration::from_secs(task.idle);
     match task.mode {
         Mode::Tcp => {
-            let mut device = StandardAnswers { service: store };
-            serve_listener::<StreamBuffer, _, R>(rt, listener, &mut device, idle)
+            let device = StandardAnswers { service: store };
+            serve_listener::<StreamBuffer, _, R>(rt, listener, task, device)
         }
-        Mode::Rtu => serve_listener::<Inbox, _, R>(rt, listener, &mut store, idle),
+        Mode::Rtu => serve_listener::<Inbox, _, R>(rt, listener, task, store),
     }
 }

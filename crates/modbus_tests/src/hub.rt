@@ -2,7 +2,7 @@
 
 use crate::check::check;
 use crate::links::Pair;
-use modbus_hub::{EventServer, Limits, TurnLimits};
+use modbus_hub::{Counted, Deadlines, EventServer, Limits, TurnLimits};
 use modbus_link::{MemoryLink, MemorySink, MemorySource, MemoryStop, Polled};
 use modbus_ready::{Ready, ScheduledAcceptor, ScheduledReadiness};
 use modbus_server::Terminated;
@@ -102,8 +102,16 @@ fn server<'a>(
 }
 
 /// Serves both to their ends.
-fn serve<R: Wait + Clock + Abort>(rt: &R, server: &mut TwoLinks<'_>, service: &mut RegisterStore) {
-    let ended = server.serve_until(rt, service, None, &mut MemoryStop::new(5));
+fn serve<R: Wait + Clock + Abort>(
+    rt: &R,
+    server: &mut TwoLinks<'_>,
+    service: &mut Counted<RegisterStore>,
+) {
+    let deadlines = Deadlines {
+        idle: None,
+        message: None,
+    };
+    let ended = server.serve_until(rt, service, deadlines, &mut MemoryStop::new(5));
     check(rt, ended, Ok(Terminated::Aborted));
     check(rt, (server.is_empty(), server.unseated()), (true, 0));
 }
@@ -113,7 +121,7 @@ fn serve_both<R: Wait + Clock + Abort>(
     rt: &R,
     alloc: Global,
     links: &mut Pair,
-    service: &mut RegisterStore,
+    service: &mut Counted<RegisterStore>,
 ) -> Result<(), AllocError> {
     let acceptor = acceptor(alloc, links)?;
     serve(rt, &mut server(alloc, acceptor)?, service);
@@ -131,9 +139,9 @@ fn serve_device<R: Wait + Clock + Abort>(
     alloc: Global,
     links: &mut Pair,
 ) -> Result<RegisterStore, Fail> {
-    let mut store = device(alloc)?;
+    let mut store = Counted::new(device(alloc)?);
     serve_both(rt, alloc, links, &mut store)?;
-    Ok(store)
+    Ok(store.service)
 }
 
 /// Serves both, and compares what was written to the device and what each has got.

@@ -1,8 +1,9 @@
+use Rattle.std.specs.Prelude.{nat_lt}
 use Rattle.std.proofs.Common.{rules, refl, inl, inr, ◌<◌}
 use Rattle.modbus_link.specs.Line.{meaning_of}
 use Rattle.modbus_hub.specs.declared.turn.Turn.TheVariants.{Waiting, Spent, Over}
-use Rattle.modbus_hub.specs.Turn.{TakesTurn}
-use Rattle.modbus_hub.proofs.Rationing.{keeps_within}
+use Rattle.modbus_hub.specs.Turn.{GaveIfTold, TakesTurn}
+use Rattle.modbus_hub.proofs.Rationing.{gives_told, keeps_within}
 use Rattle.modbus_hub.proofs.Turning.{moved, waits, is_spent, is_over}
 use Rattle.modbus_hub.proofs.turn.take_turn.Goals as goal
 
@@ -69,3 +70,39 @@ returns-in-Waiting-2-clause-turn g c =
     (keeps_within meaning c.args.limits lent.link.now left.link.now _ Waiting lent.left left.left lent.refused left.refused _ _
     poll.polls.passes.source c.new-rationed.ensures.left c.new-rationed.ensures.refused poll.few (λ e. absurd cc))
     (poll.rests refl))
+
+pub returns-in-Over-clause-came : goal.returns-in-Over-clause-came
+returns-in-Over-clause-came g c =
+    let meaning = meaning_of g.L.Ends.input g.L.Ends.output g.L.Ends.line in
+    let lent = c.new-rationed.result in
+    let left = c.poll_turn-answer.new.link in
+    moved (λ a b. GaveIfTold meaning a b (nat_lt left.left c.args.limits.reads)) lent.link.now _ left.link.now _ (search rules) (search rules)
+    (gives_told meaning c.args.limits lent.link.now left.link.now lent.left left.left lent.refused left.refused _ _
+    c.in-Over.ensures.turn.polls.passes.source c.new-rationed.ensures.left)
+
+pub returns-in-Spent-clause-came : goal.returns-in-Spent-clause-came
+returns-in-Spent-clause-came g c =
+    let meaning = meaning_of g.L.Ends.input g.L.Ends.output g.L.Ends.line in
+    let lent = c.new-rationed.result in
+    let left = c.poll_turn-answer.new.link in
+    moved (λ a b. GaveIfTold meaning a b (nat_lt left.left c.args.limits.reads)) lent.link.now _ left.link.now _ (search rules) (search rules)
+    (gives_told meaning c.args.limits lent.link.now left.link.now lent.left left.left lent.refused left.refused _ _
+    c.in-Spent.ensures.turn.polls.passes.source c.new-rationed.ensures.left)
+
+pub returns-in-Waiting-clause-came : goal.returns-in-Waiting-clause-came
+returns-in-Waiting-clause-came g c =
+    let meaning = meaning_of g.L.Ends.input g.L.Ends.output g.L.Ends.line in
+    let lent = c.new-rationed.result in
+    let left = c.poll_turn-answer.new.link in
+    moved (λ a b. GaveIfTold meaning a b (nat_lt left.left c.args.limits.reads)) lent.link.now _ left.link.now _ (search rules) (search rules)
+    (gives_told meaning c.args.limits lent.link.now left.link.now lent.left left.left lent.refused left.refused _ _
+    c.in-Waiting.ensures.turn.polls.passes.source c.new-rationed.ensures.left)
+
+pub returns-in-Waiting-2-clause-came : goal.returns-in-Waiting-2-clause-came
+returns-in-Waiting-2-clause-came g c =
+    let meaning = meaning_of g.L.Ends.input g.L.Ends.output g.L.Ends.line in
+    let lent = c.new-rationed.result in
+    let left = c.poll_turn-answer.new.link in
+    moved (λ a b. GaveIfTold meaning a b (nat_lt left.left c.args.limits.reads)) lent.link.now _ left.link.now _ (search rules) (search rules)
+    (gives_told meaning c.args.limits lent.link.now left.link.now lent.left left.left lent.refused left.refused _ _
+    c.in-Waiting-2.ensures.turn.polls.passes.source c.new-rationed.ensures.left)

@@ -1,6 +1,6 @@
 use Rattle.std.proofs.Common.{◌∙◌}
 use Rattle.modbus_link.specs.Line.{meaning_of}
-use Rattle.modbus_hub.specs.Seats.{IsDrop}
+use Rattle.modbus_hub.specs.Seats.{IsDrop, kept}
 use Rattle.modbus_hub.proofs.Seating.{stay_both}
 use Rattle.modbus_hub.proofs.Counting.{none_more}
 use Rattle.modbus_hub.proofs.Rounds.{drops_both, drops_below, same_above}
@@ -16,6 +16,6 @@ keys-preserved g c =
       none_more c.args.self.now c.keys.self c.drop_if_idle.new.self c.keys.invariant.1 c.drop_if_idle.ensures.no_more,
       stay_both g.I.Framing.framing (meaning_of g.L.Ends.input g.L.Ends.output g.L.Ends.line) IsDrop IsDrop IsDrop old now next
           c.keys.invariant.2 c.drop_if_idle.ensures.stays drops_both,
-      drops_below old now next c.keys.key u c.keys.invariant.3 c.keys.invariant.4,
+      drops_below kept old now next c.keys.key u c.keys.invariant.3 c.keys.invariant.4,
       same_above old now next c.keys.key u.others c.keys.invariant.4,
     )

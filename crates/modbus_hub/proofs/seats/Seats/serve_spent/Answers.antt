@@ -1,4 +1,5 @@
 use Rattle.modbus_link.specs.Line.{meaning_of}
+use Rattle.modbus_hub.specs.Counted.{counted}
 use Rattle.slab.specs.Slab.{get}
 use Rattle.modbus_hub.specs.Seats.{polled_by, ServesSpent, TurnsIfLeft}
 use Rattle.modbus_hub.proofs.Histories.{stays_none}
@@ -17,7 +18,7 @@ keys-init g c =
     let old = c.args.self.now.seats in
     rw (← c.self.view_is) (
       (refl, refl, omega arith),
-      go_same g.I.Framing.framing g.V.Answerer.answering (polled_by (meaning_of g.L.Ends.input g.L.Ends.output g.L.Ends.line) g.L.PolledLink.not_ready c.self.inside.limits.turn) (ServesBelow c.args.found.now 0 c.self.inside.seats)
+      go_same g.I.Framing.framing (counted g.V.Answerer.answering) (polled_by (meaning_of g.L.Ends.input g.L.Ends.output g.L.Ends.line) g.L.PolledLink.not_ready c.self.inside.limits.turn) (ServesBelow c.args.found.now 0 c.self.inside.seats)
           c.self.inside.seats c.args.service.now (λ history. ((refl, stays_none history, tt), λ key low. absurd (omega (arith, low)), λ key. inl refl)),
       λ key high. refl,
       λ key low. absurd (omega (arith, low)),
@@ -31,7 +32,7 @@ keys-preserved g c =
     let key = c.keys.key in
     let found = c.args.found.now in (
       none_more c.args.self.now c.keys.self c.serve_if_left.new.self c.keys.invariant.0 c.serve_if_left.ensures.no_more,
-      go_both g.I.Framing.framing g.V.Answerer.answering (polled_by (meaning_of g.L.Ends.input g.L.Ends.output g.L.Ends.line) g.L.PolledLink.not_ready c.args.self.now.limits) (ServesBelow found key old) (TurnsIfLeft found key (get now key)) (ServesBelow found (key + 1) old)
+      go_both g.I.Framing.framing (counted g.V.Answerer.answering) (polled_by (meaning_of g.L.Ends.input g.L.Ends.output g.L.Ends.line) g.L.PolledLink.not_ready c.args.self.now.limits) (ServesBelow found key old) (TurnsIfLeft found key (get now key)) (ServesBelow found (key + 1) old)
           old now c.serve_if_left.new.self.seats c.args.service.now c.keys.service c.serve_if_left.new.service
           c.keys.invariant.1 (rw (c.keys.invariant.0.0) at c.serve_if_left.ensures.goes_on) (serves_below found old now key c.keys.invariant.2),
       same_above old now c.serve_if_left.new.self.seats key c.serve_if_left.ensures.others c.keys.invariant.2,
@@ -44,5 +45,5 @@ returns-clause-goes_on g c =
     let old = c.args.self.now.seats in
     let found = c.args.found.now in
     let room : length old.slots ≤ c.keys.key = rw (← c.self.view_is) (omega (arith, c.keys-test.false, c.capacity-key-end.ensures.slots)) in
-    go_as g.I.Framing.framing g.V.Answerer.answering (polled_by (meaning_of g.L.Ends.input g.L.Ends.output g.L.Ends.line) g.L.PolledLink.not_ready c.args.self.now.limits) (ServesBelow found c.keys.key old) (ServesSpent found old)
+    go_as g.I.Framing.framing (counted g.V.Answerer.answering) (polled_by (meaning_of g.L.Ends.input g.L.Ends.output g.L.Ends.line) g.L.PolledLink.not_ready c.args.self.now.limits) (ServesBelow found c.keys.key old) (ServesSpent found old)
     old c.keys.self.seats c.args.service.now c.keys.service c.keys.invariant.1 (serves_all found old c.keys.key room)

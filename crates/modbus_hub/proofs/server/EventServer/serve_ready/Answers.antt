@@ -1,6 +1,7 @@
 use Rattle.std.proofs.Common.{◌≡◌, ◌⊎◌, inl, inr, ◌++◌, List, ◌<◌, ◌≤◌, ◌∙◌, ◌+◌, ◌∷◌, [], refl, sym, ap, subst, arith, take, take_all, length, get_or}
 use Rattle.std.proofs.lemmas.List.{take_more}
 use Rattle.modbus_link.specs.Line.{meaning_of}
+use Rattle.modbus_hub.specs.Counted.{counted}
 use Rattle.modbus_hub.specs.Seats.{polled_by, IsFound}
 use Rattle.slab.specs.Slab.{get}
 use Rattle.modbus_ready.specs.declared.readiness.Ready.{Ready}
@@ -17,7 +18,7 @@ ready-init g c = (
   refl,
   refl,
   refl,
-  go_same g.I.Framing.framing g.V.Answerer.answering (polled_by (meaning_of g.A.Link.Ends.input g.A.Link.Ends.output g.A.Link.Ends.line) g.A.Link.PolledLink.not_ready c.args.self.now.seats.limits) (ServesFound [])
+  go_same g.I.Framing.framing (counted g.V.Answerer.answering) (polled_by (meaning_of g.A.Link.Ends.input g.A.Link.Ends.output g.A.Link.Ends.line) g.A.Link.PolledLink.not_ready c.args.self.now.seats.limits) (ServesFound [])
       c.args.self.now.seats.seats c.args.service.now (λ history. found_nothing history),
   λ was. was,
   λ is. absurd is,
@@ -31,16 +32,16 @@ ready-preserved g c =
     let found = g.S.Readiness.found c.args.self.now.readiness in
     let index = c.ready.index in
     let same : g.S.Readiness.found c.ready.self.readiness ≡ found = ap g.S.Readiness.found c.ready.invariant.2 in
-    let counted : c.ready-index-end.result.now ≡ found =
+    let all_told : c.ready-index-end.result.now ≡ found =
     c.ready-index-end.ensures ∙ ap (λ (s : ServerState g.row.A.Denot g.row.S.Denot g.row.A-Link.Denot). g.S.Readiness.found s.readiness) c.self.view_is in
-    let low : index < length found = subst (λ (l : List Ready). index < length l) counted c.ready-test.true in
+    let low : index < length found = subst (λ (l : List Ready). index < length l) all_told c.ready-test.true in
     let ready = get_or found index Peer in
     let more : take (index + 1) found ≡ take index found ++ ready ∷ [] = take_more found index Peer low in (
       none_more c.args.self.now.seats c.ready.self.seats c.take_at.new.self.seats c.ready.invariant.0 c.take_at.ensures.no_more,
       c.take_at.ensures.acceptor ∙ c.ready.invariant.1,
       c.take_at.ensures.readiness ∙ c.ready.invariant.2,
       c.take_at.ensures.unseated ∙ c.ready.invariant.3,
-      go_both g.I.Framing.framing g.V.Answerer.answering (polled_by (meaning_of g.A.Link.Ends.input g.A.Link.Ends.output g.A.Link.Ends.line) g.A.Link.PolledLink.not_ready c.args.self.now.seats.limits) (ServesFound (take index found))
+      go_both g.I.Framing.framing (counted g.V.Answerer.answering) (polled_by (meaning_of g.A.Link.Ends.input g.A.Link.Ends.output g.A.Link.Ends.line) g.A.Link.PolledLink.not_ready c.args.self.now.seats.limits) (ServesFound (take index found))
           (ServesNext (take index found) ready) (ServesFound (take (index + 1) found))
           c.args.self.now.seats.seats c.ready.self.seats.seats c.take_at.new.self.seats.seats c.args.service.now c.ready.service c.take_at.new.service
           c.ready.invariant.4 (rw (← same) (rw (c.ready.invariant.0.0) at c.take_at.ensures.goes_on))
@@ -67,26 +68,26 @@ ready-preserved g c =
 pub returns-clause-asked : goal.returns-clause-asked
 returns-clause-asked g c =
     let found = g.S.Readiness.found c.args.self.now.readiness in
-    let counted : c.ready-index-end.result.now ≡ found =
+    let all_told : c.ready-index-end.result.now ≡ found =
     c.ready-index-end.ensures ∙ ap (λ (s : ServerState g.row.A.Denot g.row.S.Denot g.row.A-Link.Denot). g.S.Readiness.found s.readiness) c.self.view_is in
     let all : take c.ready.index found ≡ found =
-    take_all c.ready.index found (subst (λ (l : List Ready). length l ≤ c.ready.index) counted c.ready-test.false) in
+    take_all c.ready.index found (subst (λ (l : List Ready). length l ≤ c.ready.index) all_told c.ready-test.false) in
     rw (all) at c.ready.invariant.6
 
 pub returns-clause-goes_on : goal.returns-clause-goes_on
 returns-clause-goes_on g c =
     let found = g.S.Readiness.found c.args.self.now.readiness in
-    let counted : c.ready-index-end.result.now ≡ found =
+    let all_told : c.ready-index-end.result.now ≡ found =
     c.ready-index-end.ensures ∙ ap (λ (s : ServerState g.row.A.Denot g.row.S.Denot g.row.A-Link.Denot). g.S.Readiness.found s.readiness) c.self.view_is in
     let all : take c.ready.index found ≡ found =
-    take_all c.ready.index found (subst (λ (l : List Ready). length l ≤ c.ready.index) counted c.ready-test.false) in
+    take_all c.ready.index found (subst (λ (l : List Ready). length l ≤ c.ready.index) all_told c.ready-test.false) in
     rw (all) at c.ready.invariant.4
 
 pub returns-clause-others : goal.returns-clause-others
 returns-clause-others g c =
     let found = g.S.Readiness.found c.args.self.now.readiness in
-    let counted : c.ready-index-end.result.now ≡ found =
+    let all_told : c.ready-index-end.result.now ≡ found =
     c.ready-index-end.ensures ∙ ap (λ (s : ServerState g.row.A.Denot g.row.S.Denot g.row.A-Link.Denot). g.S.Readiness.found s.readiness) c.self.view_is in
     let all : take c.ready.index found ≡ found =
-    take_all c.ready.index found (subst (λ (l : List Ready). length l ≤ c.ready.index) counted c.ready-test.false) in
+    take_all c.ready.index found (subst (λ (l : List Ready). length l ≤ c.ready.index) all_told c.ready-test.false) in
     rw (all) at c.ready.invariant.9

@@ -1,12 +1,13 @@
 use Rattle.std.proofs.Common.{refl, arith, [], Ok, Err}
 use Rattle.modbus_frame.specs.declared.server.Terminated.{Terminated}
 use Rattle.modbus_link.specs.Line.{meaning_of}
+use Rattle.modbus_hub.specs.Counted.{counted}
 use Rattle.modbus_hub.specs.Seats.{polled_by}
 use Rattle.modbus_hub.specs.Turns.{TellsRound, TellsRounds}
 use Rattle.modbus_hub.proofs.Counting.{within_both}
-use Rattle.modbus_hub.proofs.Seating.{go_both, go_same, go_under}
+use Rattle.modbus_hub.proofs.Seating.{go_as, go_both, go_same, go_under}
 use Rattle.modbus_hub.proofs.Rounding.{none_come}
-use Rattle.modbus_hub.proofs.Serving.{rounds_more, rounds_fail}
+use Rattle.modbus_hub.proofs.Serving.{RoundsSoFar, rounds_more, rounds_fail, so_far}
 use Rattle.modbus_hub.proofs.server.EventServer.serve_until.Goals as goal
 
 pub rounds-init : goal.rounds-init
@@ -14,9 +15,9 @@ rounds-init g c = (
   (refl, refl, λ within. within),
   omega arith,
   omega arith,
-  go_same g.I.Framing.framing g.V.Answerer.answering (polled_by (meaning_of g.A.Link.Ends.input g.A.Link.Ends.output g.A.Link.Ends.line) g.A.Link.PolledLink.not_ready c.args.self.now.seats.limits)
-      (TellsRounds g.A.PolledAcceptor.accepts g.S.Readiness.faults {R = Unit {0}} g.S.Readiness.found c.args.self.now c.args.self.now (Ok tt)) c.args.self.now.seats.seats c.args.service.now
-      (λ history. (none_come g.A.PolledAcceptor.accepts g.S.Readiness.faults c.args.self.now c.args.self.now history [] refl (omega arith) refl refl, ([], (refl, refl)))),
+  go_same g.I.Framing.framing (counted g.V.Answerer.answering) (polled_by (meaning_of g.A.Link.Ends.input g.A.Link.Ends.output g.A.Link.Ends.line) g.A.Link.PolledLink.not_ready c.args.self.now.seats.limits)
+      (RoundsSoFar g.A.PolledAcceptor.accepts g.S.Readiness.faults g.S.Readiness.found c.args.deadlines c.begin-sweeps.result c.args.self.now c.args.self.now) c.args.self.now.seats.seats c.args.service.now
+      (λ history. (none_come g.A.PolledAcceptor.accepts g.S.Readiness.faults c.args.self.now c.args.self.now history [] refl (omega arith) refl refl, (c.begin-sweeps.result.last, c.begin-sweeps.ensures.first, [], (refl, refl), c.begin-sweeps.ensures.begun))),
   λ marks. marks,
 )
 
@@ -31,11 +32,11 @@ rounds-preserved g c =
       within_both first.seats now.seats next.seats c.rounds.invariant.0 c.round.ensures.limit,
       omega (arith, c.rounds.invariant.1, c.round.ensures.later),
       omega (arith, c.rounds.invariant.2, c.is_set.ensures.later),
-      go_both g.I.Framing.framing g.V.Answerer.answering (polled_by (meaning_of g.A.Link.Ends.input g.A.Link.Ends.output g.A.Link.Ends.line) g.A.Link.PolledLink.not_ready c.args.self.now.seats.limits)
-          (TellsRounds accepts faults {R = Unit {0}} found first now (Ok tt)) (TellsRound accepts faults found now next (Ok tt)) (TellsRounds accepts faults {R = Unit {0}} found first next (Ok tt))
+      go_both g.I.Framing.framing (counted g.V.Answerer.answering) (polled_by (meaning_of g.A.Link.Ends.input g.A.Link.Ends.output g.A.Link.Ends.line) g.A.Link.PolledLink.not_ready c.args.self.now.seats.limits)
+          (RoundsSoFar accepts faults found c.args.deadlines c.rounds.sweeps first now) (TellsRound accepts faults found c.rounds.sweeps c.round.new.sweeps now next (Ok tt)) (RoundsSoFar accepts faults found c.args.deadlines c.round.new.sweeps first next)
           first.seats.seats now.seats.seats next.seats.seats c.args.service.now c.rounds.service c.round.new.service
           c.rounds.invariant.3
-          (go_under g.I.Framing.framing g.V.Answerer.answering (meaning_of g.A.Link.Ends.input g.A.Link.Ends.output g.A.Link.Ends.line) g.A.Link.PolledLink.not_ready now.seats.limits first.seats.limits (TellsRound accepts faults found now next (Ok tt)) now.seats.seats next.seats.seats c.rounds.service c.round.new.service c.rounds.invariant.0.0 c.in-Ok.ensures.goes_on) (rounds_more accepts faults found first now next),
+          (go_under g.I.Framing.framing (counted g.V.Answerer.answering) (meaning_of g.A.Link.Ends.input g.A.Link.Ends.output g.A.Link.Ends.line) g.A.Link.PolledLink.not_ready now.seats.limits first.seats.limits (TellsRound accepts faults found c.rounds.sweeps c.round.new.sweeps now next (Ok tt)) now.seats.seats next.seats.seats c.rounds.service c.round.new.service c.rounds.invariant.0.0 c.in-Ok.ensures.goes_on) (rounds_more accepts faults found c.args.deadlines c.rounds.sweeps c.round.new.sweeps first now next),
       λ marks. c.round.ensures.marks (c.rounds.invariant.4 marks),
     )
 
@@ -48,8 +49,20 @@ returns-in-Err-clause-goes_on g c =
     let first = c.args.self.now in
     let now = c.rounds.self in
     let next = c.round.new.self in
-    go_both g.I.Framing.framing g.V.Answerer.answering (polled_by (meaning_of g.A.Link.Ends.input g.A.Link.Ends.output g.A.Link.Ends.line) g.A.Link.PolledLink.not_ready c.args.self.now.seats.limits)
-    (TellsRounds accepts faults {R = Unit {0}} found first now (Ok tt)) (TellsRound accepts faults found now next (Err failed)) (TellsRounds accepts faults {R = Terminated} found first next (Err failed))
+    go_both g.I.Framing.framing (counted g.V.Answerer.answering) (polled_by (meaning_of g.A.Link.Ends.input g.A.Link.Ends.output g.A.Link.Ends.line) g.A.Link.PolledLink.not_ready c.args.self.now.seats.limits)
+    (RoundsSoFar accepts faults found c.args.deadlines c.rounds.sweeps first now) (TellsRound accepts faults found c.rounds.sweeps c.round.new.sweeps now next (Err failed)) (TellsRounds accepts faults {R = Terminated} found c.args.deadlines first next (Err failed))
     first.seats.seats now.seats.seats next.seats.seats c.args.service.now c.rounds.service c.round.new.service
     c.rounds.invariant.3
-    (go_under g.I.Framing.framing g.V.Answerer.answering (meaning_of g.A.Link.Ends.input g.A.Link.Ends.output g.A.Link.Ends.line) g.A.Link.PolledLink.not_ready now.seats.limits first.seats.limits (TellsRound accepts faults found now next (Err failed)) now.seats.seats next.seats.seats c.rounds.service c.round.new.service c.rounds.invariant.0.0 c.in-Err.ensures.goes_on) (rounds_fail accepts faults found Terminated failed first now next)
+    (go_under g.I.Framing.framing (counted g.V.Answerer.answering) (meaning_of g.A.Link.Ends.input g.A.Link.Ends.output g.A.Link.Ends.line) g.A.Link.PolledLink.not_ready now.seats.limits first.seats.limits (TellsRound accepts faults found c.rounds.sweeps c.round.new.sweeps now next (Err failed)) now.seats.seats next.seats.seats c.rounds.service c.round.new.service c.rounds.invariant.0.0 c.in-Err.ensures.goes_on) (rounds_fail accepts faults found Terminated failed c.args.deadlines c.rounds.sweeps c.round.new.sweeps first now next)
+
+pub returns-then-is_set-clause-goes_on : goal.returns-then-is_set-clause-goes_on
+returns-then-is_set-clause-goes_on g c =
+    let accepts = g.A.PolledAcceptor.accepts in
+    let faults = g.S.Readiness.faults in
+    let found = g.S.Readiness.found in
+    let first = c.args.self.now in
+    let now = c.rounds.self in
+    go_as g.I.Framing.framing (counted g.V.Answerer.answering) (polled_by (meaning_of g.A.Link.Ends.input g.A.Link.Ends.output g.A.Link.Ends.line) g.A.Link.PolledLink.not_ready first.seats.limits)
+    (RoundsSoFar accepts faults found c.args.deadlines c.rounds.sweeps first now) (TellsRounds accepts faults {R = Terminated} found c.args.deadlines first now (Ok Terminated.Aborted))
+    first.seats.seats now.seats.seats c.args.service.now c.rounds.service c.rounds.invariant.3
+    (λ history more some. so_far accepts faults found c.args.deadlines c.rounds.sweeps first now history more some Terminated.Aborted)

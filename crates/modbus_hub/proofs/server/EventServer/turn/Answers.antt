@@ -1,5 +1,6 @@
 use Rattle.std.proofs.Common.{◌≡◌, ◌⊎◌, inl, inr, ◌∙◌, Ok, IsTrue, ap, sym, ◌≤◌, subst}
 use Rattle.modbus_link.specs.Line.{meaning_of}
+use Rattle.modbus_hub.specs.Counted.{counted}
 use Rattle.modbus_hub.specs.Seats.{polled_by, AllStand, AsksNone}
 use Rattle.modbus_hub.specs.Turns.{ServesFound, ServesLeft, AcceptsAsked, IsPeerFound, TakesRound}
 use Rattle.modbus_hub.proofs.Marks.{marks_same, one_same}
@@ -12,7 +13,7 @@ returns-in-Ok-clause-goes_on g c =
     let link = meaning_of g.A.Link.Ends.input g.A.Link.Ends.output g.A.Link.Ends.line in
     let meaning = polled_by link g.A.Link.PolledLink.not_ready c.self.inside.seats.limits in
     let framing = g.I.Framing.framing in
-    let answering = g.V.Answerer.answering in
+    let answering = (counted g.V.Answerer.answering) in
     let accepts = g.A.PolledAcceptor.accepts in
     let faults = g.S.Readiness.faults in
     let found = g.S.Readiness.found in

@@ -1,0 +1,21 @@
+use Rattle.std.proofs.Common.{subst, ℕ}
+use Rattle.modbus_link.specs.Line.{meaning_of}
+use Rattle.modbus_hub.specs.Seats.{IsDrop}
+use Rattle.modbus_hub.specs.Turns.{GivesWay}
+use Rattle.modbus_hub.proofs.Rounds.{drops_both}
+use Rattle.modbus_hub.proofs.Seating.{stay_both}
+use Rattle.modbus_hub.proofs.server.EventServer.let_go.Goals as goal
+
+pub returns-clause-stays : goal.returns-clause-stays
+returns-clause-stays g c =
+    stay_both g.I.Framing.framing (meaning_of g.A.Link.Ends.input g.A.Link.Ends.output g.A.Link.Ends.line) IsDrop IsDrop IsDrop
+    c.args.self.now.seats.seats c.sweep.new.self.seats.seats c.give_way.new.self.seats.seats c.sweep.ensures.stays c.give_way.ensures.stays drops_both
+
+pub returns-clause-went : goal.returns-clause-went
+returns-clause-went g c =
+    let now = c.sweep.new.self in
+    let last = c.give_way.new.self.seats.seats in (
+      now.seats.seats,
+      c.sweep.ensures.lets_go,
+      subst (λ (n : ℕ). GivesWay n now.seats.seats last) c.sweep.ensures.no_more.1 c.give_way.ensures.gives_way,
+    )

@@ -1,0 +1,15 @@
+use Rattle.std.proofs.Common.{◌∙◌, ap}
+use Rattle.modbus_link.specs.Line.{meaning_of}
+use Rattle.modbus_hub.specs.Seats.{IsDrop, on_time}
+use Rattle.modbus_hub.specs.Sweeps.{stays_if}
+use Rattle.modbus_hub.proofs.Rounds.{drops_both}
+use Rattle.modbus_hub.proofs.Seating.{stay_both}
+use Rattle.modbus_hub.proofs.server.EventServer.sweep.Goals as goal
+
+pub returns-clause-stays : goal.returns-clause-stays
+returns-clause-stays g c =
+    stay_both g.I.Framing.framing (meaning_of g.A.Link.Ends.input g.A.Link.Ends.output g.A.Link.Ends.line) IsDrop IsDrop IsDrop
+    c.args.self.now.seats.seats c.sweep_idle.new.self.seats.seats c.sweep_late.new.self.seats.seats c.sweep_idle.ensures.stays c.sweep_late.ensures.stays drops_both
+
+pub returns-clause-lets_go : goal.returns-clause-lets_go
+returns-clause-lets_go g c key = c.sweep_late.ensures.lets_go key ∙ ap (stays_if c.args.due.late on_time) (c.sweep_idle.ensures.lets_go key)
