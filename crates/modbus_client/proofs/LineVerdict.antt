@@ -12,14 +12,14 @@ use Rattle.modbus_client.specs.LineReading.{line_rule, tells_length, bounded, to
 use Rattle.modbus_client.proofs.LineLength.{told_on, untold_is}
 
 -- the frame of a good list is whole
-by_len : (adu : List ℕ) (n : ℕ) → verdict_by adu (Ok (Some n)) ≢ Open → n + overhead ≤ length adu
+pub by_len : (adu : List ℕ) (n : ℕ) → verdict_by adu (Ok (Some n)) ≢ Open → n + overhead ≤ length adu
 by_len adu n ne = go (ltb (length adu) (n + overhead)) refl
   where
     go : (b : Bool) → ltb (length adu) (n + overhead) ≡ b → n + overhead ≤ length adu
     go true t = absurd (ne (rw t refl))
     go false f = ltb-false (length adu) (n + overhead) f
 
-by_append : (adu more : List ℕ) (n : ℕ) → verdict_by adu (Ok (Some n)) ≢ Open → verdict_by (adu ++ more) (Ok (Some n)) ≡ verdict_by adu (Ok (Some n))
+pub by_append : (adu more : List ℕ) (n : ℕ) → verdict_by adu (Ok (Some n)) ≢ Open → verdict_by (adu ++ more) (Ok (Some n)) ≡ verdict_by adu (Ok (Some n))
 by_append adu more n ne =
     let fits : n + overhead ≤ length adu = by_len adu n ne in
     let fits' : n + overhead ≤ length (adu ++ more) = omega (arith, length-append adu more) in

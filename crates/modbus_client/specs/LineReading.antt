@@ -3,15 +3,15 @@
 --
 -- While bytes come, a frame ends where its length says. The line's silence ends every frame: then a frame that is not whole is none, and
 -- one of a function that tells no length is all that came.
-use Rattle.std.specs.Prelude.{◌≡◌, ℕ, zero, suc, ◌+◌, ◌-◌, ◌^◌, ◌<◌, ◌≤◌, min, ◌||◌, not, if◌then◌else◌, ◌==◌, nat_lt, nat_le, Bool, true, false, List, [], ◌∷◌, length, take, drop, slice_get, slice_index, Option, Some, None, Result, Ok, Err, IsOkAnd}
+use Rattle.std.specs.Prelude.{◌≡◌, ℕ, zero, suc, ◌+◌, ◌-◌, ◌^◌, ◌<◌, ◌≤◌, min, ◌||◌, ◌&&◌, not, if◌then◌else◌, ◌==◌, nat_lt, nat_le, Bool, true, false, List, [], ◌∷◌, length, take, drop, slice_get, slice_index, Option, Some, None, Result, Ok, Err, IsOkAnd}
 use Rattle.std.specs.Option.{option_map}
 use Rattle.modbus_frame.specs.FunctionCodes as number
 use Rattle.modbus_frame.specs.declared.rtu.Header.{Header}
 use Rattle.modbus_frame.specs.declared.fault.HeaderSeen.{HeaderSeen}
-use Rattle.modbus_pdu.specs.Limits.{max_pdu, mei_device_identification, one_byte_pdu, read_head}
+use Rattle.modbus_pdu.specs.Limits.{max_pdu, mei_device_identification, one_byte_pdu, two_words_pdu, read_head}
 use Rattle.modbus_rtu.specs.declared.verdict.Verdict.{Verdict}
 use Rattle.modbus_rtu.specs.declared.verdict.Verdict.TheVariants.{Open, Bad, Good}
-use Rattle.modbus_rtu.specs.Frame.{Head, frame, judged_by}
+use Rattle.modbus_rtu.specs.Frame.{Head, frame, verdict_by, judged_by}
 use Rattle.modbus_rtu.specs.Limits.{overhead, max_frame}
 use Rattle.modbus_rtu.specs.ResponseHead.{ResponseRule, response_rule, word_len, identified_len}
 use Rattle.modbus_rtu.specs.ResponseHead.ResponseRule.{fixed, counted, counted_word, identification, unknown}
@@ -109,13 +109,59 @@ abbrev pub awaited : ℕ → Verdict → Verdict
 awaited count Bad = if nat_lt max_frame count then Bad else Open
 awaited count verdict = verdict
 
--- The same over a connection, on which no silence ends a frame. There one of the slave that was asked whose function tells no length is all
--- that came, and one of another slave is passed byte by byte.
-unfoldable pub stream_verdict : ℕ → List ℕ → Verdict
-stream_verdict asked adu =
+-- The same over a connection, on which no silence ends a frame. There a reply of the slave that was asked whose function tells no length is
+-- all that came, and one of another slave is passed byte by byte.
+unfoldable pub reply_verdict : ℕ → List ℕ → Verdict
+reply_verdict asked adu =
     if not (is_untold adu (slice_get adu 1)) then line_verdict adu else
     if slice_index adu 0 == asked then awaited (length adu) (judged_by silent_head adu) else
     Bad
+
+-- A connection may carry what other masters of its line ask too. The functions whose request is a function code and two words (V1.1b3,
+-- sections 6.1 to 6.6).
+abbrev pub asks_two_words : ℕ → Bool
+asks_two_words code = nat_le number.read_coils code && nat_le code number.write_single_register
+
+-- whether bytes may begin such a request for another slave
+abbrev pub may_ask : ℕ → List ℕ → Option ℕ → Bool
+may_ask asked adu None = false
+may_ask asked adu (Some code) = not (slice_index adu 0 == asked) && asks_two_words code
+
+abbrev pub is_good : Verdict → Bool
+is_good (Good n) = true
+is_good _ = false
+
+-- whether bytes begin with a whole reply of the slave that was asked
+abbrev pub is_own : ℕ → List ℕ → Bool
+is_own asked adu = slice_index adu 0 == asked && is_good (line_verdict adu)
+
+-- whether such a reply stands behind the first byte, the second or the third: behind them no other is whole in fewer bytes than a request has
+abbrev pub hides_reply : ℕ → List ℕ → Bool
+hides_reply asked adu = is_own asked (drop 1 adu) || is_own asked (drop 2 adu) || is_own asked (drop 3 adu)
+
+-- the bytes of such a request, but for its last one
+abbrev pub before_last : List ℕ → List ℕ
+before_last adu = take (two_words_pdu + overhead - 1) adu
+
+-- whether the bytes of a request are a reply, or hide one, before the last of them came
+unfoldable pub is_settled : ℕ → List ℕ → Bool
+is_settled asked first = is_good (line_verdict first) || hides_reply asked first
+
+-- What stands at the front as another slave's request by two words: it is waited for only while no reply stands in its bytes.
+unfoldable pub request_verdict : ℕ → List ℕ → Verdict
+request_verdict asked adu =
+    if not (may_ask asked adu (slice_get adu 1)) then Bad else
+    if is_settled asked (before_last adu) then Bad else
+    verdict_by adu (Ok (Some two_words_pdu))
+
+-- the first that isn't bad
+abbrev pub else_as : Verdict → Verdict → Verdict
+else_as Bad other = other
+else_as verdict other = verdict
+
+-- What stands at the front over a connection: another slave's request, which is passed whole, or what is read as a reply.
+unfoldable pub stream_verdict : ℕ → List ℕ → Verdict
+stream_verdict asked adu = else_as (request_verdict asked adu) (reply_verdict asked adu)
 
 -- what a reading found, and how many frames of other slaves it passed
 pub record LineRead : Type 0 where

@@ -24,6 +24,7 @@ mod reader;
 mod reading;
 pub mod rtu;
 mod stream;
+mod stream_judge;
 pub mod tcp;
 mod transactions;
 mod typed;

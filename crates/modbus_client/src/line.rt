@@ -4,11 +4,11 @@ ghost use Rattle.std.specs.Prelude.{◌≡◌, ◌≢◌, ℕ, ◌+◌, ◌<◌,
 ghost use Rattle.modbus_rtu.specs.Limits.{overhead};
 ghost use Rattle.modbus_rtu.specs.declared.verdict.Verdict.{Verdict};
 ghost use Rattle.modbus_rtu.specs.declared.verdict.Verdict.TheVariants.{Open, Good};
-ghost use Rattle.modbus_client.specs.LineReading.{line_verdict, silent_verdict, stream_verdict, closed, StepsAs, DropsFront, LooksBy, TakesReply, line_protocol, silent_protocol};
+ghost use Rattle.modbus_client.specs.LineReading.{line_verdict, silent_verdict, closed, StepsAs, DropsFront, LooksBy, TakesReply, line_protocol, silent_protocol};
 ghost use Rattle.modbus_client.specs.Call.{IsOwn};
 ghost use Rattle.modbus_client.specs.Rtu.{rtu_heading};
 
-use crate::line_length::{LineRule, OVERHEAD, SilentRule, is_untold};
+use crate::line_length::{LineRule, OVERHEAD, SilentRule};
 use crate::protocol::{LineProtocol, LookError, Protocol, Reply};
 use crate::raw::{RawLineProtocol, RawProtocol};
 use crate::reading::{AsBytes, AsResponse, Reading};
@@ -16,7 +16,7 @@ use crate::rtu::Frames;
 use bytes::BytesMut;
 use modbus_frame::rtu::Header;
 use modbus_frame::{EncodeError, HeaderSeen, PduError, Request, Slave};
-use modbus_rtu::{MAX_FRAME, Verdict, judge_by};
+use modbus_rtu::{Verdict, judge_by};
 use std::alloc::Global;
 use std::marker::Model;
 
@@ -53,27 +53,6 @@ impl Judge for Silent {
     fn judge(_asked: u8, adu: &[u8]) -> Verdict {
         match judge_by(&SilentRule, adu) {
             Verdict::Open => Verdict::Bad,
-            verdict => verdict,
-        }
-    }
-}
-
-/// Over a connection, on which no silence ends a frame.
-pub(crate) struct Streaming;
-
-impl Judge for Streaming {
-    ghost verdict = { stream_verdict };
-
-    #[tactic(auto, unfolding(crate::specs::LineReading::stream_verdict, crate::specs::LineReading::line_verdict))]
-    fn judge(asked: u8, adu: &[u8]) -> Verdict {
-        if !is_untold(adu) {
-            return judge_by(&LineRule, adu);
-        }
-        if adu[0] != asked {
-            return Verdict::Bad;
-        }
-        match judge_by(&SilentRule, adu) {
-            Verdict::Bad if adu.len() <= MAX_FRAME => Verdict::Open,
             verdict => verdict,
         }
     }

@@ -97,14 +97,14 @@ fn told_len(adu: &[u8]) -> Option<usize>
     }
 }
 
-/// The bytes, as many as the longest frame has at most.
-fn front(adu: &[u8]) -> &[u8]
-    ensures { result.now ≡ take max_frame adu.now }
+/// The first bytes, so many at most.
+pub(crate) fn front(adu: &[u8], most: usize) -> &[u8]
+    ensures { result.now ≡ take most adu.now }
 {
-    if adu.len() <= MAX_FRAME {
+    if adu.len() <= most {
         return adu;
     }
-    let (front, _) = adu.split_at(MAX_FRAME);
+    let (front, _) = adu.split_at(most);
     front
 }
 
@@ -148,7 +148,7 @@ impl LengthRule for LineRule {
 
     #[tactic(auto, unfolding(crate::specs::LineReading::line_head))]
     fn pdu_len(&self, adu: &[u8]) -> Result<Option<usize>, NoLength> {
-        bounded(adu, told_len(front(adu)))
+        bounded(adu, told_len(front(adu, MAX_FRAME)))
     }
 }
 

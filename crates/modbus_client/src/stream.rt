@@ -1,14 +1,16 @@
 //! The frames of a serial line that a connection carries, as its client reads them (MODBUS over Serial Line V1.02, section 2.4.1): noise is
-//! passed byte by byte, a frame of another slave is passed whole, and the first frame of the slave that was asked is the reply.
+//! passed byte by byte, a frame of another slave and what another master asks it are passed whole, and the first frame of the slave that was
+//! asked is the reply.
 ghost use Rattle.std.specs.Prelude.{ℕ};
 ghost use Rattle.modbus_client.specs.LineReading.{stream_protocol};
 ghost use Rattle.modbus_client.specs.Rtu.{rtu_heading};
 
-use crate::line::{Streaming, look_by};
+use crate::line::look_by;
 use crate::protocol::{LookError, Protocol, Reply};
 use crate::raw::RawProtocol;
 use crate::reading::{AsBytes, AsResponse};
 use crate::rtu::Frames;
+use crate::stream_judge::Streaming;
 use bytes::BytesMut;
 use modbus_frame::rtu::Header;
 use modbus_frame::{EncodeError, HeaderSeen, Request, Slave};
@@ -19,7 +21,7 @@ use std::marker::Model;
 /// are dropped. A frame has at most 256 bytes.
 ///
 /// A frame ends where its length says, as no silence ends one here. That of a function that tells no length is all that came, where it has the
-/// address of the slave that was asked.
+/// address of the slave that was asked. What another master asks another slave by the functions 01 to 06 is passed as a frame of that slave.
 #[derive(Drop)]
 pub struct StreamFrames {
     others: u64,

@@ -1,6 +1,5 @@
 -- The runs of a line that is asked for no one who has waited too long.
 use Rattle.std.proofs.Common.{◌≡◌, ℕ, Bool, true, false, List, [], ◌∷◌, refl, ap, subst, ◌∙◌}
-use Rattle.std.specs.declared.time.Duration.{Duration}
 use Rattle.modbus_service.specs.Answering.{Answering}
 use Rattle.modbus_service.specs.Exchange.{Exchange, Run}
 use Rattle.modbus_gateway.specs.Timely.{TimelyState, is_stale, turned, GivesInTime, timely, WithFresh, Passes}

@@ -4,8 +4,9 @@
 //! line answers goes back under the transaction and the unit of the request.
 //!
 //! Many masters share one line under a lock, so there is one exchange on it at a time, and none within another. Each connection has a
-//! service of its own, which takes the lock for one exchange. A request that waited longer for its turn than masters wait is not made. A line that may still bring a late reply is left to fall silent before its
-//! next exchange, so no master gets the reply of another's request.
+//! service of its own, which takes the lock for one exchange. A request that waited longer for its turn than masters wait is not made. A
+//! line that may still bring a late reply is left to fall silent before its next exchange, so no master gets the reply of another's
+//! request.
 #![tactic(auto)]
 
 mod answer;
