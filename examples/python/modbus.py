@@ -7,6 +7,7 @@ import ctypes
 import sys
 
 DONE, WAITING, SILENT, REFUSED = range(4)
+MISMATCH = 15
 LONGEST_REPLY = 260
 LONGEST_TEXT = 513
 
@@ -32,18 +33,6 @@ class Inbox(ctypes.Structure):
     _fields_ = [("len", Size), ("bytes", ctypes.c_uint8 * 268)]
 
 
-class Call(ctypes.Structure):
-    """What the reply to a request has to be of."""
-
-    _fields_ = [
-        ("tcp", ctypes.c_bool),
-        ("transaction_id", ctypes.c_uint16),
-        ("slave", ctypes.c_uint8),
-        ("function", ctypes.c_uint8),
-        ("inbox", Inbox),
-    ]
-
-
 class Request(ctypes.Structure):
     """A request without its lists."""
 
@@ -56,6 +45,18 @@ class Request(ctypes.Structure):
         ("word", ctypes.c_uint16),
         ("or_mask", ctypes.c_uint16),
         ("count", Size),
+    ]
+
+
+class Call(ctypes.Structure):
+    """What the reply has to be of, and the request that it has to fit."""
+
+    _fields_ = [
+        ("tcp", ctypes.c_bool),
+        ("transaction_id", ctypes.c_uint16),
+        ("slave", ctypes.c_uint8),
+        ("request", Request),
+        ("inbox", Inbox),
     ]
 
 
@@ -117,7 +118,10 @@ class Device:
 
 
 class Client:
-    """Reads registers of a unit over Modbus TCP: `ask` sends bytes and gives those that come back, in pieces."""
+    """Reads registers of a unit over Modbus TCP: `ask` sends bytes and gives those that come back, in pieces.
+
+    A reply that does not fit the request, as one of more registers, is a ValueError with its status.
+    """
 
     def __init__(self, modbus, unit_id, ask):
         self.modbus, self.unit_id, self.ask, self.transaction = modbus, unit_id, ask, 0
@@ -168,6 +172,13 @@ def main(path):
     client = Client(modbus, 1, lambda sent: [bytes([it]) for it in late + device.serve(sent)[2]])
     assert client.holding_registers(2, 1) == [0x1234]
     assert client.holding_registers(1024, 1) == 2
+    # a reply of two registers where one was asked for
+    client = Client(modbus, 1, lambda sent: [bytes.fromhex("0001 0000 0007 01 03 04 1234 5678")])
+    try:
+        client.holding_registers(2, 1)
+        raise AssertionError("a reply to another request was taken")
+    except ValueError as error:
+        assert str(error) == f"status {MISMATCH}"
     print("each answer was the one wanted")
 
 

@@ -207,14 +207,14 @@ static void inbox(void) {
     int answers = 0;
     modbus_inbox_open(&held);
     for (size_t i = 0; i < sizeof noise_and_frame; i++) {
-        row("a byte is fed", modbus_inbox_feed(&held, noise_and_frame + i, 1));
+        row("a byte is fed", modbus_inbox_feed(&held, noise_and_frame + i, 1) == 1);
         modbus_served done = modbus_inbox_next(&held, device.coils, ENTRIES, device.discrete_inputs, ENTRIES, device.holding_registers,
                                                ENTRIES, device.input_registers, ENTRIES, false, output, sizeof output);
         answers += done.status == MODBUS_DONE && done.written == 8;
     }
     row("one answer", answers == 1 && held.len == 0 && device.holding_registers[1] == 3);
-    row("too long a piece", !modbus_inbox_feed(&held, zeros, 269) && held.len == 0);
-    row("the longest piece", modbus_inbox_feed(&held, zeros, 268) && !modbus_inbox_feed(&held, zeros, 1));
+    row("as much of a piece as there is room for", modbus_inbox_feed(&held, zeros, 300) == 268 && held.len == 268);
+    row("no room for a byte", modbus_inbox_feed(&held, zeros, 1) == 0 && held.len == 268);
 }
 
 /* What is told of the answer of a call that was fed these bytes in pieces of so many, the first time that it is not waited for. */
@@ -300,6 +300,107 @@ static void calling(void) {
     row("no room for more", modbus_call_answer(&call, &response, words, 4, coils, 8).status == MODBUS_FULL);
 }
 
+/* A request, and an answer under its header: what is told of it, and whether it is written to the struct and the lists. */
+static void fits(const char *name, modbus_request request, const char *input, uint32_t status, size_t count) {
+    enum { LISTED = 24 };
+    uint16_t words[LISTED], words_before[LISTED];
+    bool coils[LISTED] = {0};
+    uint8_t output[MODBUS_LONGEST_REPLY];
+    modbus_call call;
+    modbus_response response;
+    modbus_done told;
+    memset(words, 0xA5, sizeof words);
+    memcpy(words_before, words, sizeof words);
+    memset(&response, 0xA5, sizeof response);
+    told = modbus_call_tcp(&call, 1, 17, &request, words, LISTED, coils, LISTED, output, sizeof output);
+    row("a request to be answered", told.status == MODBUS_DONE);
+    told = answer_of(&call, input, 99, &response, words, LISTED, coils, LISTED);
+    if (status == MODBUS_DONE) {
+        row(name, told.status == MODBUS_DONE && response.function == request.function && response.count == count && call.inbox.len == 0);
+        return;
+    }
+    modbus_response before;
+    memset(&before, 0xA5, sizeof before);
+    row(name, told.status == status && told.detail == request.function && call.inbox.len == 0 &&
+                  memcmp(&response, &before, sizeof before) == 0 && memcmp(words, words_before, sizeof words) == 0);
+    for (size_t i = 0; i < LISTED; i++) {
+        row(name, !coils[i]);
+    }
+}
+
+static void fitting(void) {
+    const modbus_request coils = {.function = 1, .address = 1, .quantity = 3}, inputs = {.function = 2, .address = 1, .quantity = 9};
+    const modbus_request registers = {.function = 3, .address = 1, .quantity = 2}, input = {.function = 4, .quantity = 1};
+    const modbus_request coil = {.function = 5, .address = 1, .coil = true}, word = {.function = 6, .address = 1, .word = 3};
+    const modbus_request write_coils = {.function = 15, .address = 1, .count = 10}, write = {.function = 16, .address = 1, .count = 2};
+    const modbus_request mask = {.function = 22, .address = 4, .word = 0xF2, .or_mask = 0x25};
+    const modbus_request both = {.function = 23, .address = 3, .quantity = 2, .write_address = 14, .count = 1}, queue = {.function = 24};
+    fits("three coils", coils, "0001 0000 0004 11 01 01 FD", MODBUS_DONE, 3);
+    fits("no byte of coils", coils, "0001 0000 0003 11 01 00", MODBUS_MISMATCH, 0);
+    fits("a byte of coils too many", coils, "0001 0000 0005 11 01 02 FFFF", MODBUS_MISMATCH, 0);
+    fits("nine inputs", inputs, "0001 0000 0005 11 02 02 FFFF", MODBUS_DONE, 9);
+    fits("eight inputs", inputs, "0001 0000 0004 11 02 01 FF", MODBUS_MISMATCH, 0);
+    fits("two registers", registers, "0001 0000 0007 11 03 04 0001 0002", MODBUS_DONE, 2);
+    fits("a register too few", registers, "0001 0000 0005 11 03 02 0001", MODBUS_MISMATCH, 0);
+    fits("a register too many", registers, "0001 0000 0009 11 03 06 0001 0002 0003", MODBUS_MISMATCH, 0);
+    fits("an input register", input, "0001 0000 0005 11 04 02 0001", MODBUS_DONE, 1);
+    fits("two input registers", input, "0001 0000 0007 11 04 04 0001 0002", MODBUS_MISMATCH, 0);
+    fits("a coil", coil, "0001 0000 0006 11 05 0001 FF00", MODBUS_DONE, 0);
+    fits("another coil", coil, "0001 0000 0006 11 05 0002 FF00", MODBUS_MISMATCH, 0);
+    fits("another state", coil, "0001 0000 0006 11 05 0001 0000", MODBUS_MISMATCH, 0);
+    fits("a register", word, "0001 0000 0006 11 06 0001 0003", MODBUS_DONE, 0);
+    fits("another register", word, "0001 0000 0006 11 06 0002 0003", MODBUS_MISMATCH, 0);
+    fits("another content", word, "0001 0000 0006 11 06 0001 0004", MODBUS_MISMATCH, 0);
+    fits("written coils", write_coils, "0001 0000 0006 11 0F 0001 000A", MODBUS_DONE, 0);
+    fits("other written coils", write_coils, "0001 0000 0006 11 0F 0002 000A", MODBUS_MISMATCH, 0);
+    fits("fewer written coils", write_coils, "0001 0000 0006 11 0F 0001 0009", MODBUS_MISMATCH, 0);
+    fits("written registers", write, "0001 0000 0006 11 10 0001 0002", MODBUS_DONE, 0);
+    fits("other written registers", write, "0001 0000 0006 11 10 0003 0002", MODBUS_MISMATCH, 0);
+    fits("more written registers", write, "0001 0000 0006 11 10 0001 0003", MODBUS_MISMATCH, 0);
+    fits("a masked register", mask, "0001 0000 0008 11 16 0004 00F2 0025", MODBUS_DONE, 0);
+    fits("another masked register", mask, "0001 0000 0008 11 16 0005 00F2 0025", MODBUS_MISMATCH, 0);
+    fits("another AND mask", mask, "0001 0000 0008 11 16 0004 00F3 0025", MODBUS_MISMATCH, 0);
+    fits("another OR mask", mask, "0001 0000 0008 11 16 0004 00F2 0024", MODBUS_MISMATCH, 0);
+    fits("registers read after a write", both, "0001 0000 0007 11 17 04 0001 0002", MODBUS_DONE, 2);
+    fits("a register of them", both, "0001 0000 0005 11 17 02 0001", MODBUS_MISMATCH, 0);
+    fits("a queue", queue, "0001 0000 000A 11 18 0006 0002 0001 0002", MODBUS_DONE, 2);
+
+    /* three coils are three: the fourth of the list stays, and a list of three is long enough */
+    bool three[4] = {false, true, false, true};
+    uint16_t words[4] = {0};
+    uint8_t output[MODBUS_LONGEST_REPLY];
+    modbus_call call;
+    modbus_response response;
+    modbus_done told;
+    modbus_call_tcp(&call, 1, 17, &coils, words, 0, three, 0, output, sizeof output);
+    told = answer_of(&call, "0001 0000 0004 11 01 01 05", 99, &response, words, 0, three, 2);
+    row("two of three coils", told.status == MODBUS_NO_ROOM && three[1] && call.inbox.len == 10);
+    told = modbus_call_answer(&call, &response, words, 0, three, 3);
+    row("three coils of a byte", told.status == MODBUS_DONE && response.count == 3 && three[0] && !three[1] && three[2] && three[3]);
+
+    /* behind an answer that does not fit comes that which does */
+    modbus_call_rtu(&call, 17, &(modbus_request){.function = 6, .address = 1, .word = 3}, words, 0, three, 0, output, sizeof output);
+    told = answer_of(&call, "11 06 0001 0004 DB59 11 06 0001 0003 9A9B", 99, &response, words, 0, three, 0);
+    row("an answer to another request on a line", told.status == MODBUS_MISMATCH && told.detail == 6 && call.inbox.len == 8);
+    told = modbus_call_answer(&call, &response, words, 0, three, 0);
+    row("the answer behind it", told.status == MODBUS_DONE && response.word == 3 && call.inbox.len == 0);
+
+    /* a write of nothing, as where `quantity` is told in place of `count` */
+    modbus_call before = call;
+    memset(output, 0xA5, sizeof output);
+    for (size_t i = 0; i < 3; i++) {
+        const modbus_request nothing = {.function = (uint8_t[]){15, 16, 23}[i], .quantity = 10};
+        told = modbus_call_tcp(&call, 1, 17, &nothing, words, 4, three, 4, output, sizeof output);
+        row("a write of nothing", told.status == MODBUS_REFUSED && told.detail == MODBUS_INVALID_QUANTITY && told.written == 0);
+        told = modbus_call_rtu(&call, 17, &nothing, words, 4, three, 4, output, sizeof output);
+        row("the same on a line", told.status == MODBUS_REFUSED && told.detail == MODBUS_INVALID_QUANTITY && told.written == 0);
+    }
+    row("nothing is sent", output[0] == 0xA5 && memcmp(&before, &call, sizeof call) == 0);
+    for (uint32_t status = MODBUS_DONE; status <= MODBUS_MISMATCH; status++) {
+        row("a text of a status", strcmp(modbus_status_text(status), modbus_status_text(1000)) != 0);
+    }
+}
+
 static void texts(void) {
     struct device device = {0};
     static const char write[] = ":1106000100039A9B\r\n", request[] = "no text :1106:110600010003E5\r\n:11";
@@ -364,8 +465,8 @@ static void nulls(void) {
                           modbus_rtu_wrap(1, NULL, 2, output, 9).status == MODBUS_NULL);
     modbus_inbox_open(NULL);
     modbus_inbox_open(&held);
-    row("a null piece", modbus_inbox_feed(&held, NULL, 0) && !modbus_inbox_feed(&held, NULL, 1) && !modbus_inbox_feed(NULL, read, 1) &&
-                            held.len == 0);
+    row("a null piece", modbus_inbox_feed(&held, NULL, 0) == 0 && modbus_inbox_feed(&held, NULL, 1) == 0 &&
+                            modbus_inbox_feed(NULL, read, 1) == 0 && held.len == 0);
     done = modbus_inbox_next(NULL, NULL, 0, NULL, 0, NULL, 0, NULL, 0, false, output, 260);
     row("a null inbox", done.status == MODBUS_NULL);
     row("a null call", modbus_call_tcp(NULL, 1, 1, &request, NULL, 0, NULL, 0, output, 12).status == MODBUS_NULL &&
@@ -385,6 +486,7 @@ int main(void) {
     wrapping();
     inbox();
     calling();
+    fitting();
     texts();
     nulls();
     printf("%d passed, %d failed\n", passed, failed);

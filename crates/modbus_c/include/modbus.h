@@ -1,3 +1,4 @@
+/* SPDX-License-Identifier: MIT OR Apache-2.0 */
 /*
  * The Modbus protocol, proved: libmodbus_c.a, which docs/C.md tells how to build and to link.
  *
@@ -8,9 +9,18 @@
  *  - A pointer beside a length points to so many entries, and a pointer to a struct to one. A null pointer is told apart (at the end).
  *  - An array or a struct that a call writes overlaps no other of the same call.
  *  - A `bool`, also each of an array, is 0 or 1.
- *  - Arrays that a call is writing are used by nothing else until it returns.
+ *  - Arrays that a call is writing are used by nothing else until it returns. Calls over other arrays may run at the same time.
+ *  - No call is made from a signal handler, nor in a forked child of a program of many threads before it executes another: the library
+ *    takes memory, as malloc does.
  *  - malloc, realloc and free are those of one allocator, and malloc aligns as C demands; or the caller links three functions of its own
  *    (examples/c/arena.c), and then no malloc.
+ *
+ * A word is a number of the program, in the order of bytes of its host: the library alone puts it into the order of the wire.
+ *
+ * How large an array has to be: an output MODBUS_LONGEST_REPLY bytes, of Modbus ASCII MODBUS_LONGEST_TEXT, a PDU MODBUS_LONGEST_PDU;
+ * `words` and `coils` that are written MODBUS_MOST_WORDS and MODBUS_MOST_COILS, or as many as were asked for. What is held of a TCP
+ * connection has room for MODBUS_LONGEST_REPLY bytes: where it is full and MODBUS_WAITING is told, the header tells more than an ADU has,
+ * and the connection is to be closed. What is held of Modbus ASCII has room for MODBUS_LONGEST_TEXT bytes and a piece.
  *
  * What the library owes, where that is kept: each comment below. Lengths may have any value, and so may the bytes. What is not told to be
  * written stays as it was.
@@ -28,6 +38,12 @@
 extern "C" {
 #endif
 
+/* The version of this header and of the library. */
+#define MODBUS_VERSION_MAJOR 0
+#define MODBUS_VERSION_MINOR 17
+#define MODBUS_VERSION_PATCH 0
+#define MODBUS_VERSION "0.17.0"
+
 /* What a call tells. Each function names those that it may tell. */
 enum modbus_status {
     MODBUS_DONE = 0,      /* a message was found, a request answered, a PDU read or written */
@@ -43,8 +59,9 @@ enum modbus_status {
     MODBUS_TOO_LONG = 10, /* the PDU would have more than 253 bytes */
     MODBUS_HEADER_MISMATCH = 11,   /* the reply is of another slave than was asked */
     MODBUS_FUNCTION_MISMATCH = 12, /* the reply is of another function than was asked */
-    MODBUS_FULL = 13, /* no whole message, and no room for more bytes: give the call up */
-    MODBUS_NULL = 14  /* a pointer is null where there has to be something: nothing was done */
+    MODBUS_FULL = 13, /* no whole message, and no room for more bytes: give the call up, and close the connection */
+    MODBUS_NULL = 14, /* a pointer is null where there has to be something: nothing was done */
+    MODBUS_MISMATCH = 15 /* the reply is of the slave and the function that were asked, and does not fit the request */
 };
 
 /* Why a PDU is refused: `detail` beside MODBUS_REFUSED. Where several hold, the first that stands in the PDU is told. */
@@ -52,7 +69,7 @@ enum modbus_reason {
     MODBUS_UNEXPECTED_END = 1,         /* it ends within a field */
     MODBUS_SIZE_EXCEEDED = 2,          /* it has more than 253 bytes */
     MODBUS_TOO_SHORT = 3,              /* it has fewer bytes than its byte count tells */
-    MODBUS_INVALID_QUANTITY = 4,       /* the byte count and the quantity do not belong together */
+    MODBUS_INVALID_QUANTITY = 4,       /* the byte count and the quantity do not belong together; a request to write nothing */
     MODBUS_INVALID_COIL = 5,           /* the word of a coil is neither FF00 nor 0000 hexadecimal */
     MODBUS_UNSUPPORTED_MEI = 6,        /* another MEI type than device identification */
     MODBUS_INVALID_READ_CODE = 7,      /* no read code of a device identification */
@@ -63,6 +80,75 @@ enum modbus_reason {
     MODBUS_UNDECODED_DATA = 12         /* it goes on after its last field */
 };
 
+/* The functions of modbus_request and modbus_response, by the names of AP 6. */
+enum modbus_function {
+    MODBUS_READ_COILS = 0x01,
+    MODBUS_READ_DISCRETE_INPUTS = 0x02,
+    MODBUS_READ_HOLDING_REGISTERS = 0x03,
+    MODBUS_READ_INPUT_REGISTERS = 0x04,
+    MODBUS_WRITE_SINGLE_COIL = 0x05,
+    MODBUS_WRITE_SINGLE_REGISTER = 0x06,
+    MODBUS_WRITE_MULTIPLE_COILS = 0x0F,
+    MODBUS_WRITE_MULTIPLE_REGISTERS = 0x10,
+    MODBUS_REPORT_SERVER_ID = 0x11,
+    MODBUS_MASK_WRITE_REGISTER = 0x16,
+    MODBUS_READ_WRITE_MULTIPLE_REGISTERS = 0x17,
+    MODBUS_READ_FIFO_QUEUE = 0x18
+};
+
+/* The codes of exceptions, by the names of AP 7. A server may tell another code. */
+enum modbus_exception {
+    MODBUS_ILLEGAL_FUNCTION = 0x01,
+    MODBUS_ILLEGAL_DATA_ADDRESS = 0x02,
+    MODBUS_ILLEGAL_DATA_VALUE = 0x03,
+    MODBUS_SERVER_DEVICE_FAILURE = 0x04,
+    MODBUS_ACKNOWLEDGE = 0x05,
+    MODBUS_SERVER_DEVICE_BUSY = 0x06,
+    MODBUS_MEMORY_PARITY_ERROR = 0x08,
+    MODBUS_GATEWAY_PATH_UNAVAILABLE = 0x0A,
+    MODBUS_GATEWAY_TARGET_DEVICE = 0x0B
+};
+
+/* What a status means, as a text that stands as long as the program does. */
+static inline const char *modbus_status_text(uint32_t status) {
+    switch (status) {
+    case MODBUS_DONE:
+        return "done";
+    case MODBUS_WAITING:
+        return "no whole message yet";
+    case MODBUS_SILENT:
+        return "a broadcast, which has no answer";
+    case MODBUS_REFUSED:
+        return "a PDU that is refused";
+    case MODBUS_NO_MEMORY:
+        return "memory was refused";
+    case MODBUS_NO_LENGTH:
+        return "a header of the length 0";
+    case MODBUS_FOREIGN:
+        return "a header of another protocol";
+    case MODBUS_CROWD:
+        return "no frame in what was received";
+    case MODBUS_NO_ROOM:
+        return "an array is too short";
+    case MODBUS_UNTOLD:
+        return "a function that the struct does not tell";
+    case MODBUS_TOO_LONG:
+        return "a PDU of more than 253 bytes";
+    case MODBUS_HEADER_MISMATCH:
+        return "the reply of another slave";
+    case MODBUS_FUNCTION_MISMATCH:
+        return "the reply of another function";
+    case MODBUS_FULL:
+        return "no whole message, and no room for more";
+    case MODBUS_NULL:
+        return "a null pointer";
+    case MODBUS_MISMATCH:
+        return "a reply that does not fit the request";
+    default:
+        return "no status of this library";
+    }
+}
+
 /* The most bytes of a reply, and so what an output has room for (TCP 3.1.3: a header of 7 bytes, and a PDU of 253). */
 #define MODBUS_LONGEST_REPLY 260
 
@@ -71,6 +157,10 @@ enum modbus_reason {
 
 /* The most bytes of a PDU (AP 4.1). */
 #define MODBUS_LONGEST_PDU 253
+
+/* The most registers, and the most coils, that a PDU of so many bytes tells. */
+#define MODBUS_MOST_WORDS 125
+#define MODBUS_MOST_COILS 2008
 
 /* What modbus_rtu_find_request and modbus_rtu_find_response find. */
 typedef struct {
@@ -133,7 +223,7 @@ typedef struct {
 /* A response without its lists, or an exception. A field that is not named is 0 when it is read, and is not looked at when it is written.
  *
  *   an exception                               exception: true, code, function: the request's   AP 7
- *   01, 02  coils, discrete inputs             count: so many coils, eight for each byte
+ *   01, 02  coils, discrete inputs             count: so many coils; where a PDU alone is read, eight for each byte
  *   03, 04, 17, 18  registers                  count: so many words
  *   05  wrote a coil                           address, coil
  *   06  wrote a register                       address, word
@@ -158,13 +248,13 @@ typedef struct {
     uint8_t bytes[268];
 } modbus_inbox;
 
-/* A call of a client that was begun: what the reply has to be of, and the bytes that were fed and not used yet. Its fields are the
- * library's; a later call may be begun with the same struct. */
+/* A call of a client that was begun: what the reply has to be of, the request that it has to fit, and the bytes that were fed and not used
+ * yet. Its fields are the library's; a later call may be begun with the same struct. */
 typedef struct {
     bool tcp;
     uint16_t transaction_id;
     uint8_t slave;
-    uint8_t function;
+    modbus_request request;
     modbus_inbox inbox;
 } modbus_call;
 
@@ -240,11 +330,11 @@ modbus_served modbus_ascii_serve(const uint8_t *input, size_t input_len, bool *c
 /* An inbox that holds no byte. There is nothing to close. */
 void modbus_inbox_open(modbus_inbox *inbox);
 
-/* Appends a piece. False where it has more bytes than there is room for; nothing has changed then. */
-bool modbus_inbox_feed(modbus_inbox *inbox, const uint8_t *piece, size_t piece_len);
+/* Appends the first bytes of a piece, as many as there is room for, and tells how many: feed the others once the inbox was served. */
+size_t modbus_inbox_feed(modbus_inbox *inbox, const uint8_t *piece, size_t piece_len);
 
 /* Answers the next frame that is held, as modbus_rtu_serve does, and takes the first `used` bytes off. Call it until it tells
- * MODBUS_WAITING: fewer than 256 bytes are held then, so that a piece of 12 fits. */
+ * MODBUS_WAITING: fewer than 256 bytes are held then, so that 12 bytes more have room. */
 modbus_served modbus_inbox_next(modbus_inbox *inbox, bool *coils, size_t coils_len, const bool *discrete_inputs,
                                 size_t discrete_inputs_len, uint16_t *holding_registers, size_t holding_registers_len,
                                 const uint16_t *input_registers, size_t input_registers_len, bool broadcast, uint8_t *output,
@@ -253,8 +343,9 @@ modbus_served modbus_inbox_next(modbus_inbox *inbox, bool *coils, size_t coils_l
 /* Begins a call of a unit over Modbus TCP, or of a slave over a serial line: the ADU or the frame of the request goes to the front of the
  * output, to be sent, and `call` keeps what the reply has to be of (TCP 3.1.3, 4.4.1.3; SL 2.5.1). Bytes that it held are dropped. Nothing
  * comes back from slave 0, which all slaves hear. 260 bytes are room for each request.
- * MODBUS_DONE; MODBUS_UNTOLD; MODBUS_NO_ROOM: `count` is more than the list has, or the output is too short; MODBUS_TOO_LONG;
- * MODBUS_NO_MEMORY. Where it is not done nothing is written, and `written` is 0. */
+ * MODBUS_DONE; MODBUS_REFUSED: the request is to write coils or registers, and `count` is 0; MODBUS_UNTOLD; MODBUS_NO_ROOM: `count` is
+ * more than the list has, or the output is too short; MODBUS_TOO_LONG; MODBUS_NO_MEMORY. Where it is not done nothing is written, and
+ * `written` is 0. */
 modbus_done modbus_call_tcp(modbus_call *call, uint16_t transaction_id, uint8_t unit_id, const modbus_request *request,
                             const uint16_t *words, size_t words_len, const bool *coils, size_t coils_len, uint8_t *output,
                             size_t output_len);
@@ -265,10 +356,12 @@ modbus_done modbus_call_rtu(modbus_call *call, uint8_t slave, const modbus_reque
  * was asked for again. */
 size_t modbus_call_feed(modbus_call *call, const uint8_t *piece, size_t piece_len);
 
-/* The answer of a call, as far as bytes were fed: its numbers go to `response`, what it tells to the fronts of `words` and `coils`. Over
- * Modbus TCP, ADUs of other transactions and units are dropped. On a serial line the next frame is the reply.
- * MODBUS_DONE: a response or an exception of the function that was asked; MODBUS_WAITING: feed more; MODBUS_FULL;
- * MODBUS_HEADER_MISMATCH: a frame of the slave `detail`; MODBUS_FUNCTION_MISMATCH: an answer of the function `detail`; MODBUS_REFUSED;
+/* The answer of a call, as far as bytes were fed: its numbers go to `response`, what was asked for to the fronts of `words` and `coils`:
+ * three coils are three. Over Modbus TCP, ADUs of other transactions and units are dropped. On a serial line the next frame is the reply.
+ * MODBUS_DONE: a response that fits the request, or an exception of its function; MODBUS_WAITING: feed more; MODBUS_FULL;
+ * MODBUS_HEADER_MISMATCH: a frame of the slave `detail`; MODBUS_FUNCTION_MISMATCH: an answer of the function `detail`; MODBUS_MISMATCH: a
+ * response with another number of coils or registers than were asked for, or with another address, value or quantity than was written,
+ * whose function is `detail`; MODBUS_REFUSED;
  * MODBUS_UNTOLD: another function than those of modbus_response; MODBUS_NO_ROOM: a list is longer than the caller's; MODBUS_NO_MEMORY;
  * MODBUS_CROWD: no frame at the first twenty offsets; MODBUS_NO_LENGTH; MODBUS_FOREIGN: `detail` is the protocol. Where it is not done
  * nothing is written, and `written` is 0 throughout. What was looked at is taken off what is held, but for MODBUS_NO_ROOM and
@@ -277,9 +370,23 @@ modbus_done modbus_call_answer(modbus_call *call, modbus_response *response, uin
                                size_t coils_len);
 
 /*
+ * What the library wants of the program, beside memcpy, memmove and memset: three functions that give memory, take it back, and make it
+ * longer, as malloc, free and realloc do. libmodbus_c_malloc.a has them over these, the shared library is linked with it, and a program
+ * without malloc has its own (examples/c/arena.c). `at` is aligned to `align`, a power of two; where `is_given` is 0 memory was refused.
+ */
+typedef struct {
+    size_t is_given;
+    void *at;
+} modbus_block;
+
+modbus_block rattle_alloc(size_t size, size_t align);
+void rattle_dealloc(void *at, size_t size, size_t align);
+modbus_block rattle_realloc(void *at, size_t old, size_t size, size_t align);
+
+/*
  * Null pointers. What stands here is compiled into the caller, and C gets it for each function above: a null pointer beside the length 0 is
  * an array of no entry; where a pointer is null that has to point to something, MODBUS_NULL is told, and nothing is read or written. Where
- * there is no status the answer is false, 0, or the checksum of no byte. Who defines MODBUS_UNCHECKED, or calls the library from another
+ * there is no status the answer is 0, or the checksum of no byte. Who defines MODBUS_UNCHECKED, or calls the library from another
  * language, owes that no pointer is null.
  */
 #ifndef MODBUS_UNCHECKED
@@ -448,10 +555,10 @@ static inline void modbus_checked_inbox_open(modbus_inbox *inbox) {
     modbus_inbox_open(inbox);
 }
 
-static inline bool modbus_checked_inbox_feed(modbus_inbox *inbox, const uint8_t *piece, size_t piece_len) {
+static inline size_t modbus_checked_inbox_feed(modbus_inbox *inbox, const uint8_t *piece, size_t piece_len) {
     modbus_none none = {0, false, 0};
     if (!inbox || (!piece && piece_len)) {
-        return false;
+        return 0;
     }
     return modbus_inbox_feed(inbox, piece ? piece : &none.byte, piece_len);
 }

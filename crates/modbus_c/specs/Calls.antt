@@ -20,6 +20,7 @@ use Rattle.modbus_client.specs.Rtu.{slave_seen}
 use Rattle.modbus_client.specs.Tcp.{FindsOwnAdu}
 use Rattle.modbus_c.specs.Inbox.{held}
 use Rattle.modbus_c.specs.declared.call.ModbusCall.{ModbusCall}
+use Rattle.modbus_c.specs.declared.request.ModbusRequest.{ModbusRequest}
 use Rattle.modbus_c.specs.declared.seek.Sought.{Sought}
 use Rattle.modbus_c.specs.declared.seek.Sought.TheVariants as sought
 
@@ -31,11 +32,12 @@ heading transaction unit = record { transaction_id = transaction; unit_id = unit
 abbrev pub header_asked : ModbusCall → HeaderSeen
 header_asked call = record { transaction_id = if call.tcp then Some call.transaction_id else None; slave_id = call.slave }
 
--- a call of this framing that asked this under this header, and holds no byte yet
-pub record IsOpened (tcp : Bool) (asked : HeaderSeen) (request : Asked) (call : ModbusCall) : Type 0 where
+-- a call of this framing that asked this under this header, by this struct, which it keeps, and holds no byte yet
+pub record IsOpened (tcp : Bool) (asked : HeaderSeen) (request : Asked) (told : ModbusRequest) (call : ModbusCall) : Type 0 where
   pub framing : call.tcp ≡ tcp
   pub under : header_asked call ≡ asked
-  pub function : function_of call.function ≡ function_asked request
+  pub keeps : call.request ≡ told
+  pub function : function_of call.request.function ≡ function_asked request
   pub empty : held call.inbox ≡ []
 
 -- the next frame of a response in bytes, as `IsNextBy`

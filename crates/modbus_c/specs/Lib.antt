@@ -8,4 +8,5 @@ pub mod Serves
 pub mod Served
 pub mod Inbox
 pub mod Calls
+pub mod Fits
 pub mod Texts

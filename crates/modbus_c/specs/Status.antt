@@ -2,7 +2,7 @@
 use Rattle.std.specs.Prelude.{◌≡◌, ◌⊎◌, ℕ}
 use Rattle.modbus_frame.specs.declared.fault.Reason.{Reason}
 use Rattle.modbus_frame.specs.declared.fault.Reason.TheVariants as reason
-use Rattle.modbus_c.specs.declared.status.TheConstants.{MODBUS_DONE, MODBUS_REFUSED, MODBUS_NO_MEMORY, MODBUS_NO_ROOM, MODBUS_UNTOLD, MODBUS_TOO_LONG, MODBUS_WAITING, MODBUS_NO_LENGTH, MODBUS_FOREIGN, MODBUS_CROWD, MODBUS_HEADER_MISMATCH, MODBUS_FUNCTION_MISMATCH, MODBUS_FULL}
+use Rattle.modbus_c.specs.declared.status.TheConstants.{MODBUS_DONE, MODBUS_REFUSED, MODBUS_NO_MEMORY, MODBUS_NO_ROOM, MODBUS_UNTOLD, MODBUS_TOO_LONG, MODBUS_WAITING, MODBUS_NO_LENGTH, MODBUS_FOREIGN, MODBUS_CROWD, MODBUS_HEADER_MISMATCH, MODBUS_FUNCTION_MISMATCH, MODBUS_FULL, MODBUS_MISMATCH}
 
 abbrev pub reason_number : Reason → ℕ
 reason_number reason.UnexpectedEnd = 1
@@ -25,9 +25,13 @@ IsReading s = (s ≡ MODBUS_DONE) ⊎ (s ≡ MODBUS_REFUSED) ⊎ (s ≡ MODBUS_U
 abbrev pub IsWriting : ℕ → Type 0
 IsWriting s = (s ≡ MODBUS_DONE) ⊎ (s ≡ MODBUS_UNTOLD) ⊎ (s ≡ MODBUS_NO_ROOM) ⊎ (s ≡ MODBUS_TOO_LONG) ⊎ (s ≡ MODBUS_NO_MEMORY)
 
+-- the statuses of the beginning of a call
+abbrev pub IsBeginning : ℕ → Type 0
+IsBeginning s = IsWriting s ⊎ (s ≡ MODBUS_REFUSED)
+
 -- the statuses of the judgement of a reply, and of the answer of a call
 abbrev pub IsTelling : ℕ → Type 0
-IsTelling s = (s ≡ MODBUS_DONE) ⊎ (s ≡ MODBUS_HEADER_MISMATCH) ⊎ (s ≡ MODBUS_FUNCTION_MISMATCH) ⊎ (s ≡ MODBUS_UNTOLD) ⊎ (s ≡ MODBUS_NO_ROOM)
+IsTelling s = (s ≡ MODBUS_DONE) ⊎ (s ≡ MODBUS_HEADER_MISMATCH) ⊎ (s ≡ MODBUS_FUNCTION_MISMATCH) ⊎ (s ≡ MODBUS_MISMATCH) ⊎ (s ≡ MODBUS_UNTOLD) ⊎ (s ≡ MODBUS_NO_ROOM)
 
 abbrev pub IsAnswering : ℕ → Type 0
 IsAnswering s = IsTelling s ⊎ (s ≡ MODBUS_REFUSED) ⊎ (s ≡ MODBUS_NO_MEMORY) ⊎ (s ≡ MODBUS_WAITING) ⊎ (s ≡ MODBUS_FULL)

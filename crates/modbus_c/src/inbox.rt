@@ -1,6 +1,6 @@
 //! The bytes of a serial line that were fed and not used yet, in memory of the caller: nothing of it is on the heap, and nothing is to be
 //! closed.
-ghost use Rattle.std.specs.Prelude.{◌≡◌, ◌+◌, ◌≤◌, ◌<◌, ◌++◌, Result, take, drop, length, true, false};
+ghost use Rattle.std.specs.Prelude.{◌≡◌, ◌-◌, ◌≤◌, ◌<◌, ◌++◌, min, Result, take, drop, length};
 ghost use Rattle.modbus_rtu.specs.declared.front.Crowd.{Crowd as Crowded};
 ghost use Rattle.modbus_tcp.specs.Limits.{longest_response};
 ghost use Rattle.modbus_store.specs.Lent.{tables_of};
@@ -59,20 +59,17 @@ pub extern "C" fn modbus_inbox_open(inbox: &mut ModbusInbox)
     inbox.len = 0;
 }
 
-/// Appends a piece, where there is room for it; else nothing changes.
+/// Appends the first bytes of a piece, as many as there is room for, and tells how many.
 #[unsafe(no_mangle)]
-pub extern "C" fn modbus_inbox_feed(inbox: &mut ModbusInbox, piece: &[u8]) -> bool
-    ensures fed { result ≡ true → held inbox.new ≡ held inbox.old ++ piece.now }
-    ensures kept { result ≡ false → (inbox.new ≡ inbox.old)
-        × (room < length (held inbox.old) + length piece.now) }
+pub extern "C" fn modbus_inbox_feed(inbox: &mut ModbusInbox, piece: &[u8]) -> usize
+    ensures fed { held inbox.new ≡ held inbox.old ++ take result piece.now }
+    ensures most { result ≡ min (length piece.now) (room - length (held inbox.old)) }
 {
     let start = count(inbox);
-    if piece.len() > INBOX_ROOM - start {
-        return false;
-    }
-    inbox.bytes[start..start + piece.len()].copy_from_slice(piece);
-    inbox.len = start + piece.len();
-    true
+    let fed = piece.len().min(INBOX_ROOM - start);
+    inbox.bytes[start..start + fed].copy_from_slice(&piece[..fed]);
+    inbox.len = start + fed;
+    fed
 }
 
 /// Answers the next frame that is held by the caller's tables, and takes it off with all bytes before it. Where the output has less than

@@ -10,6 +10,7 @@ mod begin;
 mod call;
 mod export;
 mod find;
+mod fits;
 mod inbox;
 mod put;
 mod reply;

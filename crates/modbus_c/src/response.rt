@@ -36,7 +36,7 @@ pub struct ModbusResponse {
 }
 
 /// A response of a function, with no field that tells anything.
-fn blank(function: u8) -> ModbusResponse
+pub(crate) fn blank(function: u8) -> ModbusResponse
     ensures { result ≡ blank_of function }
 {
     ModbusResponse {
@@ -114,7 +114,7 @@ fn flatten(answer: &Response) -> Option<ModbusResponse>
 }
 
 /// The numbers of a response or an exception; `None` where the struct does not tell its function.
-fn flatten_answer(answer: &Result<Response, ExceptionResponse>) -> Option<ModbusResponse>
+pub(crate) fn flatten_answer(answer: &Result<Response, ExceptionResponse>) -> Option<ModbusResponse>
     ensures { result ≡ flat_answer answer.now }
 {
     match answer {
@@ -128,7 +128,7 @@ fn flatten_answer(answer: &Result<Response, ExceptionResponse>) -> Option<Modbus
 }
 
 /// The registers that an answer tells.
-fn words_of(answer: &Result<Response, ExceptionResponse>) -> &[Word]
+pub(crate) fn words_of(answer: &Result<Response, ExceptionResponse>) -> &[Word]
     ensures { result.now ≡ words_told answer.now }
 {
     match answer {
@@ -152,11 +152,46 @@ fn coils_of(answer: &Result<Response, ExceptionResponse>) -> &[Coil]
     }
 }
 
+/// Writes what was told: the numbers to the struct, and the registers and coils to the fronts of the lists.
+///
+/// `MODBUS_DONE`; `MODBUS_UNTOLD` where there are no numbers; or `MODBUS_NO_ROOM` where a list is longer than the caller's. Where it is not
+/// done, nothing is written.
+pub(crate) fn put_told(
+    flat: Option<ModbusResponse>,
+    told_words: &[Word],
+    told_coils: &[Coil],
+    response: &mut ModbusResponse,
+    words: &mut [Word],
+    coils: &mut [Coil],
+) -> ModbusDone
+    ensures done { result.status ≡ MODBUS_DONE → (flat ≡ Some response.new)
+        × (words.new ≡ laid told_words.now words.old)
+        × (coils.new ≡ laid told_coils.now coils.old) }
+    ensures untold { result.status ≡ MODBUS_UNTOLD → flat ≡ None }
+    ensures room { result.status ≡ MODBUS_NO_ROOM
+        → (length words.old < length told_words.now) ⊎ (length coils.old < length told_coils.now) }
+    ensures kept { result.status ≢ MODBUS_DONE → (response.new ≡ response.old)
+        × (words.new ≡ words.old) × (coils.new ≡ coils.old) }
+    ensures status { (result.status ≡ MODBUS_DONE) ⊎ (result.status ≡ MODBUS_UNTOLD)
+        ⊎ (result.status ≡ MODBUS_NO_ROOM) }
+{
+    let Some(told) = flat else {
+        return nothing(MODBUS_UNTOLD, 0);
+    };
+    if words.len() < told_words.len() || coils.len() < told_coils.len() {
+        return nothing(MODBUS_NO_ROOM, 0);
+    }
+    put_front(told_words, words);
+    put_front(told_coils, coils);
+    *response = told;
+    nothing(MODBUS_DONE, 0)
+}
+
 /// Writes the numbers of an answer, and the registers and coils that it tells to the fronts of the lists.
 ///
 /// `MODBUS_DONE`; `MODBUS_UNTOLD` where the struct does not tell its function; or `MODBUS_NO_ROOM` where a list is longer than the
 /// caller's. Where it is not done, nothing is written.
-pub(crate) fn put_answer(
+fn put_answer(
     answer: &Result<Response, ExceptionResponse>,
     response: &mut ModbusResponse,
     words: &mut [Word],
@@ -173,18 +208,14 @@ pub(crate) fn put_answer(
     ensures status { (result.status ≡ MODBUS_DONE) ⊎ (result.status ≡ MODBUS_UNTOLD)
         ⊎ (result.status ≡ MODBUS_NO_ROOM) }
 {
-    let Some(flat) = flatten_answer(answer) else {
-        return nothing(MODBUS_UNTOLD, 0);
-    };
-    let words_found = words_of(answer);
-    let coils_found = coils_of(answer);
-    if words.len() < words_found.len() || coils.len() < coils_found.len() {
-        return nothing(MODBUS_NO_ROOM, 0);
-    }
-    put_front(words_found, words);
-    put_front(coils_found, coils);
-    *response = flat;
-    nothing(MODBUS_DONE, 0)
+    put_told(
+        flatten_answer(answer),
+        words_of(answer),
+        coils_of(answer),
+        response,
+        words,
+        coils,
+    )
 }
 
 /// Reads the PDU of a response or an exception: its numbers go to `response`, the registers and coils that it tells to the fronts of

@@ -47,6 +47,9 @@ pub const MODBUS_FUNCTION_MISMATCH: u32 = 12;
 /// No whole message, and no room for more bytes.
 pub const MODBUS_FULL: u32 = 13;
 
+/// The reply is of the slave and the function that were asked, and does not fit the request.
+pub const MODBUS_MISMATCH: u32 = 15;
+
 /// The number of a reason.
 pub(crate) fn number_of(reason: Reason) -> u32
     ensures { result ≡ reason_number reason }
