@@ -1,8 +1,11 @@
-/* A Modbus TCP server on the loopback address: sockets in C, every byte of the protocol by the library.
+/* A Modbus TCP server on the loopback address: sockets in C, every byte of the protocol by the library. It has room for 64 connections: one
+ * more takes the place of that which was idle for longest, and one that does not take its replies is closed.
  * usage: server [PORT]; without a port, or with 0, any free one. It prints the port. */
 #include "modbus.h"
 
 #include <arpa/inet.h>
+#include <errno.h>
+#include <fcntl.h>
 #include <poll.h>
 #include <stdio.h>
 #include <stdlib.h>
@@ -18,10 +21,13 @@ static uint16_t holding_registers[ENTRIES], input_registers[ENTRIES];
 struct connection {
     uint8_t held[HELD];
     size_t held_len;
+    unsigned long long turn; /* when bytes came last, by the number of its turn */
 };
 
 static struct connection connections[CONNECTIONS + 1];
 static struct pollfd polled[CONNECTIONS + 1];
+static nfds_t count = 1; /* the listener, and the connections behind it */
+static unsigned long long turns;
 
 /* Answers the ADU at the front of these bytes. */
 static modbus_served serve(const uint8_t *input, size_t input_len, uint8_t *output, size_t output_len) {
@@ -29,7 +35,8 @@ static modbus_served serve(const uint8_t *input, size_t input_len, uint8_t *outp
                             ENTRIES, false, output, output_len);
 }
 
-/* Answers all whole ADUs that are held, and keeps the rest. Whether the connection goes on. */
+/* Answers all whole ADUs that are held, and keeps the rest. Whether the connection goes on: it does not where a reply is not taken at once,
+ * and where all room is full of no whole ADU. */
 static bool answer(int socket, struct connection *it) {
     size_t at = 0;
     bool goes_on = true;
@@ -57,18 +64,45 @@ static bool answer(int socket, struct connection *it) {
 /* Reads what came, and answers it. Whether the connection goes on. */
 static bool turn(int socket, struct connection *it) {
     ssize_t got = recv(socket, it->held + it->held_len, HELD - it->held_len, 0);
+    if (got < 0 && (errno == EAGAIN || errno == EINTR)) {
+        return true;
+    }
     if (got <= 0) {
         return false;
     }
     it->held_len += (size_t)got;
+    it->turn = ++turns;
     return answer(socket, it);
+}
+
+/* Closes a connection, and puts the last one at its place. */
+static void drop(nfds_t i) {
+    close(polled[i].fd);
+    count--;
+    polled[i] = polled[count];
+    connections[i] = connections[count];
+}
+
+/* Takes a connection in; where there is no room, that which was idle for longest goes. */
+static void take(int socket) {
+    nfds_t idle = 1;
+    if (count > CONNECTIONS) {
+        for (nfds_t i = 2; i < count; i++) {
+            idle = connections[i].turn < connections[idle].turn ? i : idle;
+        }
+        drop(idle);
+    }
+    fcntl(socket, F_SETFL, O_NONBLOCK);
+    polled[count] = (struct pollfd){.fd = socket, .events = POLLIN};
+    connections[count].held_len = 0;
+    connections[count].turn = ++turns;
+    count++;
 }
 
 int main(int argc, char **argv) {
     struct sockaddr_in here = {.sin_family = AF_INET};
     socklen_t size = sizeof here;
     int one = 1, listener = socket(AF_INET, SOCK_STREAM, 0);
-    nfds_t count = 1;
     here.sin_addr.s_addr = htonl(INADDR_LOOPBACK);
     here.sin_port = htons((uint16_t)(argc > 1 ? atoi(argv[1]) : 0));
     setsockopt(listener, SOL_SOCKET, SO_REUSEADDR, &one, sizeof one);
@@ -88,18 +122,13 @@ int main(int argc, char **argv) {
         poll(polled, count, -1);
         for (nfds_t i = count - 1; i > 0; i--) {
             if (polled[i].revents && !turn(polled[i].fd, &connections[i])) {
-                close(polled[i].fd);
-                count--;
-                polled[i] = polled[count];
-                connections[i] = connections[count];
+                drop(i);
             }
         }
-        if (polled[0].revents && count <= CONNECTIONS) {
+        if (polled[0].revents) {
             int taken = accept(listener, NULL, NULL);
             if (taken >= 0) {
-                polled[count] = (struct pollfd){.fd = taken, .events = POLLIN};
-                connections[count].held_len = 0;
-                count++;
+                take(taken);
             }
         }
     }
