@@ -11,3 +11,5 @@ pub mod Texts
 pub mod OnlyOne
 pub mod Trimmed
 mod TableReads
+mod Planning
+mod Stopping

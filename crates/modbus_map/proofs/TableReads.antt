@@ -1,14 +1,25 @@
 -- Reads of a table, one after another.
-use Rattle.std.proofs.Common.{◌≡◌, ℕ, zero, suc, ◌<◌, List, [], ◌∷◌, ◌++◌, length, take, get_or, slice_get, Some, Result, Ok, Err, refl, sym, subst, arith}
+use Rattle.std.proofs.Common.{◌≡◌, ℕ, Bool, zero, suc, ◌<◌, List, [], ◌∷◌, ◌++◌, length, take, get_or, slice_get, Some, Result, Ok, Err, map, inl, inr, refl, sym, subst, arith}
 use Rattle.std.specs.Result.{IfErr, IsErrAnd}
-use Rattle.modbus_client.specs.Typed.{AnswerOf}
+use Rattle.modbus_client.specs.Typed.{AnswerOf, answer_map}
 use Rattle.modbus_poll.specs.declared.read.Read.{Read}
 use Rattle.modbus_poll.specs.declared.polling.PollError.{PollError}
 use Rattle.modbus_poll.specs.declared.polling.PollError.TheVariants as poll
 use Rattle.modbus_map.specs.declared.given.Given.{Given}
-use Rattle.modbus_map.specs.Asking.{Asking, TakesGiven, Gives, ReadsOne, ReadsAll, StopsAt, Stops}
+use Rattle.modbus_map.specs.Asking.{Asking, word_of, TakesGiven, IsLost, Loses, Gives, ReadsOne, ReadsAll, StopsAt, Stops}
+
+lost_words : (states : AnswerOf (List Bool)) → IsLost states → IsLost (answer_map (map word_of) states)
+lost_words (Err fault) lost = lost
+lost_words (Ok (Err code)) lost = absurd lost
+lost_words (Ok (Ok found)) lost = tt
 
 module _ {S : Type 0} (asks : Asking S) where
+  -- there was no memory for the words of bits
+  pub loses_bits : {B E : Type 0} (old new : S) (read : Read) (states : AnswerOf (List Bool)) (result : Result B E) → asks old read (answer_map (map word_of) states) new
+      → IfErr result (λ error. IsLost states) → IfErr result (λ error. Loses asks old read new)
+  loses_bits old new read states (Ok x) asked lost = tt
+  loses_bits old new read states (Err e) asked lost = record { answer = answer_map (map word_of) states; asked = asked; lost = lost_words states lost }
+
   -- one read, by its answer
   pub reads_one : (old new : S) (place : ℕ) (read : Read) (answer : AnswerOf (List ℕ)) (result : Result Given PollError) → asks old read answer new
       → TakesGiven place read answer result → ReadsOne asks old place read result new
@@ -18,7 +29,8 @@ module _ {S : Type 0} (asks : Asking S) where
   reads_one old new place read answer (Err (poll.Exception at code)) asked takes = absurd takes
   reads_one old new place read answer (Err (poll.Words at count)) asked takes =
       (takes.0, takes.1, subst (λ a. asks old read a new) takes.2 asked, takes.3, takes.4)
-  reads_one old new place read answer (Err poll.NoMemory) asked takes = tt
+  reads_one old new place read answer (Err poll.NoMemory) asked takes =
+      record { answer = answer; asked = asked; lost = subst (λ (a : AnswerOf (List ℕ)). IsLost a) (sym takes) refl }
 
   -- one read more
   pub reads_more : (reads : List Read) (place : ℕ) (found : List Given) (old before new : S) (d : Read) (given : Given) → place < length reads
@@ -46,7 +58,8 @@ module _ {S : Type 0} (asks : Asking S) where
       record { place = place; found = found; before = before; earlier = made; read = read; is = is; failed = failed }
   stops_one reads place found old before new read (poll.Words at count) is made failed =
       record { place = place; found = found; before = before; earlier = made; read = read; is = is; failed = failed }
-  stops_one reads place found old before new read poll.NoMemory is made failed = tt
+  stops_one reads place found old before new read poll.NoMemory is made failed =
+      inr (record { place = place; found = found; before = before; earlier = made; read = read; is = is; failed = failed })
 
   -- what stands after a result that tells this error
   pub stops_with : {B : Type 0} (reads : List Read) (old new : S) (error : PollError) (result : Result B PollError) → IsErrAnd result (λ told. told ≡ error)

@@ -1,5 +1,5 @@
 -- Reads of a device's tables, and what each was answered (Modbus Application Protocol V1.1b3, sections 6.1 to 6.4).
-use Rattle.std.specs.Prelude.{◌≡◌, ◌≢◌, ℕ, Bool, List, [], ◌∷◌, length, map, take, slice_get, Option, Some, None, Result, Ok, Err, IfOk, if◌then◌else◌, ⊤}
+use Rattle.std.specs.Prelude.{◌≡◌, ◌≢◌, ◌⊎◌, ℕ, Bool, List, [], ◌∷◌, length, map, take, slice_get, Option, Some, None, Result, Ok, Err, IfOk, if◌then◌else◌, ⊤}
 use Rattle.modbus_frame.specs.Meaning.{Asked, ReadCoils, ReadDiscreteInputs, ReadInputRegisters, ReadHoldingRegisters}
 use Rattle.modbus_frame.specs.declared.fault.Error.TheVariants as error
 use Rattle.modbus_client.specs.Matches.{Answer}
@@ -40,7 +40,7 @@ TakesGiven place read answer (Err (poll.Call at fault)) = (at ≡ place) × (fau
 TakesGiven place read answer (Err (poll.Exception at code)) = ⊥
 TakesGiven place read answer (Err (poll.Words at count)) =
     (at ≡ place) × (words : List ℕ) × (answer ≡ Ok (Ok words)) × (count ≡ length words) × (count ≢ read.count)
-TakesGiven place read answer (Err poll.NoMemory) = ⊤
+TakesGiven place read answer (Err poll.NoMemory) = answer ≡ Err error.NoMemory
 
 -- A read was made once: it gave as many words as it asks for, or was refused with an exception.
 pub record Gives {S : Type 0} (asks : Asking S) (old : S) (read : Read) (given : Given) (new : S) : Type 0 where
@@ -48,15 +48,27 @@ pub record Gives {S : Type 0} (asks : Asking S) (old : S) (read : Read) (given :
   pub asked : asks old read (Ok given.words) new
   pub counted : IfOk given.words (λ words. length words ≡ read.count)
 
--- The read at this place was made once. It gave so; or its call failed, or it was answered with another number of words. Where memory was
--- refused that is told, whatever was answered.
+-- what may be lost for want of memory: the answer of a call that had none for it, or the words that were read
+abbrev pub IsLost : {A : Type 0} → AnswerOf A → Type 0
+IsLost (Err fault) = fault ≡ error.NoMemory
+IsLost (Ok (Err code)) = ⊥
+IsLost (Ok (Ok found)) = ⊤
+
+-- A read was made once, and there was no memory for its answer.
+pub record Loses {S : Type 0} (asks : Asking S) (old : S) (read : Read) (new : S) : Type 0 where
+  pub answer : AnswerOf (List ℕ)
+  pub asked : asks old read answer new
+  pub lost : IsLost answer
+
+-- The read at this place was made once. It gave so; or its call failed, or it was answered with another number of words, or there was no
+-- memory for its answer.
 abbrev pub ReadsOne : {S : Type 0} → Asking S → S → ℕ → Read → Result Given PollError → S → Type 0
 ReadsOne asks old place read (Ok given) new = Gives asks old read given new
 ReadsOne asks old place read (Err (poll.Call at fault)) new = (at ≡ place) × (fault ≢ error.NoMemory) × asks old read (Err fault) new
 ReadsOne asks old place read (Err (poll.Exception at code)) new = ⊥
 ReadsOne asks old place read (Err (poll.Words at count)) new =
     (at ≡ place) × (words : List ℕ) × asks old read (Ok (Ok words)) new × (count ≡ length words) × (count ≢ read.count)
-ReadsOne asks old place read (Err poll.NoMemory) new = ⊤
+ReadsOne asks old place read (Err poll.NoMemory) new = Loses asks old read new
 
 -- the reads were made in order, each once
 abbrev pub ReadsAll : {S : Type 0} → Asking S → S → List Read → List Given → S → Type 0
@@ -74,7 +86,7 @@ pub record StopsAt {S : Type 0} (asks : Asking S) (old : S) (reads : List Read) 
   pub is : slice_get reads place ≡ Some read
   pub failed : ReadsOne asks before place read (Err error) new
 
--- reads were made until one failed; or memory was refused, which is told whatever was answered
+-- Reads were made until one failed. Memory was refused before the first of them, or in one, which was made.
 abbrev pub Stops : {S : Type 0} → Asking S → S → List Read → PollError → S → Type 0
-Stops asks old reads poll.NoMemory new = ⊤
+Stops asks old reads poll.NoMemory new = (new ≡ old) ⊎ StopsAt asks old reads poll.NoMemory new
 Stops asks old reads error new = StopsAt asks old reads error new

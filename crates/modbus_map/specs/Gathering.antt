@@ -20,7 +20,9 @@ use Rattle.modbus_map.specs.declared.given.Given.{Given}
 use Rattle.modbus_map.specs.declared.tables.Tables.{Tables}
 use Rattle.modbus_map.specs.Kinds.{width}
 use Rattle.modbus_map.specs.Values.{value}
-use Rattle.modbus_map.specs.Asking.{AsksTable, ReadsAll}
+use Rattle.modbus_poll.specs.declared.polling.PollError.{PollError}
+use Rattle.modbus_map.specs.declared.gathering.TableError.{TableError}
+use Rattle.modbus_map.specs.Asking.{AsksTable, ReadsAll, Stops}
 
 -- the registers or the bit of a point
 abbrev pub span_of : Point → Span
@@ -92,6 +94,38 @@ pub record GathersAll {S : Type 0} (answers : S → Asked → Answer → S → T
   pub discrete_inputs : ReadsAll (AsksTable answers DiscreteInputs) first plans.discrete_inputs found.discrete_inputs second
   pub input_registers : ReadsAll (AsksTable answers InputRegisters) second plans.input_registers found.input_registers third
   pub holding_registers : ReadsAll (AsksTable answers HoldingRegisters) third plans.holding_registers found.holding_registers new
+
+-- what a client may answer, and be then, where it is asked so
+abbrev pub Answering : Type 0 → Type 1
+Answering S = S → Asked → Answer → S → Type 0
+
+-- the reads of a table were made, each once
+abbrev pub ReadsTable : {S : Type 0} → Answering S → Table → S → Tables (List Read) → S → Type 0
+ReadsTable answers table old plans new =
+    (found : List Given) × ReadsAll (AsksTable answers table) old (of_table plans table) found new
+
+-- the reads of the coils were made, and then those of the discrete inputs
+abbrev pub ReadsBits : {S : Type 0} → Answering S → S → Tables (List Read) → S → Type 0
+ReadsBits {S} answers old plans new =
+    (middle : S) × ReadsTable answers Coils old plans middle × ReadsTable answers DiscreteInputs middle plans new
+
+-- the reads of the tables before this one were made, one table after another, each read once
+abbrev pub ReadsBefore : {S : Type 0} → Answering S → Table → S → Tables (List Read) → S → Type 0
+ReadsBefore answers Coils old plans new = new ≡ old
+ReadsBefore answers DiscreteInputs old plans new = ReadsTable answers Coils old plans new
+ReadsBefore answers InputRegisters old plans new = ReadsBits answers old plans new
+ReadsBefore {S} answers HoldingRegisters old plans new =
+    (middle : S) × ReadsBits answers old plans middle × ReadsTable answers InputRegisters middle plans new
+
+-- The reads of a table stopped so, behind those of the tables before it; no later table was read.
+pub record StopsBehind {S : Type 0} (answers : Answering S) (old : S) (plans : Tables (List Read)) (table : Table) (error : PollError) (new : S) : Type 0 where
+  pub before : S
+  pub earlier : ReadsBefore answers table old plans before
+  pub stopped : Stops (AsksTable answers table) before (of_table plans table) error new
+
+-- the reads of a device stopped in the table that is told, for the reason that is told
+abbrev pub StopsIn : {S : Type 0} → Answering S → S → Tables (List Read) → TableError → S → Type 0
+StopsIn answers old plans stop new = StopsBehind answers old plans stop.table stop.error new
 
 -- the same, with what a view shows of each
 abbrev pub seen_by : {A B : Type 0} → (A → B) → Tables A → Tables B

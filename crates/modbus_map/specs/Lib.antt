@@ -1,5 +1,6 @@
 pub mod Asking
 pub mod Gathering
+pub mod Planning
 pub mod Kinds
 pub mod Decimals
 pub mod Orders

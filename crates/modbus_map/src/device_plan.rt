@@ -1,7 +1,8 @@
 //! The poll of a device's points: reads of its tables within its limits, and the value of each point among what they gave.
-ghost use Rattle.std.specs.Prelude.{◌≡◌, ◌≤◌, position, IfOk};
+ghost use Rattle.std.specs.Prelude.{◌≡◌, ◌↔◌, ℕ, ◌≤◌, None, position, IfOk};
 ghost use Rattle.modbus_poll.specs.Spans.{is_within};
 ghost use Rattle.modbus_map.specs.Gathering.{span_of, is_in, spans_in, IsTablePlan, value_of_words, value_given, value_among};
+ghost use Rattle.modbus_map.specs.Planning.{is_over, first_over, IsWhyNoPlan};
 
 use crate::given::Given;
 use crate::kind::Table;
@@ -16,7 +17,7 @@ use std::alloc::{AllocError, Global};
 pub type Found = Option<Result<PointValue, ExceptionCode>>;
 
 /// The registers or the bit of a point.
-fn span_of(point: &Point) -> Span
+pub(crate) fn span_of(point: &Point) -> Span
     ensures { result ≡ span_of point.now }
 {
     Span {
@@ -49,20 +50,59 @@ fn spans_in(alloc: Global, table: Table, points: &[Point]) -> Result<Vec<Span>, 
         .collect(alloc)
 }
 
-/// Plans the reads of one table that give these points, within limits.
+/// Whether a point lies in a table, and no read within limits can give it.
+fn is_over(limits: Limits, table: Table, point: &Point) -> bool
+    ensures { result ≡ is_over limits table point.now }
+{
+    is_in(table, point.table) && !limits.allow(&span_of(point))
+}
+
+/// The place of the first point of a table that no read within limits can give.
+fn first_over(limits: Limits, table: Table, points: &[Point]) -> Option<usize>
+    ensures { result ≡ first_over limits table points.now }
+{
+    points
+        .iter()
+        .position(|point| is_over(limits, table, point))
+}
+
+/// The plan of one table for points, of which a read within limits can give each that lies there.
+pub(crate) fn plan_reached(
+    alloc: Global,
+    table: Table,
+    limits: Limits,
+    points: &[Point],
+) -> Result<Plan, AllocError>
+    requires { first_over limits table points.now ≡ None }
+    ensures { IfOk result (λ plan. IsTablePlan limits (spans_in table points.now) plan) }
+{
+    let spans = spans_in(alloc, table, points)?;
+    match plan_spans(alloc, limits, spans.as_slice()) {
+        Ok(plan) => Ok(plan),
+        Err(PlanError::NoMemory) => Err(AllocError),
+        Err(PlanError::BadItem(_)) => unreachable!(),
+    }
+}
+
+/// Plans the reads of one table that give those of these points that lie there, within limits.
 ///
 /// # Errors
-/// Those of `plan_spans`, by the place among the points of that table.
+/// `BadItem` with the place among these points of the first that lies there and that no read within the limits can give. `NoMemory` where
+/// memory was refused, and there is no such point.
 pub fn plan_table(
     alloc: Global,
     table: Table,
     limits: Limits,
     points: &[Point],
 ) -> Result<Plan, PlanError>
-    ensures { IfOk result (λ plan. IsTablePlan limits (spans_in table points.now) plan) }
+    ensures plan { IfOk result (λ plan. IsTablePlan limits (spans_in table points.now) plan) }
+    ensures refused { (place : ℕ) → (result ≡ Err (PlanError.BadItem place))
+        ↔ IsWhyNoPlan limits table points.now place }
 {
-    let spans = spans_in(alloc, table, points)?;
-    plan_spans(alloc, limits, spans.as_slice())
+    match first_over(limits, table, points) {
+        Some(place) => Err(PlanError::BadItem(place)),
+        None => Ok(plan_reached(alloc, table, limits, points)?),
+    }
 }
 
 /// What the words of a read make of a point that lies so far behind its beginning.

@@ -1,7 +1,7 @@
 //! What the reads of a table were answered.
 ghost use Rattle.std.specs.Prelude.{◌≡◌, map, IfOk, IfErr};
 ghost use Rattle.modbus_client.specs.Typed.{AnswerOf, answer_map};
-ghost use Rattle.modbus_map.specs.Asking.{word_of, AsksTable, TakesGiven, ReadsOne, ReadsAll, Stops};
+ghost use Rattle.modbus_map.specs.Asking.{word_of, AsksTable, TakesGiven, IsLost, Loses, ReadsOne, ReadsAll, Stops};
 
 use crate::kind::Table;
 use modbus_client::Reader;
@@ -41,8 +41,9 @@ fn answer_in_words(
     alloc: Global,
     answer: modbus_frame::Result<Vec<Coil>>,
 ) -> Result<modbus_frame::Result<Words>, AllocError>
-    ensures { IfOk result (λ told.
+    ensures told { IfOk result (λ told.
         told ≡ answer_map (map word_of) (answer_map (λ v. v.items) answer)) }
+    ensures lost { IfErr result (λ error. IsLost (answer_map (λ v. v.items) answer)) }
 {
     match answer {
         Ok(Ok(states)) => Ok(Ok(Ok(words_of(alloc, states.as_slice())?))),
@@ -65,15 +66,17 @@ fn answer_of_words(answer: modbus_frame::Result<Vec<Word>>) -> modbus_frame::Res
 /// Asks a client one read of a table.
 ///
 /// # Errors
-/// Refused memory, for the words of bits.
+/// Refused memory, for the words of bits that were read.
 fn ask<R: Reader>(
     alloc: Global,
     reader: &mut R,
     table: Table,
     read: &Read,
 ) -> Result<modbus_frame::Result<Words>, AllocError>
-    ensures { IfOk result (λ answer.
+    ensures asked { IfOk result (λ answer.
         AsksTable R.Client.answers table reader.old read.now answer reader.new) }
+    ensures lost { IfErr result (λ error.
+        Loses (AsksTable R.Client.answers table) reader.old read.now reader.new) }
 {
     let (address, count) = (read.address, read.count);
     match table {
@@ -117,7 +120,7 @@ fn given_by(
 /// Makes the read at this place.
 ///
 /// # Errors
-/// `Call` where the call failed. `Words` where another number of words came. `NoMemory` where memory was refused.
+/// `Call` where the call failed. `Words` where another number of words came. `NoMemory` where memory was refused for its answer.
 fn read_one<R: Reader>(
     alloc: Global,
     reader: &mut R,
@@ -139,7 +142,7 @@ fn read_one<R: Reader>(
 ///
 /// # Errors
 /// `Call` with the place of the read whose call failed, and `Words` of the one that gave another number of words; no later one was made.
-/// `NoMemory` where memory was refused.
+/// `NoMemory` where memory was refused before the first read, or in one that was made, the last one.
 pub fn read_table<R: Reader>(
     alloc: Global,
     reader: &mut R,

@@ -1,4 +1,4 @@
-use Rattle.std.proofs.Common.{take, get_or, rules, arith, subst, add-one}
+use Rattle.std.proofs.Common.{take, get_or, rules, arith, subst, add-one, inl, refl}
 use Rattle.std.proofs.lemmas.List.{length-take-le}
 use Rattle.std.proofs.lemmas.Option.{slice_get-get_or}
 use Rattle.modbus_poll.specs.declared.polling.PollError.TheVariants.{NoMemory}
@@ -8,7 +8,7 @@ use Rattle.modbus_map.proofs.given.read_table.Goals as goal
 
 pub returns-in_err-found-clause-stops : goal.returns-in_err-found-clause-stops
 returns-in_err-found-clause-stops g c =
-    stops_with (AsksTable g.R.Client.answers c.args.table) c.args.reads.now c.args.reader.now _ NoMemory _ c.from_residual.ensures.1 tt
+    stops_with (AsksTable g.R.Client.answers c.args.table) c.args.reads.now c.args.reader.now _ NoMemory _ c.from_residual.ensures.1 (inl refl)
 
 pub returns-in_err-given-clause-stops : goal.returns-in_err-given-clause-stops
 returns-in_err-given-clause-stops g c =
