@@ -1,8 +1,9 @@
 //! Clients of devices, by the link that each is reached by.
-ghost use Rattle.std.specs.Prelude.{◌≡◌, ◌*◌, IfOk};
+ghost use Rattle.std.specs.Prelude.{◌≡◌, ◌*◌, IfOk, IfErr};
 ghost use Rattle.std.specs.Duration.{as_nanos};
 ghost use Rattle.modbus_adapter.specs.Paced.{pause_micros};
 ghost use Rattle.modbus_plant.specs.Opened.{line_deadline, IsTcpClient, IsRtuClient, IsSerialClient, IsEchoedClient, IsOnLine, IsClientBy};
+ghost use Rattle.modbus_plant.specs.Unopened.{IsSpelled, IsNoAddress, IsOfLookup, IsAddressOf, IsWhyNoAddress, IsWhyNoPort, IsWhyUnopened, IsReachedBy};
 
 use crate::connector::{TellingConnector, TellingWatcher};
 use crate::host::host_and_port;
@@ -54,12 +55,16 @@ pub type DeviceClient<'r, R> = LinkedClient<
     EchoedDevice<'r, R>,
 >;
 
-/// The first address of a host.
-fn address_of<R: Net>(rt: &R, host: &str) -> Result<SocketAddr, OpenError> {
-    let Some(pair) = host_and_port(host) else {
-        return Err(OpenError::Host);
-    };
-    match pair.to_socket_addrs(rt) {
+/// The first address that the system knows of a host, with a port.
+///
+/// # Errors
+/// `Address` and `NoAddress`, neither of which comes for a host that is an address itself.
+fn first_address<R: Net>(rt: &R, host: &str, port: u16) -> Result<SocketAddr, OpenError>
+    ensures address { IfOk result (IsSpelled host.now port) }
+    ensures why { IfErr result IsOfLookup }
+    ensures unspelled { IfErr result (λ error. IsNoAddress host.now) }
+{
+    match (host, port).to_socket_addrs(rt) {
         Ok(mut addresses) => match addresses.next() {
             Some(address) => Ok(address),
             None => Err(OpenError::NoAddress),
@@ -68,13 +73,28 @@ fn address_of<R: Net>(rt: &R, host: &str) -> Result<SocketAddr, OpenError> {
     }
 }
 
+/// The first address of the host that a word names.
+///
+/// # Errors
+/// `Host` where it names none; else those of `first_address`.
+fn address_of<R: Net>(rt: &R, word: &str) -> Result<SocketAddr, OpenError>
+    ensures address { IfOk result (IsAddressOf word.now) }
+    ensures why { IfErr result (IsWhyNoAddress word.now) }
+{
+    let Some((host, port)) = host_and_port(word) else {
+        return Err(OpenError::Host);
+    };
+    first_address(rt, host, port)
+}
+
 /// A client of a Modbus TCP device at this address.
 fn tcp_client<'r, R: Net<Stream = TcpStream> + Clock + AllocGlobal + Sync>(
     rt: &'r R,
     address: SocketAddr,
     settings: &Settings,
 ) -> TcpDevice<'r, R>
-    ensures { IsTcpClient settings.now result }
+    ensures client { IsTcpClient settings.now result }
+    ensures address { result.address ≡ address }
 {
     let limit = Some(settings.timeout);
     let connector = DeadlineConnector::new(rt, TellingConnector::new(rt), limit);
@@ -90,7 +110,8 @@ fn rtu_client<'r, R: Net<Stream = TcpStream> + Clock + AllocGlobal + Sync>(
     address: SocketAddr,
     settings: &Settings,
 ) -> RtuDevice<'r, R>
-    ensures { IsRtuClient settings.now result }
+    ensures client { IsRtuClient settings.now result }
+    ensures address { result.address ≡ address }
 {
     let limit = Some(settings.timeout);
     let connector = DeadlineConnector::new(rt, TellingWatcher::new(rt), limit);
@@ -109,7 +130,9 @@ fn open_port<'r, R: Net + Clock + Files<File = File> + AllocGlobal>(
     path: &str,
     settings: &Settings,
 ) -> Result<Port<'r, R>, OpenError>
-    ensures { IfOk result (λ port. as_nanos port.pause ≡ pause_micros settings.now.baud * 1_000) }
+    ensures pause { IfOk result (λ port.
+        as_nanos port.pause ≡ pause_micros settings.now.baud * 1_000) }
+    ensures why { IfErr result IsWhyNoPort }
 {
     let reader = match File::options().read(true).write(true).open(rt, path) {
         Ok(file) => file,
@@ -175,7 +198,8 @@ fn open_serial<'r, R: Net<Stream = TcpStream> + Clock + Files<File = File> + All
     path: &str,
     settings: &Settings,
 ) -> Result<DeviceClient<'r, R>, OpenError>
-    ensures { IfOk result (IsOnLine settings.now) }
+    ensures client { IfOk result (IsOnLine settings.now) }
+    ensures why { IfErr result IsWhyNoPort }
 {
     let port = match open_port(rt, path, settings) {
         Ok(port) => port,
@@ -192,14 +216,16 @@ fn open_serial<'r, R: Net<Stream = TcpStream> + Clock + Files<File = File> + All
 /// of a serial port is open.
 ///
 /// # Errors
-/// `Host` where a link over TCP names none; `Address` with what the system said where it knows no address of the host, and `NoAddress` where
-/// the host has none. `File` with what the system said where the file of a serial port can't be opened, and `NoTerminal` where it is no
-/// terminal. Whether a terminal is raw can't be told: where it is not, no answer comes.
+/// `Host` where a link over TCP names none. `Address` with what the system said where it knows no address of the host, and `NoAddress` where
+/// the host has none; neither comes for a host that is an address itself. `File` with what the system said where the file of a serial port
+/// can't be opened, and `NoTerminal` where it is no terminal. Whether a terminal is raw can't be told: where it is not, no answer comes.
 pub fn open_device<
     'r,
     R: Net<Stream = TcpStream> + Clock + Files<File = File> + AllocGlobal + Sync,
 >(rt: &'r R, link: &LinkKind, settings: Settings) -> Result<DeviceClient<'r, R>, OpenError>
-    ensures { IfOk result (IsClientBy link.now settings) }
+    ensures client { IfOk result (IsClientBy link.now settings) }
+    ensures reached { IfOk result (IsReachedBy link.now) }
+    ensures why { IfErr result (IsWhyUnopened link.now) }
 {
     match link {
         LinkKind::Tcp(host) => match address_of(rt, host.as_str()) {
