@@ -3,3 +3,4 @@ pub mod Influx
 pub mod JsonLines
 pub mod Readings
 pub mod Rows
+pub mod Told

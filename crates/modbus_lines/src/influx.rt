@@ -28,7 +28,7 @@ fn push_known(
 }
 
 /// Appends the field of a point behind a comma, where it has a value.
-fn push_field(fields: &mut Vec<u8>, reading: &Reading<'_>) -> Result<(), AllocError>
+pub(crate) fn push_field(fields: &mut Vec<u8>, reading: &Reading<'_>) -> Result<(), AllocError>
     ensures { OnOk result (fields.new.items ≡ fields.old.items ++ influx_field reading.now) }
 {
     match (&reading.found, &reading.text) {
@@ -67,7 +67,7 @@ fn integer_text(alloc: Global, number: i64) -> Result<String, AllocError>
 }
 
 /// Appends what stands behind the fields: the time.
-fn push_tail(alloc: Global, line: &mut Vec<u8>, nanos: i64) -> Result<(), AllocError>
+pub(crate) fn push_tail(alloc: Global, line: &mut Vec<u8>, nanos: i64) -> Result<(), AllocError>
     ensures { OnOk result (line.new.items ≡ line.old.items ++ influx_tail nanos) }
 {
     line.push(b' ')?;
@@ -77,7 +77,12 @@ fn push_tail(alloc: Global, line: &mut Vec<u8>, nanos: i64) -> Result<(), AllocE
 }
 
 /// A line with these fields, of which no comma stands before the first.
-fn line_of(alloc: Global, nanos: i64, device: &str, fields: &[u8]) -> Result<Vec<u8>, AllocError>
+pub(crate) fn line_of(
+    alloc: Global,
+    nanos: i64,
+    device: &str,
+    fields: &[u8],
+) -> Result<Vec<u8>, AllocError>
     ensures { IfOk result (λ line. line.items ≡ line_of nanos device.now fields.now) }
 {
     let mut line = head(alloc, device)?;

@@ -95,7 +95,7 @@ fn push_escaped(line: &mut Vec<u8>, text: &[u8]) -> Result<(), AllocError>
 }
 
 /// Appends a text in quotation marks.
-fn push_text(line: &mut Vec<u8>, text: &str) -> Result<(), AllocError>
+pub(crate) fn push_text(line: &mut Vec<u8>, text: &str) -> Result<(), AllocError>
     ensures { OnOk result (line.new.items ≡ line.old.items ++ quoted_text text.now) }
 {
     line.push(b'"')?;

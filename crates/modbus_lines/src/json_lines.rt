@@ -52,7 +52,7 @@ fn json_text<'r>(reading: &'r Reading<'_>) -> &'r str
 }
 
 /// Appends the value of a point.
-fn push_value(
+pub(crate) fn push_value(
     line: &mut Vec<u8>,
     large: LargeNumbers,
     reading: &Reading<'_>,
@@ -79,7 +79,7 @@ fn quoted(alloc: Global, text: &str) -> Result<Vec<u8>, AllocError>
 }
 
 /// Appends a text as a string of JSON.
-fn push_quoted(alloc: Global, line: &mut Vec<u8>, text: &str) -> Result<(), AllocError>
+pub(crate) fn push_quoted(alloc: Global, line: &mut Vec<u8>, text: &str) -> Result<(), AllocError>
     ensures { OnOk result (line.new.items ≡ line.old.items ++ quoted text.now) }
 {
     line.extend_from_slice(quoted(alloc, text)?.as_slice())

@@ -88,6 +88,24 @@ pub(crate) fn text_of_found(
     }
 }
 
+/// A reading of one point: what it is, and the text of that in a format where it is a value.
+///
+/// # Errors
+/// Refused memory.
+pub fn reading_of<'p>(
+    alloc: Global,
+    format: Format,
+    point: &'p Point,
+    found: Found,
+) -> Result<Reading<'p>, AllocError>
+    ensures point { IfOk result (λ reading. reading.point.now ≡ point.now) }
+    ensures found { IfOk result (λ reading. reading.found ≡ found) }
+    ensures text { IfOk result (λ reading. IsTextOfFound format found reading.text) }
+{
+    let text = text_of_found(alloc, format, &found)?;
+    Ok(Reading { point, found, text })
+}
+
 /// The points in their order, with what the reads of their tables give of each.
 fn readings_of<'p>(
     alloc: Global,

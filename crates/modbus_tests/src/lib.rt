@@ -22,3 +22,5 @@ mod map;
 mod plant;
 #[cfg(test)]
 mod store;
+#[cfg(test)]
+mod told;
