@@ -96,6 +96,15 @@ impl<'a, P: Protocol, L: PolledLink + Drop, S: Readiness<L>> Fleet<'a, P, L, S> 
         Ok(self.devices.insert_reserved(device))
     }
 
+    /// Takes the device under a key out, with its link and its call; `None` where there is none. The key is free from then on.
+    pub fn remove(&mut self, key: usize) -> Option<Device<'a, P, L>>
+        ensures device { result ≡ get self.old.devices key }
+        ensures removed { Updates self.old.devices self.new.devices key None }
+        ensures rest { self.new ≡ record self.old { devices = self.new.devices } }
+    {
+        self.devices.try_remove(key)
+    }
+
     /// Gives the device under a key a new link, which is watched under that key from then on. A link that it had is dropped, with its call.
     /// Where no device is, the link is dropped.
     ///
@@ -214,8 +223,8 @@ impl<'a, P: Protocol, L: PolledLink + Drop, S: Readiness<L>> Fleet<'a, P, L, S> 
         None
     }
 
-    // Gives up the call of the device under a key, where its time is over; whether it was.
-    fn expire_at(&mut self, key: usize, now: u64) -> bool
+    /// Gives up the call of the device under a key, where its time is over at `now`, with its link; whether it was.
+    pub fn expire_at(&mut self, key: usize, now: u64) -> bool
         ensures due { IsTrue result ↔ IsDueAt now (get self.old.devices key) }
         ensures gives_up { get self.new.devices key
             ≡ (if result then given_up (get self.old.devices key) else get self.old.devices key) }
