@@ -2,8 +2,10 @@
 use crate::check::check;
 use modbus_frame::Word;
 use modbus_map::{
-    ByteOrder, Encoding, Kind, Point, Scale, Table, WriteError, json_of, shown, value_of,
+    ByteOrder, Encoding, Kind, Point, Scale, Table, WriteError, json_of, plan_device, plan_table,
+    shown, value_of,
 };
+use modbus_poll::{Limits, PlanError};
 use std::alloc::Global;
 use std::test::Fail;
 
@@ -214,5 +216,51 @@ fn values_have_texts(rt: HostRuntime) -> Result<(), Fail> {
         json(alloc, name, &[0x415C, 0x2200])?.as_str(),
         "\"A\\\\x5c\\\"\"",
     );
+    Ok(())
+}
+
+/// A coil, a text in two registers, and a number in two of which the second is past the last address.
+fn unlike_points(alloc: Global) -> Result<Vec<Point>, Fail> {
+    let mut past_the_last = point(alloc, encoding("u32", "ABCD", "1", "0")?)?;
+    past_the_last.address = 0xFFFF;
+    let mut points = Vec::new(alloc);
+    points.push(point(alloc, encoding("bool", "AB", "1", "0")?)?)?;
+    points.push(point(alloc, encoding("text2", "AB", "1", "0")?)?)?;
+    points.push(past_the_last)?;
+    Ok(points)
+}
+
+/// Why a table, or all tables of a device, have no plan for these points within limits.
+fn why_no_plan(
+    alloc: Global,
+    table: Option<Table>,
+    limits: Limits,
+    points: &[Point],
+) -> Option<PlanError> {
+    match table {
+        Some(table) => plan_table(alloc, table, limits, points).err(),
+        None => plan_device(alloc, limits, points).err(),
+    }
+}
+
+#[test]
+fn plans_tell_the_first_point_that_no_read_gives(rt: HostRuntime) -> Result<(), Fail> {
+    let alloc = rt.alloc();
+    let points = unlike_points(alloc)?;
+    let single = Limits { most: 1, gap: 0 };
+    let cases = [
+        (None, Limits::REGISTERS, Some(PlanError::BadItem(2))),
+        (None, single, Some(PlanError::BadItem(1))),
+        (Some(Table::Coils), single, None),
+        (
+            Some(Table::HoldingRegisters),
+            single,
+            Some(PlanError::BadItem(1)),
+        ),
+    ];
+    for (table, limits, wanted) in cases.iter() {
+        let found = why_no_plan(alloc, *table, *limits, points.as_slice());
+        check(&rt, found, *wanted);
+    }
     Ok(())
 }
