@@ -27,8 +27,8 @@ pub struct Device {
     pub link: LinkKind,
     /// Its unit identifier, or slave address.
     pub unit: u8,
-    /// How often it is polled.
-    pub every: Duration,
+    /// How often it is polled, where the map tells it.
+    pub every: Option<Duration>,
     /// How long an answer is waited for.
     pub timeout: Duration,
     /// How often a read is made again that has no answer.

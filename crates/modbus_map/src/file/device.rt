@@ -60,15 +60,20 @@ fn link_of(alloc: Global, table: &Table) -> Result<LinkKind, Fault> {
     }
 }
 
-/// The time under a key, a second where none is told.
-fn time_of(alloc: Global, table: &Table, key: &str) -> Result<Duration, Fault> {
+/// The time under a key, where one is told.
+fn time_of(alloc: Global, table: &Table, key: &str) -> Result<Option<Duration>, Fault> {
     match fields::text(alloc, table, key)? {
-        None => Ok(Duration::from_secs(1)),
+        None => Ok(None),
         Some(word) => match words::time(word) {
-            Some(time) => Ok(time),
+            Some(time) => Ok(Some(time)),
             None => Err(refused(alloc, word, Reason::Time)),
         },
     }
+}
+
+/// How long an answer is waited for: a second where nothing is told.
+fn timeout_of(alloc: Global, table: &Table) -> Result<Duration, Fault> {
+    Ok(time_of(alloc, table, "timeout")?.unwrap_or(Duration::from_secs(1)))
 }
 
 /// The gaps that a read may have: any where nothing is told.
@@ -97,7 +102,7 @@ struct Settings {
     name: String,
     link: LinkKind,
     unit: u8,
-    every: Duration,
+    every: Option<Duration>,
     timeout: Duration,
     retries: u8,
     limits: Limits,
@@ -111,7 +116,7 @@ fn settings_of(alloc: Global, table: &Table) -> Result<Settings, Fault> {
         link: link_of(alloc, table)?,
         unit: fields::small(alloc, table, "unit", 0, 1)?,
         every: time_of(alloc, table, "every")?,
-        timeout: time_of(alloc, table, "timeout")?,
+        timeout: timeout_of(alloc, table)?,
         retries: fields::small(alloc, table, "retries", 0, 1)?,
         limits: limits_of(alloc, table)?,
     })
