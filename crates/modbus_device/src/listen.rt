@@ -1,10 +1,11 @@
 //! Serving a port of Modbus TCP on one thread.
 
 use crate::device::Device;
+use crate::teller::Teller;
 use crate::words::TcpPort;
 use mio::net::TcpListener;
 use modbus_field::stream::StreamBuffer;
-use modbus_hub::{Counted, Deadlines, EventServer, Limits, TurnLimits};
+use modbus_hub::{Counted, Deadlines, EventServer, Limits, Places, TurnLimits};
 use modbus_link::FlagStop;
 use modbus_ready::{MioReadiness, PolledTcpAcceptor};
 use std::alloc::AllocGlobal;
@@ -28,7 +29,7 @@ type NetServer = EventServer<StreamBuffer, PolledTcpAcceptor, MioReadiness>;
 fn open_server<R: Net + AllocGlobal>(
     rt: &R,
     listener: TcpListener,
-    connections: usize,
+    places: Places,
 ) -> Result<NetServer, &'static str> {
     let Ok(mut readiness) = MioReadiness::new(rt) else {
         return Err("epoll fault");
@@ -37,10 +38,7 @@ fn open_server<R: Net + AllocGlobal>(
     if readiness.watch_acceptor(&mut acceptor).is_err() {
         return Err("epoll fault");
     }
-    let limits = Limits {
-        connections,
-        turn: TURN,
-    };
+    let limits = Limits { places, turn: TURN };
     Ok(EventServer::new(rt.alloc(), acceptor, readiness, limits))
 }
 
@@ -50,9 +48,10 @@ fn run<R: Wait + Clock>(
     server: &mut NetServer,
     device: &mut Counted<Device>,
     deadlines: Deadlines,
+    teller: &mut Teller<'_>,
     signal: &mut FlagStop,
 ) -> &'static str {
-    match server.serve_until(rt, device, deadlines, signal) {
+    match server.serve_until(rt, device, deadlines, teller, signal) {
         Ok(_) => "stopped",
         Err(_) => "epoll fault",
     }
@@ -64,6 +63,7 @@ pub fn serve<R: Net + AllocGlobal + Wait + Clock>(
     listener: TcpListener,
     device: Device,
     port: TcpPort,
+    teller: &mut Teller<'_>,
 ) -> &'static str {
     let Ok(mut signal) = FlagStop::new(rt.alloc()) else {
         return "no memory";
@@ -73,8 +73,8 @@ pub fn serve<R: Net + AllocGlobal + Wait + Clock>(
         message: Some(Duration::from_secs(port.message_timeout)),
     };
     let mut device = Counted::new(device);
-    match open_server(rt, listener, port.connections) {
-        Ok(mut server) => run(rt, &mut server, &mut device, deadlines, &mut signal),
+    match open_server(rt, listener, port.places) {
+        Ok(mut server) => run(rt, &mut server, &mut device, deadlines, teller, &mut signal),
         Err(fault) => fault,
     }
 }

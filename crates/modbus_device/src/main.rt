@@ -12,6 +12,7 @@ mod line;
 mod listen;
 mod options;
 mod setting;
+mod teller;
 mod words;
 
 use clap::ArgMatches;
@@ -27,6 +28,7 @@ use std::process::ExitCode;
 use std::sync::Wait;
 use std::thread;
 use std::time::{Clock, Duration};
+use teller::Teller;
 use words::{LinePlace, Place, SerialLine, Task, TcpPort};
 
 /// What its messages begin with.
@@ -232,7 +234,8 @@ fn main(rt: HostRuntime) -> ExitCode {
     let Some(listener) = bind(&rt, port.address) else {
         return ExitCode::from(FAILED);
     };
-    let fault = listen::serve(&rt, listener, device, port);
+    let mut teller = Teller::new(&rt);
+    let fault = listen::serve(&rt, listener, device, port, &mut teller);
     let _ = eprintln!(rt; "modbus_device: {fault}");
     ExitCode::from(FAILED)
 }

@@ -134,6 +134,16 @@ fn connections<'a>(alloc: Global) -> Arg<'a> {
     .value_parser(value_parser!(u32).range(1..=1_000_000))
 }
 
+fn per_peer<'a>(alloc: Global) -> Arg<'a> {
+    option(
+        alloc,
+        "per-peer",
+        "N",
+        "How many of these masters are of one address; one more is turned away [default: as many as there are]",
+    )
+    .value_parser(value_parser!(u32).range(1..=1_000_000))
+}
+
 fn server_id<'a>(alloc: Global) -> Arg<'a> {
     option(alloc, "server-id", "N", "Its number in Report Server ID")
         .value_parser(value_parser!(u8))
@@ -173,6 +183,7 @@ fn words<'a>(alloc: Global) -> Result<Vec<Arg<'a>>, AllocError> {
         silent(alloc),
         message_timeout(alloc),
         connections(alloc),
+        per_peer(alloc),
         line(alloc),
         serial(alloc),
         silence(alloc),

@@ -7,6 +7,7 @@ use clap::ArgMatches;
 use clap::parser::ValueSource;
 use modbus_command::{FAILED, USAGE};
 use modbus_frame::SlaveId;
+use modbus_hub::Places;
 use std::alloc::{AllocFailed, Global};
 use std::fmt;
 use std::fmt::{Display, Formatter, Write};
@@ -63,8 +64,8 @@ pub struct TcpPort {
     pub address: SocketAddr,
     /// How many seconds a message may be begun and not completed.
     pub message_timeout: u64,
-    /// How many connections there are at a time.
-    pub connections: usize,
+    /// How many connections there are at a time, in all and of one address.
+    pub places: Places,
 }
 
 /// Where the units are reached.
@@ -145,12 +146,13 @@ fn address(word: &str) -> Result<SocketAddr, Wrong> {
 }
 
 /// Words that are of use beside another alone.
-const BESIDE: [(&str, &str); 5] = [
+const BESIDE: [(&str, &str); 6] = [
     ("default-unit", "listen"),
     ("broadcast-0", "listen"),
     ("silent", "listen"),
     ("message-timeout", "listen"),
     ("connections", "listen"),
+    ("per-peer", "listen"),
 ];
 
 /// Whether a word stands on the command line.
@@ -223,10 +225,18 @@ fn line_of<'w>(matches: &ArgMatches<'w>) -> Result<SerialLine<'w>, Wrong> {
     })
 }
 
-/// How many connections the words want.
-fn connections_of(matches: &ArgMatches<'_>) -> usize {
-    let connections: u32 = matches.get_one("connections").unwrap_or(CONNECTIONS);
-    usize::try_from(connections).unwrap_or(usize::MAX)
+/// The number behind a word, or another where there is no such word.
+fn count_of(matches: &ArgMatches<'_>, word: &str, usual: u32) -> usize {
+    let count: u32 = matches.get_one(word).unwrap_or(usual);
+    usize::try_from(count).unwrap_or(usize::MAX)
+}
+
+/// How many connections the words want, in all and of one address.
+fn places_of(matches: &ArgMatches<'_>) -> Places {
+    Places {
+        connections: count_of(matches, "connections", CONNECTIONS),
+        per_peer: count_of(matches, "per-peer", u32::MAX),
+    }
 }
 
 /// Where the words want the units.
@@ -237,7 +247,7 @@ fn place_of<'w>(matches: &ArgMatches<'w>) -> Result<Place<'w>, Wrong> {
             message_timeout: matches
                 .get_one("message-timeout")
                 .unwrap_or(MESSAGE_TIMEOUT),
-            connections: connections_of(matches),
+            places: places_of(matches),
         };
         return Ok(Place::Port(port, addressing_of(matches)?));
     }

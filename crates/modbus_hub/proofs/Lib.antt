@@ -8,3 +8,5 @@ pub mod Rounding
 pub mod Rounds
 pub mod Seating
 pub mod Serving
+pub mod Sharing
+pub mod Telling

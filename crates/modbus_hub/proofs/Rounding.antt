@@ -10,7 +10,8 @@ use Rattle.modbus_hub.specs.declared.turn.Turn.{Turn}
 use Rattle.modbus_hub.specs.Accepts.{with_given, GivesByPolls, GivesLinks, EndsIn, GivesUntil, IsNobody, IsFault}
 use Rattle.modbus_ready.specs.declared.readiness.Ready.{Ready}
 use Rattle.modbus_ready.specs.declared.readiness.Ready.TheVariants.{Peer, Link}
-use Rattle.modbus_hub.specs.Events.{Event, Place, Refusal, no_watch, no_memory, came, refused, told, turned, dropped, KeyAccount, account_of, by_key, HasAnyTurn, TurnsAmong, links_of, counted_if, counted_over}
+use Rattle.modbus_hub.specs.declared.losses.Losses.{Losses}
+use Rattle.modbus_hub.specs.Events.{Event, Place, Refusal, no_watch, no_memory, no_share, came, refused, told, turned, dropped, KeyAccount, account_of, by_key, HasAnyTurn, TurnsAmong, links_of, counted_if, counted_over}
 use Rattle.slab.specs.Slab.{get}
 use Rattle.modbus_link.specs.Line.{LinkMeaning}
 use Rattle.modbus_server.specs.Framing.{Framing}
@@ -23,9 +24,9 @@ counted_up : (a b : ℕ) → a ≤ b → next_count a ≤ next_count b
 counted_up a b h = grind (arith)
 
 -- a server of these parts
-abbrev pub state : {A S L : Type 0} → A → S → SeatsState L → ℕ → Bool → Bool → ServerState A S L
-state acceptor readiness seats unseated is_asked is_crowded =
-    record { acceptor = acceptor; readiness = readiness; seats = seats; unseated = unseated; is_asked = is_asked; is_crowded = is_crowded }
+abbrev pub state : {A S L : Type 0} → A → S → SeatsState L → Losses → Bool → Bool → ServerState A S L
+state acceptor readiness seats losses is_asked is_crowded =
+    record { acceptor = acceptor; readiness = readiness; seats = seats; losses = losses; is_asked = is_asked; is_crowded = is_crowded }
 
 no_link : (key : ℕ) → Peer ≡ Link key → ⊥
 no_link key e = cc
@@ -237,10 +238,13 @@ module _ {L : Type 0} where
   counted_none cause (refused other link ∷ xs) count none = absurd (cc)
   counted_none no_watch (told key x ∷ xs) count none = counted_none no_watch xs count none
   counted_none no_memory (told key x ∷ xs) count none = counted_none no_memory xs count none
+  counted_none no_share (told key x ∷ xs) count none = counted_none no_share xs count none
   counted_none no_watch (turned key link turn ∷ xs) count none = counted_none no_watch xs count none
   counted_none no_memory (turned key link turn ∷ xs) count none = counted_none no_memory xs count none
+  counted_none no_share (turned key link turn ∷ xs) count none = counted_none no_share xs count none
   counted_none no_watch (dropped key ∷ xs) count none = counted_none no_watch xs count none
   counted_none no_memory (dropped key ∷ xs) count none = counted_none no_memory xs count none
+  counted_none no_share (dropped key ∷ xs) count none = counted_none no_share xs count none
 
   counts_up : (cause : Refusal) (x : Event L) (a b : ℕ) → a ≤ b → counted_if cause x a ≤ counted_if cause x b
   counts_up no_watch (refused no_watch link) a b h = counted_up a b h
@@ -255,6 +259,15 @@ module _ {L : Type 0} where
   counts_up no_memory (turned key link turn) a b h = h
   counts_up no_watch (dropped key) a b h = h
   counts_up no_memory (dropped key) a b h = h
+  counts_up no_share (refused no_share link) a b h = counted_up a b h
+  counts_up no_watch (refused no_share link) a b h = h
+  counts_up no_memory (refused no_share link) a b h = h
+  counts_up no_share (refused no_watch link) a b h = h
+  counts_up no_share (refused no_memory link) a b h = h
+  counts_up no_share (came key link) a b h = h
+  counts_up no_share (told key x) a b h = h
+  counts_up no_share (turned key link turn) a b h = h
+  counts_up no_share (dropped key) a b h = h
 
   -- a counter that was further on is further on afterwards
   pub counted_on : (cause : Refusal) (xs : List (Event L)) (a b : ℕ) → a ≤ b → counted_over cause xs a ≤ counted_over cause xs b
@@ -266,48 +279,66 @@ module _ {A S L : Type 0} (faults : S → ℕ) where
   counts_both a b c xs ys first second = record {
     watch = subst (λ (n : ℕ). n ≤ faults c.readiness) (sym (counted_more no_watch xs ys (faults a.readiness)))
         (le_trans (counted_on no_watch ys (counted_over no_watch xs (faults a.readiness)) (faults b.readiness) first.watch) second.watch);
-    memory = second.memory ∙ ap (λ (n : ℕ). counted_over no_memory ys n) first.memory ∙ sym (counted_more no_memory xs ys a.unseated);
+    memory = second.memory ∙ ap (λ (n : ℕ). counted_over no_memory ys n) first.memory ∙ sym (counted_more no_memory xs ys a.losses.memory);
+    share = second.share ∙ ap (λ (n : ℕ). counted_over no_share ys n) first.share ∙ sym (counted_more no_share xs ys a.losses.share);
   }
 
   -- where no link came each count is as it was, or further on
-  pub counts_none : (a b : ServerState A S L) (more : List (Event L)) → links_of more ≡ [] → faults a.readiness ≤ faults b.readiness → b.unseated ≡ a.unseated → CountsDrops faults a b more
+  pub counts_none : (a b : ServerState A S L) (more : List (Event L)) → links_of more ≡ [] → faults a.readiness ≤ faults b.readiness → b.losses ≡ a.losses → CountsDrops faults a b more
   counts_none a b more none later same = record {
     watch = subst (λ (n : ℕ). n ≤ faults b.readiness) (sym (counted_none no_watch more (faults a.readiness) none)) later;
-    memory = same ∙ sym (counted_none no_memory more a.unseated none);
+    memory = ap (λ (l : Losses). l.memory) same ∙ sym (counted_none no_memory more a.losses.memory none);
+    share = ap (λ (l : Losses). l.share) same ∙ sym (counted_none no_share more a.losses.share none);
   }
 
   -- a link that came is a connection
-  pub brings_seat : (a b : ServerState A S L) (key : ℕ) (link : L) (history more : List (Event L)) → faults a.readiness ≤ faults b.readiness → b.unseated ≡ a.unseated
+  pub brings_seat : (a b : ServerState A S L) (key : ℕ) (link : L) (history more : List (Event L)) → faults a.readiness ≤ faults b.readiness → b.losses ≡ a.losses
       → more ≡ came key link ∷ [] → Brings faults link a b history more
   brings_seat a b key link history more later count e = record {
     links = ap links_of e;
     counts = record {
       watch = subst (λ (l : List (Event L)). counted_over no_watch l (faults a.readiness) ≤ faults b.readiness) (sym e) later;
-      memory = subst (λ (l : List (Event L)). b.unseated ≡ counted_over no_memory l a.unseated) (sym e) count;
+      memory = subst (λ (l : List (Event L)). b.losses.memory ≡ counted_over no_memory l a.losses.memory) (sym e) (ap (λ (l : Losses). l.memory) count);
+      share = subst (λ (l : List (Event L)). b.losses.share ≡ counted_over no_share l a.losses.share) (sym e) (ap (λ (l : Losses). l.share) count);
     };
     none = subst (λ (l : List (Event L)). DropsNone l) (sym e) tt;
   }
 
   -- one that could not be watched
-  pub brings_unwatched : (a b : ServerState A S L) (link : L) (history more : List (Event L)) → next_count (faults a.readiness) ≤ faults b.readiness → b.unseated ≡ a.unseated
+  pub brings_unwatched : (a b : ServerState A S L) (link : L) (history more : List (Event L)) → next_count (faults a.readiness) ≤ faults b.readiness → b.losses ≡ a.losses
       → more ≡ refused no_watch link ∷ [] → Brings faults link a b history more
   brings_unwatched a b link history more rose count e = record {
     links = ap links_of e;
     counts = record {
       watch = subst (λ (l : List (Event L)). counted_over no_watch l (faults a.readiness) ≤ faults b.readiness) (sym e) rose;
-      memory = subst (λ (l : List (Event L)). b.unseated ≡ counted_over no_memory l a.unseated) (sym e) count;
+      memory = subst (λ (l : List (Event L)). b.losses.memory ≡ counted_over no_memory l a.losses.memory) (sym e) (ap (λ (l : Losses). l.memory) count);
+      share = subst (λ (l : List (Event L)). b.losses.share ≡ counted_over no_share l a.losses.share) (sym e) (ap (λ (l : Losses). l.share) count);
     };
     none = subst (λ (l : List (Event L)). DropsNone l) (sym e) tt;
   }
 
   -- one for which memory was refused
-  pub brings_unseated : (a b : ServerState A S L) (link : L) (history more : List (Event L)) → faults a.readiness ≤ faults b.readiness → b.unseated ≡ next_count a.unseated
-      → more ≡ refused no_memory link ∷ [] → Brings faults link a b history more
-  brings_unseated a b link history more later count e = record {
+  pub brings_unseated : (a b : ServerState A S L) (link : L) (history more : List (Event L)) → faults a.readiness ≤ faults b.readiness → b.losses.memory ≡ next_count a.losses.memory
+      → b.losses.share ≡ a.losses.share → more ≡ refused no_memory link ∷ [] → Brings faults link a b history more
+  brings_unseated a b link history more later count same e = record {
     links = ap links_of e;
     counts = record {
       watch = subst (λ (l : List (Event L)). counted_over no_watch l (faults a.readiness) ≤ faults b.readiness) (sym e) later;
-      memory = subst (λ (l : List (Event L)). b.unseated ≡ counted_over no_memory l a.unseated) (sym e) count;
+      memory = subst (λ (l : List (Event L)). b.losses.memory ≡ counted_over no_memory l a.losses.memory) (sym e) count;
+      share = subst (λ (l : List (Event L)). b.losses.share ≡ counted_over no_share l a.losses.share) (sym e) same;
+    };
+    none = subst (λ (l : List (Event L)). DropsNone l) (sym e) tt;
+  }
+
+  -- one whose address had its share
+  pub brings_crowded : (a b : ServerState A S L) (link : L) (history more : List (Event L)) → faults a.readiness ≤ faults b.readiness → b.losses.memory ≡ a.losses.memory
+      → b.losses.share ≡ next_count a.losses.share → more ≡ refused no_share link ∷ [] → Brings faults link a b history more
+  brings_crowded a b link history more later same count e = record {
+    links = ap links_of e;
+    counts = record {
+      watch = subst (λ (l : List (Event L)). counted_over no_watch l (faults a.readiness) ≤ faults b.readiness) (sym e) later;
+      memory = subst (λ (l : List (Event L)). b.losses.memory ≡ counted_over no_memory l a.losses.memory) (sym e) same;
+      share = subst (λ (l : List (Event L)). b.losses.share ≡ counted_over no_share l a.losses.share) (sym e) count;
     };
     none = subst (λ (l : List (Event L)). DropsNone l) (sym e) tt;
   }
@@ -362,7 +393,7 @@ module _ {A S L : Type 0} (accepts : A → Result (Polled L) Failed → A → Ty
   accepts_both a b c history xs ys first second = (comes_both a b c history xs ys first.0 second.0, none_both xs ys first.1 second.1)
 
   -- where no link came the acceptor is as it was
-  pub none_come : (a b : Server) (history more : List (Event L)) → b.acceptor ≡ a.acceptor → faults a.readiness ≤ faults b.readiness → b.unseated ≡ a.unseated → links_of more ≡ []
+  pub none_come : (a b : Server) (history more : List (Event L)) → b.acceptor ≡ a.acceptor → faults a.readiness ≤ faults b.readiness → b.losses ≡ a.losses → links_of more ≡ []
       → Came a b history more
   none_come a b history more same later count none = record {
     gives = subst (λ (l : List L). GivesLinks accepts a.acceptor l b.acceptor) (sym none)
@@ -372,17 +403,18 @@ module _ {A S L : Type 0} (accepts : A → Result (Polled L) Failed → A → Ty
 
   -- one poll
   pub brings : (a now b : Server) (link : L) (history more : List (Event L)) → accepts a.acceptor (Ok (polled.Ready link)) now.acceptor → b.acceptor ≡ now.acceptor
-      → faults now.readiness ≡ faults a.readiness → now.unseated ≡ a.unseated → Brings faults link now b history more → Came a b history more
+      → faults now.readiness ≡ faults a.readiness → now.losses ≡ a.losses → Brings faults link now b history more → Came a b history more
   brings a now b link history more accepted same later count e = record {
     gives = subst (λ (x : A). GivesLinks accepts a.acceptor (links_of more) x) (sym same) (Ok (polled.Ready link) ∷ [], (now.acceptor, [], accepted, e.links, (refl, refl)));
     counts = record {
       watch = subst (λ (n : ℕ). counted_over no_watch more n ≤ faults b.readiness) later e.counts.watch;
-      memory = subst (λ (n : ℕ). b.unseated ≡ counted_over no_memory more n) count e.counts.memory;
+      memory = subst (λ (n : ℕ). b.losses.memory ≡ counted_over no_memory more n) (ap (λ (l : Losses). l.memory) count) e.counts.memory;
+      share = subst (λ (n : ℕ). b.losses.share ≡ counted_over no_share more n) (ap (λ (l : Losses). l.share) count) e.counts.share;
     };
   }
 
   pub nobody : (a b : Server) (history : List (Event L)) (poll : Result (Polled L) Failed) → with_given poll [] ≡ [] → accepts a.acceptor poll b.acceptor
-      → faults a.readiness ≤ faults b.readiness → b.unseated ≡ a.unseated → Came a b history []
+      → faults a.readiness ≤ faults b.readiness → b.losses ≡ a.losses → Came a b history []
   nobody a b history poll none accepted later count = record {
     gives = (poll ∷ [], (b.acceptor, [], accepted, sym none, (refl, refl)));
     counts = counts_none faults a b [] refl later count;
@@ -454,7 +486,7 @@ module _ {A S L : Type 0} (accepts : A → Result (Polled L) Failed → A → Ty
       (some.0, omega (arith, all), a_crowd (length (links_of more)) all, λ asked. inr (subst IsTrue (sym some.2) asked, inr (inr all)))
 
   pub round_of : (found : S → List Ready) (a now b : Server) (history xs ys : List (Event L)) → now.acceptor ≡ a.acceptor → faults a.readiness ≤ faults now.readiness
-      → now.unseated ≡ a.unseated → IsOneLeft b.seats → (IsTrue a.is_asked ⊎ IsPeerFound (found b.readiness) → IsTrue now.is_asked)
+      → now.losses ≡ a.losses → IsOneLeft b.seats → (IsTrue a.is_asked ⊎ IsPeerFound (found b.readiness) → IsTrue now.is_asked)
       → ServesDue a.seats (found b.readiness) history xs
       → AcceptsAsked accepts faults now b (history ++ xs) ys × AsksNone (history ++ xs) ys
       → TakesRound accepts faults found a b (Ok tt) history (xs ++ ys)
@@ -473,7 +505,7 @@ module _ {A S L : Type 0} (accepts : A → Result (Polled L) Failed → A → Ty
         waits = λ asked. waits_after a now b history xs ys came (λ full. ap length links ∙ full) (second.0.3 (asks asked));
       }
 
-  pub then_drops : (found : S → List Ready) (a now b : Server) (history xs ys : List (Event L)) → b.acceptor ≡ now.acceptor → b.readiness ≡ now.readiness → b.unseated ≡ now.unseated
+  pub then_drops : (found : S → List Ready) (a now b : Server) (history xs ys : List (Event L)) → b.acceptor ≡ now.acceptor → b.readiness ≡ now.readiness → b.losses ≡ now.losses
       → TakesRound accepts faults found a now (Ok tt) history xs → IsDrop (history ++ xs) ys → Came a b history (xs ++ ys)
   then_drops found a now b history xs ys same ready count first second =
       let later : faults now.readiness ≤ faults b.readiness = subst (λ (s : S). faults now.readiness ≤ faults s) (sym ready) (le_refl (faults now.readiness)) in

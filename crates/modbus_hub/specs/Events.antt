@@ -1,6 +1,7 @@
 -- What happens to the connections of one thread, in order, and what that says of the connection under each key.
 use Rattle.std.specs.Prelude.{◌≡◌, ◌⊎◌, ℕ, ◌+◌, ◌==◌, List, [], ◌∷◌, ◌++◌, map, Option, Some, None, Bool, true, false, if◌then◌else◌}
 use Rattle.modbus_link.specs.Memory.{next_count}
+use Rattle.modbus_ready.specs.declared.peered.PeerAddress.{PeerAddress}
 use Rattle.modbus_hub.specs.declared.progress.Progress.{Progress}
 use Rattle.modbus_hub.specs.declared.turn.Turn.{Turn}
 use Rattle.modbus_hub.specs.declared.turn.Turn.TheVariants.{Waiting, Spent, Over}
@@ -13,6 +14,8 @@ pub data Refusal : Type 0 where
   no_watch : Refusal
   -- memory is refused for its connection
   no_memory : Refusal
+  -- its address has as many connections as one may have
+  no_share : Refusal
 
 pub data Event (L : Type 0) : Type 0 where
   -- this link came, as a connection under this key
@@ -37,6 +40,8 @@ pub record Place (L : Type 0) : Type 0 where
   pub progress : Progress
   -- the number of the last turn in which it moved
   pub last : ℕ
+  -- the address of its peer, as it came
+  pub peer : PeerAddress
 
 -- The account of a connection: the link with which it came, all that it was told since, how many messages that is since its last turn
 -- ended, its link after that, and whether that was cut off by its limits.
@@ -117,6 +122,7 @@ links_of (dropped key ∷ es) = links_of es
 abbrev pub counted_if : {L : Type 0} → Refusal → Event L → ℕ → ℕ
 counted_if no_watch (refused no_watch link) count = next_count count
 counted_if no_memory (refused no_memory link) count = next_count count
+counted_if no_share (refused no_share link) count = next_count count
 counted_if cause e count = count
 
 -- the same after these events

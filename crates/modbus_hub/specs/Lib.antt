@@ -3,8 +3,10 @@ pub mod Rationed
 pub mod Turn
 pub mod Events
 pub mod Progress
+pub mod Shares
 pub mod Accepts
 pub mod Seats
 pub mod Idlest
+pub mod Losses
 pub mod Sweeps
 pub mod Turns

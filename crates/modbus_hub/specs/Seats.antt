@@ -10,7 +10,9 @@ use Rattle.modbus_hub.specs.declared.turn.Turn.TheVariants.{Waiting, Spent, Over
 use Rattle.modbus_hub.specs.Turn.{Said}
 use Rattle.modbus_hub.specs.Turn.{SeatStands, SeatEnds, IsWithin, TakesFew}
 use Rattle.modbus_hub.specs.declared.turn.TurnLimits.{TurnLimits}
+use Rattle.modbus_hub.specs.declared.seats.Places.{Places}
 use Rattle.modbus_hub.specs.Progress.{Marks, is_late, later}
+use Rattle.modbus_hub.specs.Shares.{HaveFew}
 use Rattle.slab.specs.Slab.{Slab, get, slab_len}
 use Rattle.modbus_ready.specs.declared.readiness.Ready.{Ready}
 use Rattle.modbus_ready.specs.declared.readiness.Ready.TheVariants.{Peer, Link}
@@ -23,22 +25,27 @@ pub record SeatsState (L : Type 0) : Type 0 where
   pub has_spent : Bool
   -- what a turn may take
   pub limits : TurnLimits
-  -- how many connections there may be at a time
-  pub most : ℕ
+  -- how many connections there may be at a time, and of one address
+  pub places : Places
   -- how many turns there were, with the connections that came
   pub count : ℕ
 
 -- no more connections than there were, under the same limits
 abbrev pub NoMore : {L : Type 0} → SeatsState L → SeatsState L → Type 0
-NoMore old new = (new.limits ≡ old.limits) × (new.most ≡ old.most) × (slab_len new.seats ≤ slab_len old.seats)
+NoMore old new = (new.limits ≡ old.limits) × (new.places ≡ old.places) × (slab_len new.seats ≤ slab_len old.seats)
 
 -- one more at most
 abbrev pub OneMore : {L : Type 0} → SeatsState L → SeatsState L → Type 0
-OneMore old new = (new.limits ≡ old.limits) × (new.most ≡ old.most) × (slab_len new.seats ≤ slab_len old.seats + 1)
+OneMore old new = (new.limits ≡ old.limits) × (new.places ≡ old.places) × (slab_len new.seats ≤ slab_len old.seats + 1)
 
--- no more than there may be
+-- no address has more connections than one may have, where none had before
+abbrev pub KeepsFew : {L : Type 0} → SeatsState L → SeatsState L → Type 0
+KeepsFew old new = HaveFew old.places.per_peer old.seats → HaveFew new.places.per_peer new.seats
+
+-- no more connections than there may be
 abbrev pub KeepsLimit : {L : Type 0} → SeatsState L → SeatsState L → Type 0
-KeepsLimit old new = (new.limits ≡ old.limits) × (new.most ≡ old.most) × (slab_len old.seats ≤ old.most → slab_len new.seats ≤ new.most)
+KeepsLimit old new = (new.limits ≡ old.limits) × (new.places ≡ old.places)
+    × (slab_len old.seats ≤ old.places.connections → slab_len new.seats ≤ new.places.connections)
 
 -- the link under this key was found ready
 abbrev pub IsFound : ℕ → List Ready → Type 0

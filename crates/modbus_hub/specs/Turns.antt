@@ -6,7 +6,10 @@ use Rattle.slab.specs.Slab.{Slab, get, slab_len}
 use Rattle.modbus_ready.specs.declared.readiness.Ready.{Ready}
 use Rattle.modbus_ready.specs.declared.readiness.Ready.TheVariants.{Peer}
 use Rattle.modbus_hub.specs.Accepts.{GivesLinks, GivesUntil, IsNobody, IsFault}
-use Rattle.modbus_hub.specs.Events.{Event, Place, no_watch, no_memory, account_of, HasAnyTurn, TurnsAmong, links_of, counted_over}
+use Rattle.modbus_ready.specs.declared.peered.PeerAddress.{PeerAddress}
+use Rattle.modbus_hub.specs.declared.losses.Losses.{Losses}
+use Rattle.modbus_hub.specs.Shares.{HasShare, LacksShare}
+use Rattle.modbus_hub.specs.Events.{Event, Place, refused, no_watch, no_memory, no_share, account_of, HasAnyTurn, TurnsAmong, links_of, counted_over}
 use Rattle.modbus_link.specs.Memory.{next_count}
 use Rattle.modbus_hub.specs.declared.sweeps.Deadlines.{Deadlines}
 use Rattle.modbus_hub.specs.Sweeps.{Reading, Sweeps, all_looked, begun_with, is_due, shorter_of, stays_if}
@@ -18,8 +21,8 @@ pub record ServerState (A S L : Type 0) : Type 0 where
   pub acceptor : A
   pub readiness : S
   pub seats : SeatsState L
-  -- how many links were dropped at once, since memory was refused for their connections
-  pub unseated : ℕ
+  -- how many links were dropped at once, by the cause
+  pub losses : Losses
   -- whether a peer may wait to be accepted
   pub is_asked : Bool
   -- whether as many peers were accepted in the last round as are accepted in a round
@@ -41,7 +44,7 @@ retry = 50_000_000
 
 -- a peer may wait, and there are fewer connections than there may be
 abbrev pub can_accept : {A S L : Type 0} → ServerState A S L → Bool
-can_accept it = it.is_asked && nat_lt (slab_len it.seats.seats) it.seats.most
+can_accept it = it.is_asked && nat_lt (slab_len it.seats.seats) it.seats.places.connections
 
 -- no place is left for a peer that comes
 abbrev pub is_full : {L : Type 0} → ℕ → Slab (Place L) → Bool
@@ -54,7 +57,7 @@ GivesWay most old new = (IsTrue (is_full most old) × LeavesIdlest old new) ⊎ 
 -- Idle connections are let go and late ones, each where that is due, and no others; and then one where no place is left.
 abbrev pub Went : {A S L : Type 0} → Bool → Bool → ServerState A S L → Slab (Place L) → Type 0
 Went {A} {S} {L} idle late old new = (between : Slab (Place L)) × ((key : ℕ) → get between key ≡ stays_if late on_time (stays_if idle kept (get old.seats.seats key)))
-    × GivesWay old.seats.most between new
+    × GivesWay old.seats.places.connections between new
 
 -- How long a wait may take that is to take so many nanoseconds, or any time: none where a connection is left whose last turn was cut off,
 -- or more peers can be accepted than were in a round; and not past the next try where an accept failed.
@@ -97,16 +100,28 @@ abbrev pub IsDue : {L : Type 0} → List Ready → SeatsState L → ℕ → Type
 IsDue found seats key = IsFound key found ⊎ IsTrue (is_spent_at (get seats.seats key))
 
 -- Each link that was dropped at once is counted, by its cause: by the source of readiness, with its other faults, where it could not be
--- watched; and by the server, with nothing else, where memory was refused for its connection.
+-- watched; and by the server, with nothing else, where memory was refused for its connection, or its address had its share.
 pub record CountsDrops {A S L : Type 0} (faults : S → ℕ) (old new : ServerState A S L) (more : List (Event L)) : Type 0 where
   pub watch : counted_over no_watch more (faults old.readiness) ≤ faults new.readiness
-  pub memory : new.unseated ≡ counted_over no_memory more old.unseated
+  pub memory : new.losses.memory ≡ counted_over no_memory more old.losses.memory
+  pub share : new.losses.share ≡ counted_over no_share more old.losses.share
 
 -- this link came, and no other; it is a connection, or its cause is counted
 pub record Brings {A S L : Type 0} (faults : S → ℕ) (link : L) (old new : ServerState A S L) (history more : List (Event L)) : Type 0 where
   pub links : links_of more ≡ link ∷ []
   pub counts : CountsDrops faults old new more
   pub none : DropsNone more
+
+-- this link was refused since its address had its share
+abbrev pub IsCrowdedOut : {A S L : Type 0} → L → ServerState A S L → ServerState A S L → List (Event L) → Type 0
+IsCrowdedOut link old new more = (more ≡ refused no_share link ∷ []) × (new ≡ record old { losses = record old.losses { share = next_count old.losses.share } })
+
+-- A link of a peer of this address came: where the address has its share, the link is refused for that, and nothing else changes; else it is
+-- refused for nothing of the kind.
+pub record BringsPeer {A S L : Type 0} (faults : S → ℕ) (peer : PeerAddress) (link : L) (old new : ServerState A S L) (history more : List (Event L)) : Type 0 where
+  pub brings : Brings faults link old new history more
+  pub share : (HasShare old.seats.places.per_peer peer old.seats.seats × IsCrowdedOut link old new more)
+      ⊎ (LacksShare old.seats.places.per_peer peer old.seats.seats × (new.losses.share ≡ old.losses.share))
 
 module _ {A S L : Type 0} (accepts : A → Result (Polled L) Failed → A → Type 0) (faults : S → ℕ) where
   -- Of what happened, the links that came are just those that the acceptor gave, in order, and each is a connection then, or its cause is
@@ -124,7 +139,7 @@ module _ {A S L : Type 0} (accepts : A → Result (Polled L) Failed → A → Ty
   abbrev pub AcceptsWaiting : ServerState A S L → ServerState A S L → List (Event L) → Type 0
   AcceptsWaiting old new more = GivesUntil IsNobody accepts old.acceptor (links_of more) new.acceptor ⊎ (
       IsTrue new.is_asked
-      × ((new.seats.most ≤ slab_len new.seats.seats) ⊎ GivesUntil IsFault accepts old.acceptor (links_of more) new.acceptor ⊎ (length (links_of more) ≡ accepts_a_round))
+      × ((new.seats.places.connections ≤ slab_len new.seats.seats) ⊎ GivesUntil IsFault accepts old.acceptor (links_of more) new.acceptor ⊎ (length (links_of more) ≡ accepts_a_round))
       )
 
   -- peers came, no more than may in a round, with whether it was as many; where one may wait they were accepted so
@@ -161,11 +176,11 @@ module _ {A S L : Type 0} (accepts : A → Result (Polled L) Failed → A → Ty
   -- a round; one that fails is none
   abbrev pub TakesRound : (S → List Ready) → ServerState A S L → ServerState A S L → Result (Unit {0}) Failed → List (Event L) → List (Event L) → Type 0
   TakesRound found old new (Ok done) history more = ServesRound (found new.readiness) old new history more
-  TakesRound found old new (Err failed) history more = (more ≡ []) × (new.acceptor ≡ old.acceptor) × (new.unseated ≡ old.unseated)
+  TakesRound found old new (Err failed) history more = (more ≡ []) × (new.acceptor ≡ old.acceptor) × (new.losses ≡ old.losses)
 
   -- connections were let go, and nothing else changed
   abbrev pub LetsGo : ServerState A S L → ServerState A S L → List (Event L) → List (Event L) → Type 0
-  LetsGo old new history more = IsDrop history more × (new.acceptor ≡ old.acceptor) × (new.readiness ≡ old.readiness) × (new.unseated ≡ old.unseated) × (new.is_asked ≡ old.is_asked)
+  LetsGo old new history more = IsDrop history more × (new.acceptor ≡ old.acceptor) × (new.readiness ≡ old.readiness) × (new.losses ≡ old.losses) × (new.is_asked ≡ old.is_asked)
       × (new.is_crowded ≡ old.is_crowded)
 
   -- A round, and then, by the next reading of the clock, idle and late connections were let go, where that was due, and one where no place was

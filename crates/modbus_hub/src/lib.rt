@@ -7,6 +7,7 @@
 
 mod counted;
 pub mod laws;
+mod losses;
 mod progress;
 mod rationed;
 mod seat;
@@ -14,11 +15,14 @@ mod seats;
 mod server;
 mod sweeps;
 mod turn;
+mod watcher;
 
 pub use counted::Counted;
+pub use losses::Losses;
 pub use progress::Progress;
 pub use seat::Seat;
-pub use seats::{Limits, Seats};
+pub use seats::{Limits, Places, Seats};
 pub use server::EventServer;
 pub use sweeps::Deadlines;
 pub use turn::{Taken, Turn, TurnLimits, take_turn};
+pub use watcher::{Unwatched, Watcher};

@@ -13,6 +13,7 @@ use crate::counted::Counted;
 use crate::progress::Progress;
 use crate::turn::{Turn, TurnLimits, take_turn};
 use modbus_link::PolledLink;
+use modbus_ready::PeerAddress;
 use modbus_server::{Answerer, Framing, PolledProcess};
 use std::alloc::{AllocError, Global};
 use std::marker::Model;
@@ -26,10 +27,11 @@ pub struct Seat<I: Framing, L> {
     is_spent: bool,
     progress: Progress,
     last: u64,
+    peer: PeerAddress,
 }
 
 /// A contract sees the link, what its server keeps, whether it was served of late, whether its last turn was cut off by its limits, how far
-/// it is with its next message, and the number of the last turn in which it moved.
+/// it is with its next message, the number of the last turn in which it moved, and the address of its peer.
 impl<I: Framing, L> Model for Seat<I, L> {
     ghost use Rattle.modbus_hub.specs.Events.{Place};
 
@@ -41,15 +43,21 @@ impl<I: Framing, L> Model for Seat<I, L> {
       is_spent = it.is_spent;
       progress = it.progress;
       last = it.last;
+      peer = it.peer;
     } };
 }
 
 impl<I: Framing, L: PolledLink + Drop> Seat<I, L> {
-    /// A connection that begins, as if a turn of this number were its last. It lets as many reads give bytes as a `u64` counts.
+    /// A connection to a peer of this address that begins, as if a turn of this number were its last. It lets as many reads give bytes as a `u64` counts.
     ///
     /// # Errors
     /// `AllocError` where memory is refused; the link is dropped.
-    pub fn open(alloc: Global, link: L, number: u64) -> Result<Seat<I, L>, AllocError>
+    pub fn open(
+        alloc: Global,
+        link: L,
+        peer: PeerAddress,
+        number: u64,
+    ) -> Result<Seat<I, L>, AllocError>
         ensures link { IfOk result (λ place. place.seat.link ≡ link) }
         ensures held { IfOk result (λ place. place.seat.process.connection.held ≡ []) }
         ensures waiting { IfOk result (λ place. place.seat.process.connection.waiting ≡ []) }
@@ -59,6 +67,7 @@ impl<I: Framing, L: PolledLink + Drop> Seat<I, L> {
         ensures spent { IfOk result (λ place. place.is_spent ≡ false) }
         ensures progress { IfOk result (λ place. place.progress ≡ Resting) }
         ensures last { IfOk result (λ place. place.last ≡ number) }
+        ensures peer { IfOk result (λ place. place.peer ≡ peer) }
         ensures stands { I.framing.StandsFor [] [] [] [] }
     {
         Ok(Seat {
@@ -68,6 +77,7 @@ impl<I: Framing, L: PolledLink + Drop> Seat<I, L> {
             is_spent: false,
             progress: Progress::Resting,
             last: number,
+            peer,
         })
     }
 
@@ -106,6 +116,7 @@ impl<I: Framing, L: PolledLink + Drop> Seat<I, L> {
         ensures marks { Marks (meaning_of L.input L.output L.line) number
             (nat_lt service.old.asked service.new.asked) self.old self.new }
         ensures spent { self.new.is_spent ≡ is_spent result }
+        ensures peer { self.new.peer ≡ self.old.peer }
     {
         let asked = service.asked();
         let taken = take_turn(&mut self.process, &mut self.link, service, limits);
@@ -126,6 +137,13 @@ impl<I: Framing, L: PolledLink + Drop> Seat<I, L> {
         let was_late = self.progress.is_late();
         self.progress = self.progress.later();
         was_late
+    }
+
+    /// The address of its peer.
+    pub fn peer(&self) -> PeerAddress
+        ensures { result ≡ self.now.peer }
+    {
+        self.peer
     }
 
     /// The number of the last turn in which it moved.

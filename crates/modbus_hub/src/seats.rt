@@ -1,5 +1,5 @@
 //! The connections of one thread.
-ghost use Rattle.std.specs.Prelude.{◌≡◌, ◌≢◌, ◌↔◌, ℕ, ◌+◌, ◌==◌, ◌<◌, ◌≤◌, ◌⊎◌, [], nat_lt, Some, IsTrue, IfOk, length, take, get_or};
+ghost use Rattle.std.specs.Prelude.{◌≡◌, ◌≢◌, ◌↔◌, ℕ, ◌+◌, ◌==◌, ◌<◌, ◌≤◌, ◌⊎◌, [], nat_lt, false, if◌then◌else◌, Some, IsTrue, IfOk, length, take, get_or};
 ghost use Rattle.modbus_ready.specs.declared.readiness.Ready.TheVariants.{Peer, Link};
 ghost use Rattle.modbus_link.specs.Line.{meaning_of};
 ghost use Rattle.modbus_link.specs.Memory.{next_count};
@@ -7,23 +7,33 @@ ghost use Rattle.modbus_hub.specs.Counted.{counted};
 ghost use Rattle.modbus_hub.specs.declared.turn.Turn.TheVariants.{Spent};
 ghost use Rattle.slab.specs.Slab.{Updates, get, slab_len};
 ghost use Rattle.modbus_hub.specs.Idlest.{IsIdlest, IsIdlestBelow, LeavesIdlest};
+ghost use Rattle.modbus_hub.specs.Shares.{HasShare, IsShare, LacksShare, NoNewPeers, OneJoins, is_of};
 ghost use Rattle.modbus_hub.specs.Seats.{SeatsGoOn, SeatsStay, polled_by, IsFound, IsTold, IsTurnOf, Admits, TurnsIfLeft, ServesSpent, IsDrop, IsOneLeft, KeepsMarks, MarksLeft, SameLeft, MarksAt, TakesFewAt, NoMore, OneMore, is_spent_at, kept, last_at, on_time};
 
 use crate::counted::Counted;
 use crate::seat::Seat;
 use crate::turn::{Turn, TurnLimits};
 use modbus_link::PolledLink;
-use modbus_ready::Ready;
+use modbus_ready::{PeerAddress, Ready};
 use modbus_server::{Answerer, Framing};
 use slab::Slab;
 use std::alloc::{AllocError, Global};
 use std::marker::Model;
 
+/// How many connections there are at a time.
+#[derive(Clone, Copy, Debug, PartialEq, Eq, Drop)]
+pub struct Places {
+    /// In all. Between two rounds an `EventServer` has no more; in a round one more may come.
+    pub connections: usize,
+    /// Of one address of a peer. One of IPv4 and that of IPv6 which it is mapped to are one.
+    pub per_peer: usize,
+}
+
 /// What connections of one thread may take.
 #[derive(Clone, Copy, Debug, PartialEq, Eq, Drop)]
 pub struct Limits {
-    /// How many connections there are at a time. Between two rounds an `EventServer` has no more; in a round one more may come.
-    pub connections: usize,
+    /// How many there are at a time.
+    pub places: Places,
     /// What one turn of a connection may take.
     pub turn: TurnLimits,
 }
@@ -50,7 +60,7 @@ impl<I: Framing, L> Model for Seats<I, L> {
       seats = it.seats;
       has_spent = it.has_spent;
       limits = it.limits.turn;
-      most = it.limits.connections;
+      places = it.limits.places;
       count = it.count;
     } };
 }
@@ -62,7 +72,7 @@ impl<I: Framing, L: PolledLink + Drop> Seats<I, L> {
         requires messages { 0 < limits.turn.messages }
         ensures empty { result.seats.slots ≡ [] }
         ensures turn { result.limits ≡ limits.turn }
-        ensures most { result.most ≡ limits.connections }
+        ensures places { result.places ≡ limits.places }
     {
         Seats {
             seats: Slab::new(alloc),
@@ -89,9 +99,9 @@ impl<I: Framing, L: PolledLink + Drop> Seats<I, L> {
 
     /// Whether there are as many as there may be.
     pub fn is_full(&self) -> bool
-        ensures { IsTrue result ↔ (self.now.most ≤ slab_len self.now.seats) }
+        ensures { IsTrue result ↔ (self.now.places.connections ≤ slab_len self.now.seats) }
     {
-        self.seats.len() >= self.limits.connections
+        self.seats.len() >= self.limits.places.connections
     }
 
     /// Whether one may be left whose last turn was cut off, which is to have another turn though its link is not told of again.
@@ -108,13 +118,52 @@ impl<I: Framing, L: PolledLink + Drop> Seats<I, L> {
         self.seats.vacant_key()
     }
 
-    /// Takes a link as a new connection, and answers its key, which was `next_key`.
+    // Whether there is a connection under this key, to a peer of this address.
+    fn is_of(&self, key: usize, peer: PeerAddress) -> bool
+        ensures { result ≡ is_of peer (get self.now.seats key) }
+    {
+        match self.seats.get(key) {
+            Some(seat) => seat.peer().bits == peer.bits,
+            None => false,
+        }
+    }
+
+    // How many connections are under this key, to a peer of this address.
+    fn count_of(&self, key: usize, peer: PeerAddress) -> usize
+        ensures count { result ≡ (if is_of peer (get self.now.seats key) then 1 else 0) }
+        ensures most { result ≤ 1 }
+    {
+        if self.is_of(key, peer) { 1 } else { 0 }
+    }
+
+    // How many connections are of this address. It looks at each.
+    fn share(&self, peer: PeerAddress) -> usize
+        ensures { IsShare peer self.now.seats result }
+    {
+        let mut share: usize = 0;
+        'keys: for key in 0..self.seats.capacity() {
+            share += self.count_of(key, peer);
+        }
+        share
+    }
+
+    /// Whether as many connections are of this address as may be of one. It looks at each connection.
+    pub fn has_share(&self, peer: PeerAddress) -> bool
+        ensures has { IsTrue result → HasShare self.now.places.per_peer peer self.now.seats }
+        ensures lacks { result ≡ false
+            → LacksShare self.now.places.per_peer peer self.now.seats }
+    {
+        self.share(peer) >= self.limits.places.per_peer
+    }
+
+    /// Takes a link to a peer of this address as a new connection, and answers its key, which was `next_key`.
     ///
     /// # Errors
     /// `AllocError` where memory is refused; the link is dropped.
-    pub fn admit(&mut self, link: L) -> Result<usize, AllocError>
+    pub fn admit(&mut self, link: L, peer: PeerAddress) -> Result<usize, AllocError>
         ensures left { SameLeft self.old self.new }
         ensures one { OneMore self.old self.new }
+        ensures joins { OneJoins peer self.old.seats self.new.seats }
         ensures key { IfOk result (λ key. key ≡ self.old.seats.vacant_key) }
         ensures count { self.new.count ≡ next_count self.old.count }
         ensures last { IfOk result (λ key. last_at (get self.new.seats key) ≡ self.new.count) }
@@ -125,7 +174,7 @@ impl<I: Framing, L: PolledLink + Drop> Seats<I, L> {
         if self.seats.reserve(1).is_err() {
             return Err(AllocError);
         }
-        match Seat::open(self.alloc, link, self.count) {
+        match Seat::open(self.alloc, link, peer, self.count) {
             Ok(seat) => Ok(self.seats.insert_reserved(seat)),
             Err(error) => Err(error),
         }
@@ -151,6 +200,7 @@ impl<I: Framing, L: PolledLink + Drop> Seats<I, L> {
         ensures one_left { IsTrue self.new.has_spent
             → IsTrue self.old.has_spent ⊎ IsTrue (is_spent_at (get self.new.seats key)) }
         ensures no_more { NoMore self.old self.new }
+        ensures peers { NoNewPeers self.old.seats self.new.seats }
         ensures count { self.new.count ≡ next_count self.old.count }
         ensures marked { MarksAt (meaning_of L.input L.output L.line)
             (next_count self.old.count) (nat_lt service.old.asked service.new.asked)
@@ -203,6 +253,7 @@ impl<I: Framing, L: PolledLink + Drop> Seats<I, L> {
         ensures one_left { IsTrue self.new.has_spent
             → IsTrue self.old.has_spent ⊎ IsTrue (is_spent_at (get self.new.seats key)) }
         ensures no_more { NoMore self.old self.new }
+        ensures peers { NoNewPeers self.old.seats self.new.seats }
     {
         if !self.is_spent(key) {
             return;
@@ -224,6 +275,7 @@ impl<I: Framing, L: PolledLink + Drop> Seats<I, L> {
         ensures marks { MarksLeft self.new }
         ensures one_left { IsOneLeft self.new }
         ensures no_more { NoMore self.old self.new }
+        ensures peers { NoNewPeers self.old.seats self.new.seats }
     {
         self.has_spent = false;
         'keys: for key in 0..self.seats.capacity() {
@@ -239,6 +291,7 @@ impl<I: Framing, L: PolledLink + Drop> Seats<I, L> {
             (kept (get self.old.seats key)) }
         ensures spent { self.new.has_spent ≡ self.old.has_spent }
         ensures no_more { NoMore self.old self.new }
+        ensures peers { NoNewPeers self.old.seats self.new.seats }
     {
         let Some(idle) = self.seats.get_mut(key) else {
             return;
@@ -257,6 +310,7 @@ impl<I: Framing, L: PolledLink + Drop> Seats<I, L> {
         ensures spent { self.new.has_spent ≡ self.old.has_spent }
         ensures marks { KeepsMarks self.old self.new }
         ensures no_more { NoMore self.old self.new }
+        ensures peers { NoNewPeers self.old.seats self.new.seats }
     {
         'keys: for key in 0..self.seats.capacity() {
             self.drop_if_idle(key);
@@ -271,6 +325,7 @@ impl<I: Framing, L: PolledLink + Drop> Seats<I, L> {
             (on_time (get self.old.seats key)) }
         ensures spent { self.new.has_spent ≡ self.old.has_spent }
         ensures no_more { NoMore self.old self.new }
+        ensures peers { NoNewPeers self.old.seats self.new.seats }
     {
         let Some(late) = self.seats.get_mut(key) else {
             return;
@@ -289,6 +344,7 @@ impl<I: Framing, L: PolledLink + Drop> Seats<I, L> {
         ensures spent { self.new.has_spent ≡ self.old.has_spent }
         ensures marks { KeepsMarks self.old self.new }
         ensures no_more { NoMore self.old self.new }
+        ensures peers { NoNewPeers self.old.seats self.new.seats }
     {
         'keys: for key in 0..self.seats.capacity() {
             self.drop_if_late(key);
@@ -331,6 +387,7 @@ impl<I: Framing, L: PolledLink + Drop> Seats<I, L> {
         ensures spent { self.new.has_spent ≡ self.old.has_spent }
         ensures marks { KeepsMarks self.old self.new }
         ensures no_more { NoMore self.old self.new }
+        ensures peers { NoNewPeers self.old.seats self.new.seats }
     {
         let Some(idle) = self.idlest() else {
             return;

@@ -8,17 +8,21 @@ ghost use Rattle.modbus_link.specs.Memory.{next_count};
 ghost use Rattle.modbus_link.specs.Outside.{Rose};
 ghost use Rattle.slab.specs.Slab.{get, slab_len};
 ghost use Rattle.modbus_hub.specs.Counted.{counted};
-ghost use Rattle.modbus_hub.specs.Seats.{SeatsGoOn, SeatsStay, polled_by, IsDrop, IsFound, IsOneLeft, NoMore, OneMore, KeepsLimit, KeepsMarks, MarksLeft, SameLeft, kept, on_time};
+ghost use Rattle.modbus_hub.specs.Seats.{SeatsGoOn, SeatsStay, polled_by, IsDrop, IsFound, IsOneLeft, NoMore, OneMore, KeepsFew, KeepsLimit, KeepsMarks, MarksLeft, SameLeft, kept, on_time};
+ghost use Rattle.modbus_hub.specs.Losses.{TellsRoundOf, TellsUntil, no_losses};
+ghost use Rattle.modbus_hub.specs.Shares.{NoNewPeers, OneJoins};
 ghost use Rattle.modbus_hub.specs.Idlest.{LeavesIdlest};
 ghost use Rattle.modbus_hub.specs.Sweeps.{stays_if};
-ghost use Rattle.modbus_hub.specs.Turns.{GivesWay, AcceptsNext, AcceptsAsked, AcceptsUpTo, Brings, IsPeerFound, ServesFound, ServesLeft, ServesNext, TakesRound, TellsRound, TellsRounds, Went, can_accept, is_full, patience_of};
+ghost use Rattle.modbus_hub.specs.Turns.{GivesWay, AcceptsNext, AcceptsAsked, AcceptsUpTo, Brings, BringsPeer, IsPeerFound, ServesFound, ServesLeft, ServesNext, TakesRound, TellsRound, TellsRounds, Went, can_accept, is_full, patience_of};
 
 use crate::counted::Counted;
-use crate::seats::{Limits, Seats, is_told};
+use crate::losses::Losses;
+use crate::seats::{Limits, Places, Seats, is_told};
 use crate::sweeps::{Deadlines, Due, Sweeps, shorter};
+use crate::watcher::Watcher;
 use modbus_frame::Terminated;
 use modbus_link::{Failed, Polled, PolledLink, Stop};
-use modbus_ready::{PolledAcceptor, Readiness, Ready};
+use modbus_ready::{PeerAddress, Peered, PolledAcceptor, Readiness, Ready};
 use modbus_server::{Answerer, Framing};
 use std::alloc::{AllocError, Global};
 use std::marker::Model;
@@ -44,10 +48,10 @@ pub struct EventServer<I: Framing, A: PolledAcceptor, S> {
     is_asked: bool,
     // whether as many peers were accepted in the last round as are accepted in a round
     is_crowded: bool,
-    unseated: u64,
+    losses: Losses,
 }
 
-/// A contract sees the acceptor, the source of readiness, the connections, how many links were dropped for want of memory, whether a peer
+/// A contract sees the acceptor, the source of readiness, the connections, how many links were dropped at once, whether a peer
 /// may wait, and whether as many peers were accepted in the last round as may be.
 impl<I: Framing, A: PolledAcceptor, S> Model for EventServer<I, A, S> {
     ghost use Rattle.modbus_hub.specs.Turns.{ServerState};
@@ -58,7 +62,7 @@ impl<I: Framing, A: PolledAcceptor, S> Model for EventServer<I, A, S> {
       acceptor = it.acceptor;
       readiness = it.readiness;
       seats = it.seats;
-      unseated = it.unseated;
+      losses = it.losses;
       is_asked = it.is_asked;
       is_crowded = it.is_crowded;
     } };
@@ -68,7 +72,7 @@ impl<I, A, S> EventServer<I, A, S>
 where
     I: Framing,
     A: PolledAcceptor,
-    A::Link: PolledLink + Drop,
+    A::Link: PolledLink + Peered + Drop,
     S: Readiness<A::Link>,
 {
     /// A server within these limits. It has a place more than there are connections at a time, for a peer that comes: by `serve_until` another
@@ -80,23 +84,29 @@ where
         ensures readiness { result.readiness ≡ readiness }
         ensures empty { result.seats.seats.slots ≡ [] }
         ensures turn { result.seats.limits ≡ limits.turn }
-        ensures most { result.seats.most ≡ next_count limits.connections }
-        ensures unseated { result.unseated ≡ 0 }
+        ensures places { result.seats.places ≡ record limits.places {
+          connections = next_count limits.places.connections;
+        } }
+        ensures losses { result.losses ≡ no_losses }
         ensures marks { MarksLeft result.seats }
         ensures asked { IsTrue result.is_asked }
         ensures crowded { result.is_crowded ≡ false }
     {
-        let places = Limits {
-            connections: limits.connections.saturating_add(1),
+        let places = Places {
+            connections: limits.places.connections.saturating_add(1),
+            per_peer: limits.places.per_peer,
+        };
+        let limits = Limits {
+            places,
             turn: limits.turn,
         };
         EventServer {
             acceptor,
             readiness,
-            seats: Seats::new(alloc, places),
+            seats: Seats::new(alloc, limits),
             is_asked: true,
             is_crowded: false,
-            unseated: 0,
+            losses: Losses::none(),
         }
     }
 
@@ -114,33 +124,57 @@ where
         self.seats.is_empty()
     }
 
-    /// How many links were dropped at once, since memory was refused for their connections. The count stands still at the end of its type.
-    pub fn unseated(&self) -> u64
-        ensures { result ≡ self.now.unseated }
+    /// How many links were dropped at once, by the cause.
+    pub fn losses(&self) -> Losses
+        ensures { result ≡ self.now.losses }
     {
-        self.unseated
+        self.losses
     }
 
-    // Takes a link under the next key. One that can't be watched, or for which memory is refused, is dropped and counted.
-    fn admit(&mut self, mut link: A::Link)
+    // Takes a link to a peer of this address under the next key. One that can't be watched, or for which memory is refused, is dropped and
+    // counted.
+    fn seat(&mut self, mut link: A::Link, peer: PeerAddress)
         ensures acceptor { self.new.acceptor ≡ self.old.acceptor }
         ensures found { S.found self.new.readiness ≡ S.found self.old.readiness }
         ensures later { S.faults self.old.readiness ≤ S.faults self.new.readiness }
         ensures one { OneMore self.old.seats self.new.seats }
+        ensures joins { OneJoins peer self.old.seats.seats self.new.seats.seats }
         ensures left { SameLeft self.old.seats self.new.seats }
         ensures asked { self.new.is_asked ≡ self.old.is_asked }
+        ensures share { self.new.losses.share ≡ self.old.losses.share }
         ensures stays { SeatsStay I.framing (meaning_of A.Link.input A.Link.output A.Link.line)
             (Brings S.faults link self.old self.new) self.old.seats.seats self.new.seats.seats }
     {
         let key = self.seats.next_key();
         match self.readiness.watch(&mut link, key) {
             Err(Failed) => {}
-            Ok(()) => match self.seats.admit(link) {
+            Ok(()) => match self.seats.admit(link, peer) {
                 Ok(_key) => {}
                 Err(AllocError) => {
-                    self.unseated = self.unseated.saturating_add(1);
+                    self.losses.memory = self.losses.memory.saturating_add(1);
                 }
             },
+        }
+    }
+
+    // Takes a link, unless the address of its peer has its share: then it is dropped and counted.
+    fn admit(&mut self, link: A::Link)
+        ensures acceptor { self.new.acceptor ≡ self.old.acceptor }
+        ensures found { S.found self.new.readiness ≡ S.found self.old.readiness }
+        ensures later { S.faults self.old.readiness ≤ S.faults self.new.readiness }
+        ensures one { OneMore self.old.seats self.new.seats }
+        ensures few { KeepsFew self.old.seats self.new.seats }
+        ensures left { SameLeft self.old.seats self.new.seats }
+        ensures asked { self.new.is_asked ≡ self.old.is_asked }
+        ensures stays { SeatsStay I.framing (meaning_of A.Link.input A.Link.output A.Link.line)
+            (BringsPeer S.faults (A.Link.peer link) link self.old self.new) self.old.seats.seats
+            self.new.seats.seats }
+    {
+        let peer = link.peer_address();
+        if self.seats.has_share(peer) {
+            self.losses.share = self.losses.share.saturating_add(1);
+        } else {
+            self.seat(link, peer);
         }
     }
 
@@ -149,6 +183,7 @@ where
         ensures found { S.found self.new.readiness ≡ S.found self.old.readiness }
         ensures later { S.faults self.old.readiness ≤ S.faults self.new.readiness }
         ensures limit { KeepsLimit self.old.seats self.new.seats }
+        ensures few { KeepsFew self.old.seats self.new.seats }
         ensures left { SameLeft self.old.seats self.new.seats }
         ensures stays { SeatsStay I.framing (meaning_of A.Link.input A.Link.output A.Link.line)
             (AcceptsNext A.accepts S.faults result self.old self.new) self.old.seats.seats
@@ -175,6 +210,7 @@ where
         ensures found { S.found self.new.readiness ≡ S.found self.old.readiness }
         ensures later { S.faults self.old.readiness ≤ S.faults self.new.readiness }
         ensures limit { KeepsLimit self.old.seats self.new.seats }
+        ensures few { KeepsFew self.old.seats self.new.seats }
         ensures left { SameLeft self.old.seats self.new.seats }
         ensures stays { SeatsStay I.framing (meaning_of A.Link.input A.Link.output A.Link.line)
             (AcceptsUpTo A.accepts S.faults result self.old self.new) self.old.seats.seats
@@ -192,8 +228,9 @@ where
     fn take<V: Answerer>(&mut self, ready: Ready, service: &mut Counted<V>)
         ensures acceptor { self.new.acceptor ≡ self.old.acceptor }
         ensures readiness { self.new.readiness ≡ self.old.readiness }
-        ensures unseated { self.new.unseated ≡ self.old.unseated }
+        ensures losses { self.new.losses ≡ self.old.losses }
         ensures no_more { NoMore self.old.seats self.new.seats }
+        ensures peers { NoNewPeers self.old.seats.seats self.new.seats.seats }
         ensures marks { KeepsMarks self.old.seats self.new.seats }
         ensures stays { IsTrue self.old.seats.has_spent → IsTrue self.new.seats.has_spent }
         ensures others { (key : ℕ) → IsFound key (ready ∷ [])
@@ -221,8 +258,9 @@ where
         requires { index < length (S.found self.old.readiness) }
         ensures acceptor { self.new.acceptor ≡ self.old.acceptor }
         ensures readiness { self.new.readiness ≡ self.old.readiness }
-        ensures unseated { self.new.unseated ≡ self.old.unseated }
+        ensures losses { self.new.losses ≡ self.old.losses }
         ensures no_more { NoMore self.old.seats self.new.seats }
+        ensures peers { NoNewPeers self.old.seats.seats self.new.seats.seats }
         ensures marks { KeepsMarks self.old.seats self.new.seats }
         ensures stays { IsTrue self.old.seats.has_spent → IsTrue self.new.seats.has_spent }
         ensures others { (key : ℕ)
@@ -250,8 +288,9 @@ where
     fn serve_ready<V: Answerer>(&mut self, service: &mut Counted<V>)
         ensures acceptor { self.new.acceptor ≡ self.old.acceptor }
         ensures readiness { self.new.readiness ≡ self.old.readiness }
-        ensures unseated { self.new.unseated ≡ self.old.unseated }
+        ensures losses { self.new.losses ≡ self.old.losses }
         ensures no_more { NoMore self.old.seats self.new.seats }
+        ensures peers { NoNewPeers self.old.seats.seats self.new.seats.seats }
         ensures marks { KeepsMarks self.old.seats self.new.seats }
         ensures stays { IsTrue self.old.seats.has_spent → IsTrue self.new.seats.has_spent }
         ensures others { (key : ℕ) → IsFound key (S.found self.old.readiness)
@@ -273,8 +312,9 @@ where
     fn serve_left<V: Answerer>(&mut self, service: &mut Counted<V>)
         ensures acceptor { self.new.acceptor ≡ self.old.acceptor }
         ensures readiness { self.new.readiness ≡ self.old.readiness }
-        ensures unseated { self.new.unseated ≡ self.old.unseated }
+        ensures losses { self.new.losses ≡ self.old.losses }
         ensures no_more { NoMore self.old.seats self.new.seats }
+        ensures peers { NoNewPeers self.old.seats.seats self.new.seats.seats }
         ensures marks { KeepsMarks self.old.seats self.new.seats }
         ensures asked { self.new.is_asked ≡ self.old.is_asked }
         ensures one_left { IsOneLeft self.new.seats }
@@ -294,6 +334,7 @@ where
         ensures found { S.found self.new.readiness ≡ S.found self.old.readiness }
         ensures later { S.faults self.old.readiness ≤ S.faults self.new.readiness }
         ensures limit { KeepsLimit self.old.seats self.new.seats }
+        ensures few { KeepsFew self.old.seats self.new.seats }
         ensures left { SameLeft self.old.seats self.new.seats }
         ensures stays { SeatsStay I.framing (meaning_of A.Link.input A.Link.output A.Link.line)
             (AcceptsAsked A.accepts S.faults self.old self.new) self.old.seats.seats
@@ -343,6 +384,7 @@ where
         ensures cause { OnErr result (Rose (S.faults self.old.readiness)
             (S.faults self.new.readiness)) }
         ensures limit { KeepsLimit self.old.seats self.new.seats }
+        ensures few { KeepsFew self.old.seats self.new.seats }
         ensures marks { KeepsMarks self.old.seats self.new.seats }
         ensures goes_on { SeatsGoOn I.framing (counted V.answering)
             (polled_by (meaning_of A.Link.input A.Link.output A.Link.line) A.Link.not_ready
@@ -368,8 +410,9 @@ where
         ensures readiness { self.new.readiness ≡ self.old.readiness }
         ensures asked { self.new.is_asked ≡ self.old.is_asked }
         ensures crowded { self.new.is_crowded ≡ self.old.is_crowded }
-        ensures unseated { self.new.unseated ≡ self.old.unseated }
+        ensures losses { self.new.losses ≡ self.old.losses }
         ensures no_more { NoMore self.old.seats self.new.seats }
+        ensures peers { NoNewPeers self.old.seats.seats self.new.seats.seats }
         ensures marks { KeepsMarks self.old.seats self.new.seats }
         ensures stays { SeatsStay I.framing (meaning_of A.Link.input A.Link.output A.Link.line)
             IsDrop self.old.seats.seats self.new.seats.seats }
@@ -385,8 +428,9 @@ where
         ensures readiness { self.new.readiness ≡ self.old.readiness }
         ensures asked { self.new.is_asked ≡ self.old.is_asked }
         ensures crowded { self.new.is_crowded ≡ self.old.is_crowded }
-        ensures unseated { self.new.unseated ≡ self.old.unseated }
+        ensures losses { self.new.losses ≡ self.old.losses }
         ensures no_more { NoMore self.old.seats self.new.seats }
+        ensures peers { NoNewPeers self.old.seats.seats self.new.seats.seats }
         ensures marks { KeepsMarks self.old.seats self.new.seats }
         ensures stays { SeatsStay I.framing (meaning_of A.Link.input A.Link.output A.Link.line)
             IsDrop self.old.seats.seats self.new.seats.seats }
@@ -402,8 +446,9 @@ where
         ensures readiness { self.new.readiness ≡ self.old.readiness }
         ensures asked { self.new.is_asked ≡ self.old.is_asked }
         ensures crowded { self.new.is_crowded ≡ self.old.is_crowded }
-        ensures unseated { self.new.unseated ≡ self.old.unseated }
+        ensures losses { self.new.losses ≡ self.old.losses }
         ensures no_more { NoMore self.old.seats self.new.seats }
+        ensures peers { NoNewPeers self.old.seats.seats self.new.seats.seats }
         ensures marks { KeepsMarks self.old.seats self.new.seats }
         ensures stays { SeatsStay I.framing (meaning_of A.Link.input A.Link.output A.Link.line)
             IsDrop self.old.seats.seats self.new.seats.seats }
@@ -421,8 +466,9 @@ where
         ensures readiness { self.new.readiness ≡ self.old.readiness }
         ensures asked { self.new.is_asked ≡ self.old.is_asked }
         ensures crowded { self.new.is_crowded ≡ self.old.is_crowded }
-        ensures unseated { self.new.unseated ≡ self.old.unseated }
+        ensures losses { self.new.losses ≡ self.old.losses }
         ensures no_more { NoMore self.old.seats self.new.seats }
+        ensures peers { NoNewPeers self.old.seats.seats self.new.seats.seats }
         ensures marks { KeepsMarks self.old.seats self.new.seats }
         ensures stays { SeatsStay I.framing (meaning_of A.Link.input A.Link.output A.Link.line)
             IsDrop self.old.seats.seats self.new.seats.seats }
@@ -440,8 +486,9 @@ where
         ensures readiness { self.new.readiness ≡ self.old.readiness }
         ensures asked { self.new.is_asked ≡ self.old.is_asked }
         ensures crowded { self.new.is_crowded ≡ self.old.is_crowded }
-        ensures unseated { self.new.unseated ≡ self.old.unseated }
+        ensures losses { self.new.losses ≡ self.old.losses }
         ensures no_more { NoMore self.old.seats self.new.seats }
+        ensures peers { NoNewPeers self.old.seats.seats self.new.seats.seats }
         ensures marks { KeepsMarks self.old.seats self.new.seats }
         ensures stays { SeatsStay I.framing (meaning_of A.Link.input A.Link.output A.Link.line)
             IsDrop self.old.seats.seats self.new.seats.seats }
@@ -459,8 +506,9 @@ where
         ensures readiness { self.new.readiness ≡ self.old.readiness }
         ensures asked { self.new.is_asked ≡ self.old.is_asked }
         ensures crowded { self.new.is_crowded ≡ self.old.is_crowded }
-        ensures unseated { self.new.unseated ≡ self.old.unseated }
+        ensures losses { self.new.losses ≡ self.old.losses }
         ensures no_more { NoMore self.old.seats self.new.seats }
+        ensures peers { NoNewPeers self.old.seats.seats self.new.seats.seats }
         ensures marks { KeepsMarks self.old.seats self.new.seats }
         ensures stays { SeatsStay I.framing (meaning_of A.Link.input A.Link.output A.Link.line)
             IsDrop self.old.seats.seats self.new.seats.seats }
@@ -471,7 +519,7 @@ where
 
     // Whether no place is left for a peer that comes.
     fn is_full(&self) -> bool
-        ensures { result ≡ is_full self.now.seats.most self.now.seats.seats }
+        ensures { result ≡ is_full self.now.seats.places.connections self.now.seats.seats }
     {
         self.seats.is_full()
     }
@@ -482,12 +530,13 @@ where
         ensures readiness { self.new.readiness ≡ self.old.readiness }
         ensures asked { self.new.is_asked ≡ self.old.is_asked }
         ensures crowded { self.new.is_crowded ≡ self.old.is_crowded }
-        ensures unseated { self.new.unseated ≡ self.old.unseated }
+        ensures losses { self.new.losses ≡ self.old.losses }
         ensures no_more { NoMore self.old.seats self.new.seats }
+        ensures peers { NoNewPeers self.old.seats.seats self.new.seats.seats }
         ensures marks { KeepsMarks self.old.seats self.new.seats }
         ensures stays { SeatsStay I.framing (meaning_of A.Link.input A.Link.output A.Link.line)
             IsDrop self.old.seats.seats self.new.seats.seats }
-        ensures gives_way { GivesWay self.old.seats.most
+        ensures gives_way { GivesWay self.old.seats.places.connections
             self.old.seats.seats self.new.seats.seats }
     {
         if self.is_full() {
@@ -501,8 +550,9 @@ where
         ensures readiness { self.new.readiness ≡ self.old.readiness }
         ensures asked { self.new.is_asked ≡ self.old.is_asked }
         ensures crowded { self.new.is_crowded ≡ self.old.is_crowded }
-        ensures unseated { self.new.unseated ≡ self.old.unseated }
+        ensures losses { self.new.losses ≡ self.old.losses }
         ensures no_more { NoMore self.old.seats self.new.seats }
+        ensures peers { NoNewPeers self.old.seats.seats self.new.seats.seats }
         ensures marks { KeepsMarks self.old.seats self.new.seats }
         ensures stays { SeatsStay I.framing (meaning_of A.Link.input A.Link.output A.Link.line)
             IsDrop self.old.seats.seats self.new.seats.seats }
@@ -512,17 +562,22 @@ where
         self.give_way();
     }
 
-    // A round, and then lets those go who are to be by the next reading of the clock, and one where no place is left.
-    fn round<R: Clock, V: Answerer>(
+    // A round, and then lets those go who are to be by the next reading of the clock, and one where no place is left. Tells how many links were
+    // dropped in it.
+    fn round<R: Clock, V: Answerer, W: Watcher>(
         &mut self,
         rt: &R,
         service: &mut Counted<V>,
         sweeps: &mut Sweeps,
+        watcher: &mut W,
     ) -> Result<(), Failed>
+        ensures told { TellsRoundOf W.tells result self.old.losses self.new.losses
+            watcher.old watcher.new }
         ensures later { S.faults self.old.readiness ≤ S.faults self.new.readiness }
         ensures cause { OnErr result (Rose (S.faults self.old.readiness)
             (S.faults self.new.readiness)) }
         ensures limit { KeepsLimit self.old.seats self.new.seats }
+        ensures few { KeepsFew self.old.seats self.new.seats }
         ensures marks { KeepsMarks self.old.seats self.new.seats }
         ensures goes_on { SeatsGoOn I.framing (counted V.answering)
             (polled_by (meaning_of A.Link.input A.Link.output A.Link.line) A.Link.not_ready
@@ -530,12 +585,14 @@ where
             (TellsRound A.accepts S.faults S.found sweeps.old sweeps.new self.old self.new result)
             self.old.seats.seats self.new.seats.seats service.old service.new }
     {
+        let before = self.losses();
         let timeout = sweeps.within(Duration::from_millis(LOOK));
         match self.turn(service, Some(timeout)) {
             Err(failed) => Err(failed),
             Ok(()) => {
                 let due = sweeps.look(rt);
                 self.let_go(due);
+                watcher.tell(self.losses().since(before));
                 Ok(())
             }
         }
@@ -548,6 +605,8 @@ where
     /// Where one more connection came than there are at a time, the one that has not moved for longest gives way, so one a round at most (MODBUS
     /// Messaging on TCP/IP Implementation Guide V1.0b, section 4.2.1).
     ///
+    /// Behind each round the watcher is told how many links were dropped in it, and so of each once.
+    ///
     /// It goes by rounds, each of which is a `turn`, behind which such connections are let go, exactly where that is due by a reading of the
     /// clock. Whatever the readiness that it is told of:
     /// there is one run of the service over what all connections were told, in the order of their turns; the links that came are those that
@@ -555,18 +614,22 @@ where
     ///
     /// # Errors
     /// `Failed`, only where the count of faults of the source of readiness rose.
-    pub fn serve_until<R: Wait + Clock, V: Answerer, X: Stop>(
+    pub fn serve_until<R: Wait + Clock, V: Answerer, W: Watcher, X: Stop>(
         &mut self,
         rt: &R,
         service: &mut Counted<V>,
         deadlines: Deadlines,
+        watcher: &mut W,
         abort_signal: &mut X,
     ) -> Result<Terminated, Failed>
+        ensures told { TellsUntil W.tells result self.old.losses self.new.losses
+            watcher.old watcher.new }
         ensures aborted { OnOk result ((result ≡ Ok Terminated.Aborted)
             × Rose (X.stops abort_signal.old) (X.stops abort_signal.new)) }
         ensures cause { OnErr result (Rose (S.faults self.old.readiness)
             (S.faults self.new.readiness)) }
         ensures limit { KeepsLimit self.old.seats self.new.seats }
+        ensures few { KeepsFew self.old.seats self.new.seats }
         ensures marks { KeepsMarks self.old.seats self.new.seats }
         ensures goes_on { SeatsGoOn I.framing (counted V.answering)
             (polled_by (meaning_of A.Link.input A.Link.output A.Link.line) A.Link.not_ready
@@ -579,7 +642,7 @@ where
             if abort_signal.is_set() {
                 return Ok(Terminated::Aborted);
             }
-            match self.round(rt, service, &mut sweeps) {
+            match self.round(rt, service, &mut sweeps, watcher) {
                 Ok(()) => {}
                 Err(failed) => return Err(failed),
             }

@@ -1,10 +1,11 @@
 //! Serving a port on one thread.
 
+use crate::teller::Teller;
 use crate::words::{Mode, Task};
 use mio::net::TcpListener;
 use modbus_field::standard::StandardAnswers;
 use modbus_field::stream::StreamBuffer;
-use modbus_hub::{Counted, Deadlines, EventServer, Limits, TurnLimits};
+use modbus_hub::{Counted, Deadlines, EventServer, Limits, Places, TurnLimits};
 use modbus_link::FlagStop;
 use modbus_ready::{MioReadiness, PolledTcpAcceptor};
 use modbus_rtu::Inbox;
@@ -41,6 +42,7 @@ fn serve_listener<I: Framing, V: Answerer + Drop, R: Net + AllocGlobal + Wait + 
     listener: TcpListener,
     task: Task,
     device: V,
+    teller: &mut Teller<'_>,
 ) -> &'static str {
     let Ok(mut signal) = FlagStop::new(rt.alloc()) else {
         return "no memory";
@@ -52,10 +54,11 @@ fn serve_listener<I: Framing, V: Answerer + Drop, R: Net + AllocGlobal + Wait + 
     if readiness.watch_acceptor(&mut acceptor).is_err() {
         return "epoll fault";
     }
-    let limits = Limits {
+    let places = Places {
         connections: task.connections,
-        turn: TURN,
+        per_peer: task.per_peer,
     };
+    let limits = Limits { places, turn: TURN };
     let mut server: EventServer<I, _, _> = EventServer::new(
         rt.alloc(),
         acceptor,
@@ -66,7 +69,8 @@ fn serve_listener<I: Framing, V: Answerer + Drop, R: Net + AllocGlobal + Wait + 
         idle: Some(Duration::from_secs(task.idle)),
         message: Some(Duration::from_secs(task.message)),
     };
-    match server.serve_until(rt, &mut Counted::new(device), deadlines, &mut signal) {
+    let mut device = Counted::new(device);
+    match server.serve_until(rt, &mut device, deadlines, teller, &mut signal) {
         Ok(_) => "stopped",
         Err(_) => "epoll fault",
     }
@@ -77,6 +81,7 @@ pub fn serve<R: Net + AllocGlobal + Wait + Clock>(
     rt: &R,
     task: Task,
     listener: TcpListener,
+    teller: &mut Teller<'_>,
 ) -> &'static str {
     let Ok(store) = open_store(rt.alloc(), task.mode == Mode::Rtu) else {
         return "no memory";
@@ -84,8 +89,8 @@ pub fn serve<R: Net + AllocGlobal + Wait + Clock>(
     match task.mode {
         Mode::Tcp => {
             let device = StandardAnswers { service: store };
-            serve_listener::<StreamBuffer, _, R>(rt, listener, task, device)
+            serve_listener::<StreamBuffer, _, R>(rt, listener, task, device, teller)
         }
-        Mode::Rtu => serve_listener::<Inbox, _, R>(rt, listener, task, store),
+        Mode::Rtu => serve_listener::<Inbox, _, R>(rt, listener, task, store, teller),
     }
 }

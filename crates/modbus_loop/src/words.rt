@@ -12,6 +12,9 @@ const MESSAGE: u64 = 10;
 /// How many connections there are at a time, where the words do not say, and the system has as many file descriptors.
 const CONNECTIONS: usize = 20_000;
 
+/// The word before the number of connections of one address.
+const PER_PEER: &str = "--per-peer";
+
 /// What frames the requests of the connections.
 #[derive(Clone, Copy, Debug, PartialEq, Eq)]
 pub enum Mode {
@@ -34,6 +37,8 @@ pub struct Task {
     pub message: u64,
     /// How many connections there are at a time.
     pub connections: usize,
+    /// How many of these are of one address; as many as there are where none is told.
+    pub per_peer: usize,
 }
 
 /// What the words ask for.
@@ -70,6 +75,20 @@ fn connections_of(word: &str) -> Option<usize> {
     }
 }
 
+impl Task {
+    /// The task where the word at this place, behind the port, is this one; none where it is no form, or there are no more words.
+    fn with(self, place: u8, word: &str) -> Option<Task> {
+        let mut task = self;
+        match place {
+            0 => task.idle = seconds_of(word)?,
+            1 => task.message = seconds_of(word)?,
+            2 => task.connections = connections_of(word)?,
+            _ => return None,
+        }
+        Some(task)
+    }
+}
+
 /// What the words after the program's name ask for; none where they are no form.
 pub fn parse_args(rt: &HostRuntime) -> Option<Wish> {
     let mut words = env::args(rt).ok()?.skip(1);
@@ -79,27 +98,29 @@ pub fn parse_args(rt: &HostRuntime) -> Option<Wish> {
     }
     let mode = mode_of(first.as_str())?;
     let port = words.next()?.as_str().parse().ok()?;
-    let idle = match words.next() {
-        Some(word) => seconds_of(word.as_str())?,
-        None => IDLE,
-    };
-    let message = match words.next() {
-        Some(word) => seconds_of(word.as_str())?,
-        None => MESSAGE,
-    };
-    let connections = match words.next() {
-        Some(word) => connections_of(word.as_str())?,
-        None => CONNECTIONS,
-    };
-    let task = Task {
+    let mut task = Task {
         mode,
         port,
-        idle,
-        message,
-        connections,
+        idle: IDLE,
+        message: MESSAGE,
+        connections: CONNECTIONS,
+        per_peer: usize::MAX,
     };
-    match words.next() {
-        None => Some(Wish::Serve(task)),
-        Some(_) => None,
+    let mut place: u8 = 0;
+    let mut wants_share = false;
+    for word in words {
+        if wants_share {
+            task.per_peer = connections_of(word.as_str())?;
+            wants_share = false;
+        } else if word.as_str() == PER_PEER {
+            wants_share = true;
+        } else {
+            task = task.with(place, word.as_str())?;
+            place = place.saturating_add(1);
+        }
     }
+    if wants_share {
+        return None;
+    }
+    Some(Wish::Serve(task))
 }

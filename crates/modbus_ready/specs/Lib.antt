@@ -1,5 +1,6 @@
 pub mod Accepts
 pub mod Found
+pub mod Peers
 pub mod Polls
 pub mod Setbacks
 pub mod Tokens

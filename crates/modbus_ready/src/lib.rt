@@ -7,6 +7,7 @@
 
 mod acceptor;
 mod mio_readiness;
+mod peered;
 mod readiness;
 mod setback;
 mod tcp_acceptor;
@@ -15,6 +16,7 @@ mod token;
 
 pub use acceptor::{PolledAcceptor, ScheduledAcceptor};
 pub use mio_readiness::MioReadiness;
+pub use peered::{PeerAddress, Peered};
 pub use readiness::{Readiness, Ready, ScheduledReadiness};
 pub use tcp_acceptor::PolledTcpAcceptor;
 pub use tcp_link::PolledTcpLink;

@@ -5,6 +5,7 @@ ghost use Rattle.modbus_ready.specs.Accepts.{tally_by};
 ghost use Rattle.modbus_ready.specs.Polls.{GivesNewLink};
 
 use crate::acceptor::PolledAcceptor;
+use crate::peered::PeerAddress;
 use crate::setback::{Setback, setback_of_accept};
 use crate::tcp_link::PolledTcpLink;
 use mio::net::{TcpListener, TcpStream};
@@ -12,6 +13,7 @@ use mio::{Interest, Registry, Token};
 use modbus_link::{Failed, Polled};
 use std::io::{Error, ErrorKind, Result as IoResult};
 use std::marker::Model;
+use std::net::SocketAddr;
 
 /// What accepts TCP connections, and gives links over them.
 #[derive(Drop)]
@@ -56,11 +58,11 @@ impl PolledTcpAcceptor {
     }
 }
 
-// One accept, tried again where a signal interrupts it, or the peer gave its connection up before it was accepted.
-fn accept_once(listener: &TcpListener) -> IoResult<TcpStream> {
+// One accept, and who came, tried again where a signal interrupts it, or the peer gave its connection up before it was accepted.
+fn accept_once(listener: &TcpListener) -> IoResult<(TcpStream, SocketAddr)> {
     for _ in 0..u64::MAX {
         match listener.accept() {
-            Ok((stream, _)) => return Ok(stream),
+            Ok(accepted) => return Ok(accepted),
             Err(error) => match setback_of_accept(error.kind()) {
                 Setback::Again => {}
                 _ => return Err(error),
@@ -85,9 +87,10 @@ impl PolledAcceptor for PolledTcpAcceptor {
     /// `Failed` where the listener failed, as it does where no file descriptor is left.
     fn poll_accept(&mut self) -> Result<Polled<PolledTcpLink>, Failed> {
         match accept_once(&self.listener) {
-            Ok(stream) => {
+            Ok((stream, peer)) => {
                 self.given = self.given.saturating_add(1);
-                Ok(Polled::Ready(PolledTcpLink::new(stream)))
+                let address = PeerAddress::of(peer.ip());
+                Ok(Polled::Ready(PolledTcpLink::of_peer(stream, address)))
             }
             Err(error) => match setback_of_accept(error.kind()) {
                 Setback::NotReady => Ok(Polled::Pending),

@@ -5,8 +5,10 @@ ghost use Rattle.std.specs.Prelude.{◌≡◌, ◌<◌, ◌≤◌, length, IfOk}
 ghost use Rattle.std.specs.Io.{ReadsAtMost, WritesAtMost};
 ghost use Rattle.modbus_link.specs.Outside.{Advances, Extends, untold_input, untold_output};
 ghost use Rattle.modbus_link.specs.Polled.{at_once};
+ghost use Rattle.modbus_ready.specs.Peers.{unspecified};
 ghost use Rattle.modbus_ready.specs.Polls.{polled_tcp_at_start, after_read, after_write};
 
+use crate::peered::{PeerAddress, Peered};
 use crate::setback::{Setback, setback_of};
 use crate::token::both_ways;
 use mio::net::TcpStream;
@@ -24,15 +26,16 @@ pub struct PolledTcpLink {
     read_faults: u64,
     write_faults: u64,
     not_ready: u64,
+    peer: PeerAddress,
 }
 
-/// What a contract knows of it is its counts.
+/// What a contract knows of it is its counts, and the address of its peer.
 impl Model for PolledTcpLink {
     ghost use Rattle.modbus_ready.specs.Polls.{PolledTcpState};
 
     ghost Value = { PolledTcpState };
 
-    ghost view = { λ link. record { read_faults = link.read_faults; write_faults = link.write_faults; not_ready = link.not_ready } };
+    ghost view = { λ link. record { read_faults = link.read_faults; write_faults = link.write_faults; not_ready = link.not_ready; peer = link.peer } };
 }
 
 // One read, tried again where a signal interrupts it.
@@ -62,9 +65,17 @@ fn write_once(stream: &mut TcpStream, piece: &[u8]) -> IoResult<usize>
 }
 
 impl PolledTcpLink {
-    /// A link over `stream` that was never asked. It asks the stream to send each piece at once (TCP_NODELAY).
+    /// A link over `stream` that was never asked, and does not tell who its peer is. It asks the stream to send each piece at once
+    /// (TCP_NODELAY).
     pub fn new(stream: TcpStream) -> PolledTcpLink
-        ensures { result ≡ polled_tcp_at_start }
+        ensures { result ≡ polled_tcp_at_start unspecified }
+    {
+        PolledTcpLink::of_peer(stream, PeerAddress::unspecified())
+    }
+
+    /// The same to the peer of this address.
+    pub fn of_peer(stream: TcpStream, peer: PeerAddress) -> PolledTcpLink
+        ensures { result ≡ polled_tcp_at_start peer }
     {
         // A piece of a request or a reply that waits to be sent with the next one only waits. A stream that refuses serves all the same.
         let _ = stream.set_nodelay(true);
@@ -73,6 +84,7 @@ impl PolledTcpLink {
             read_faults: 0,
             write_faults: 0,
             not_ready: 0,
+            peer,
         }
     }
 
@@ -87,6 +99,14 @@ impl PolledTcpLink {
             Ok(()) => Ok(()),
             Err(_) => Err(Failed),
         }
+    }
+}
+
+impl Peered for PolledTcpLink {
+    ghost peer = { λ link. link.peer };
+
+    fn peer_address(&self) -> PeerAddress {
+        self.peer
     }
 }
 

@@ -2,7 +2,7 @@
 
 use crate::check::check;
 use crate::links::Pair;
-use modbus_hub::{Counted, Deadlines, EventServer, Limits, TurnLimits};
+use modbus_hub::{Counted, Deadlines, EventServer, Limits, Losses, Places, TurnLimits, Unwatched};
 use modbus_link::{MemoryLink, MemorySink, MemorySource, MemoryStop, Polled};
 use modbus_ready::{Ready, ScheduledAcceptor, ScheduledReadiness};
 use modbus_server::Terminated;
@@ -94,10 +94,11 @@ fn server<'a>(
         reads: 1,
         messages: 16,
     };
-    let limits = Limits {
+    let places = Places {
         connections: 2,
-        turn,
+        per_peer: 2,
     };
+    let limits = Limits { places, turn };
     Ok(EventServer::new(alloc, acceptor, readiness, limits))
 }
 
@@ -111,9 +112,19 @@ fn serve<R: Wait + Clock + Abort>(
         idle: None,
         message: None,
     };
-    let ended = server.serve_until(rt, service, deadlines, &mut MemoryStop::new(5));
+    let ended = server.serve_until(
+        rt,
+        service,
+        deadlines,
+        &mut Unwatched,
+        &mut MemoryStop::new(5),
+    );
     check(rt, ended, Ok(Terminated::Aborted));
-    check(rt, (server.is_empty(), server.unseated()), (true, 0));
+    check(
+        rt,
+        (server.is_empty(), server.losses()),
+        (true, Losses::none()),
+    );
 }
 
 /// Serves both, which begin to be accepted.

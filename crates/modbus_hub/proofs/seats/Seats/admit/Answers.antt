@@ -1,4 +1,4 @@
-use Rattle.std.proofs.Common.{◌≡◌, ◌∙◌, refl, sym, ap, ℕ}
+use Rattle.std.proofs.Common.{◌≡◌, inl, inr, ◌∙◌, refl, sym, ap, ℕ}
 use Rattle.std.specs.declared.alloc.AllocError.{AllocError}
 use Rattle.modbus_link.specs.Line.{meaning_of}
 use Rattle.slab.specs.Slab.{Slab, get}
@@ -6,6 +6,7 @@ use Rattle.modbus_hub.specs.Events.{Place, no_memory}
 use Rattle.modbus_hub.specs.Seats.{is_spent_at}
 use Rattle.modbus_hub.proofs.Marks.{same_admitted}
 use Rattle.modbus_hub.proofs.Seating.{admitted, turned_away}
+use Rattle.modbus_hub.proofs.Sharing.{peers_as}
 use Rattle.modbus_hub.proofs.seats.Seats.admit.Goals as goal
 
 pub returns-then-is_err-clause-stays : goal.returns-then-is_err-clause-stays
@@ -44,3 +45,21 @@ returns-in-Ok-clause-left g c =
 pub returns-in-Err-clause-left : goal.returns-in-Err-clause-left
 returns-in-Err-clause-left g c =
     rw (← c.self.view_is) (refl, λ key. ap (λ (s : Slab (Place g.row.L.Denot)). is_spent_at (get s key)) c.reserve.ensures.rest_kept)
+
+pub returns-then-is_err-clause-joins : goal.returns-then-is_err-clause-joins
+returns-then-is_err-clause-joins g c = rw (← c.self.view_is) (inl (peers_as c.self.inside.seats c.reserve.new.self (λ key. ap (λ (s : Slab (Place g.row.L.Denot)). get s key) c.reserve.ensures.rest_kept)))
+
+pub returns-in-Err-clause-joins : goal.returns-in-Err-clause-joins
+returns-in-Err-clause-joins g c = rw (← c.self.view_is) (inl (peers_as c.self.inside.seats c.reserve.new.self (λ key. ap (λ (s : Slab (Place g.row.L.Denot)). get s key) c.reserve.ensures.rest_kept)))
+
+pub returns-in-Ok-clause-joins : goal.returns-in-Ok-clause-joins
+returns-in-Ok-clause-joins g c =
+    let same : (key : ℕ) → get c.reserve.new.self key ≡ get c.self.inside.seats key = λ key. ap (λ (s : Slab (Place g.row.L.Denot)). get s key) c.reserve.ensures.rest_kept in
+    let u = c.insert_reserved.ensures.updates in
+    rw (← c.self.view_is) (inr (
+      c.insert_reserved.result,
+      c.in-Ok.seat,
+      c.in-Ok.ensures.peer,
+      sym (same c.insert_reserved.result) ∙ c.insert_reserved.ensures.was_vacant,
+      record { changed = u.changed; others = λ other differs. u.others other differs ∙ same other },
+    ))

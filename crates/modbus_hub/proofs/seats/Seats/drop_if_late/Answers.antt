@@ -4,6 +4,7 @@ use Rattle.modbus_hub.specs.Events.{Place}
 use Rattle.slab.proofs.SlabLemmas.{Updates-with_value}
 use Rattle.modbus_link.specs.Line.{meaning_of}
 use Rattle.modbus_hub.proofs.Seating.{let_go, kept_marked, updates_both}
+use Rattle.modbus_hub.proofs.Sharing.{peers_gone, peers_stay}
 use Rattle.modbus_hub.proofs.seats.Seats.drop_if_late.Goals as goal
 
 pub returns-then-not-take_late-clause-stays : goal.returns-then-not-take_late-clause-stays
@@ -19,4 +20,19 @@ returns-clause-stays g c =
     let olds = c.self.inside.seats in
     let present : ContainsKey olds c.args.key = search rules in
     rw (← c.self.view_is) (let_go g.I.Framing.framing (meaning_of g.L.Ends.input g.L.Ends.output g.L.Ends.line) c.args.key olds c.try_remove.new.self
+    (updates_both olds _ c.try_remove.new.self c.args.key _ _ (Updates-with_value olds c.args.key c.take_late.new.self present) c.try_remove.ensures.updates))
+
+pub returns-then-not-take_late-clause-peers : goal.returns-then-not-take_late-clause-peers
+returns-then-not-take_late-clause-peers g c =
+    let olds = c.self.inside.seats in
+    let here : get olds c.args.key ≡ Some c.in-Some.late.now = search rules in
+    let present : ContainsKey olds c.args.key = search rules in
+    rw (← c.self.view_is) (peers_stay olds _ c.args.key c.in-Some.late.now c.take_late.new.self here
+    (ap (λ (p : Place g.row.L.Denot). p.peer) c.take_late.ensures.now) (Updates-with_value olds c.args.key c.take_late.new.self present))
+
+pub returns-clause-peers : goal.returns-clause-peers
+returns-clause-peers g c =
+    let olds = c.self.inside.seats in
+    let present : ContainsKey olds c.args.key = search rules in
+    rw (← c.self.view_is) (peers_gone olds c.try_remove.new.self c.args.key
     (updates_both olds _ c.try_remove.new.self c.args.key _ _ (Updates-with_value olds c.args.key c.take_late.new.self present) c.try_remove.ensures.updates))

@@ -3,6 +3,7 @@ use Rattle.modbus_link.specs.Line.{meaning_of}
 use Rattle.modbus_hub.specs.Seats.{IsDrop, on_time}
 use Rattle.modbus_hub.proofs.Seating.{stay_both}
 use Rattle.modbus_hub.proofs.Counting.{none_more}
+use Rattle.modbus_hub.proofs.Sharing.{peers_both}
 use Rattle.modbus_hub.proofs.Rounds.{drops_both, drops_below, same_above}
 use Rattle.modbus_hub.proofs.seats.Seats.drop_late.Goals as goal
 
@@ -18,4 +19,5 @@ keys-preserved g c =
           c.keys.invariant.2 c.drop_if_late.ensures.stays drops_both,
       drops_below on_time old now next c.keys.key u c.keys.invariant.3 c.keys.invariant.4,
       same_above old now next c.keys.key u.others c.keys.invariant.4,
+      peers_both old now next c.keys.invariant.5 c.drop_if_late.ensures.peers,
     )

@@ -6,6 +6,7 @@ use Rattle.modbus_hub.proofs.Histories.{stays_none}
 use Rattle.modbus_hub.proofs.Seating.{go_as, go_both, go_same}
 use Rattle.modbus_hub.proofs.Counting.{none_more}
 use Rattle.modbus_hub.proofs.Marks.{marks_below, one_below}
+use Rattle.modbus_hub.proofs.Sharing.{peers_both}
 use Rattle.modbus_hub.proofs.Rounds.{ServesBelow, serves_all, serves_below, same_above}
 use Rattle.std.proofs.Common.{◌≡◌, ◌+◌, ◌≤◌, length, inl, true, false, refl, arith}
 use Rattle.modbus_hub.proofs.seats.Seats.serve_spent.Goals as goal
@@ -23,6 +24,7 @@ keys-init g c =
       λ key high. refl,
       λ key low. absurd (omega (arith, low)),
       λ known. absurd (no_both known),
+      λ key peer is. is,
     )
 
 pub keys-preserved : goal.keys-preserved
@@ -38,6 +40,7 @@ keys-preserved g c =
       same_above old now c.serve_if_left.new.self.seats key c.serve_if_left.ensures.others c.keys.invariant.2,
       marks_below c.keys.self c.serve_if_left.new.self key c.serve_if_left.ensures.others c.serve_if_left.ensures.stays c.serve_if_left.ensures.marks c.keys.invariant.3,
       one_below c.keys.self c.serve_if_left.new.self key c.serve_if_left.ensures.others c.serve_if_left.ensures.one_left c.keys.invariant.4,
+      peers_both old now c.serve_if_left.new.self.seats c.keys.invariant.5 c.serve_if_left.ensures.peers,
     )
 
 pub returns-clause-goes_on : goal.returns-clause-goes_on

@@ -3,6 +3,7 @@ use Rattle.modbus_link.specs.Line.{meaning_of}
 use Rattle.modbus_hub.specs.Counted.{counted}
 use Rattle.slab.specs.Slab.{get}
 use Rattle.modbus_hub.specs.Seats.{polled_by, NoMore, SeatsGoOn}
+use Rattle.modbus_hub.specs.Shares.{NoNewPeers}
 use Rattle.modbus_hub.proofs.Marks.{MarksBelow, OneBelow}
 use Rattle.modbus_hub.proofs.Rounds.{ServesBelow}
 use Rattle.modbus_hub.proofs.seats.Seats.serve_spent.Given as goal
@@ -13,3 +14,4 @@ invariant-keys g l = NoMore l.fn.self l.self
     × ((key : ℕ) → l.key ≤ key → get l.self.seats key ≡ get l.fn.self.seats key)
     × MarksBelow l.key l.self
     × OneBelow l.key l.self
+    × NoNewPeers l.fn.self.seats l.self.seats

@@ -19,6 +19,7 @@ peers-init g c =
           (AcceptsSome accepts faults 0 first first) first.seats.seats first.seats.seats (λ key. refl) (λ history all. accepts_none accepts faults first history),
       (refl, λ key. refl),
       omega arith,
+      λ few. few,
     )
 
 pub returns-then-not-accept_one-clause-stays : goal.returns-then-not-accept_one-clause-stays
@@ -61,4 +62,8 @@ peers-preserved g c =
           (accepts_more accepts faults c.peers.counter first now next),
       same_both first.seats now.seats next.seats c.peers.invariant.4 c.accept_one.ensures.left,
       omega (arith, c.peers-test.true),
+      λ few. c.accept_one.ensures.few (c.peers.invariant.6 few),
     )
+
+pub returns-then-not-accept_one-clause-few : goal.returns-then-not-accept_one-clause-few
+returns-then-not-accept_one-clause-few g c = λ few. c.if-not-accept_one.ensures.few (c.peers.invariant.6 few)

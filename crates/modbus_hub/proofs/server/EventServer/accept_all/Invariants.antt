@@ -1,6 +1,6 @@
 use Rattle.std.proofs.Common.{◌≡◌, ◌≤◌}
 use Rattle.modbus_link.specs.Line.{meaning_of}
-use Rattle.modbus_hub.specs.Seats.{KeepsLimit, SameLeft, SeatsStay}
+use Rattle.modbus_hub.specs.Seats.{KeepsFew, KeepsLimit, SameLeft, SeatsStay}
 use Rattle.modbus_hub.specs.Turns.{accepts_a_round}
 use Rattle.modbus_hub.proofs.Rounding.{AcceptsSome}
 use Rattle.modbus_hub.proofs.server.EventServer.accept_all.Given as goal
@@ -13,3 +13,4 @@ invariant-peers g l = KeepsLimit l.fn.self.seats l.self.seats
     (AcceptsSome g.A.PolledAcceptor.accepts g.S.Readiness.faults l.counter l.fn.self l.self) l.fn.self.seats.seats l.self.seats.seats
     × SameLeft l.fn.self.seats l.self.seats
     × (l.counter ≤ accepts_a_round)
+    × KeepsFew l.fn.self.seats l.self.seats

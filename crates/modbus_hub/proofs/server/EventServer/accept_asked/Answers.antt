@@ -13,8 +13,8 @@ returns-else-self-clause-stays g c =
     let accepts = g.A.PolledAcceptor.accepts in
     let faults = g.S.Readiness.faults in
     let seats = c.self.inside.seats in
-    let first = state c.self.inside.acceptor c.self.inside.readiness seats c.self.inside.unseated c.self.inside.is_asked c.self.inside.is_crowded in
-    let last = state c.self.inside.acceptor c.self.inside.readiness seats c.self.inside.unseated c.self.inside.is_asked false in
+    let first = state c.self.inside.acceptor c.self.inside.readiness seats c.self.inside.losses c.self.inside.is_asked c.self.inside.is_crowded in
+    let last = state c.self.inside.acceptor c.self.inside.readiness seats c.self.inside.losses c.self.inside.is_asked false in
     let unasked : c.self.inside.is_asked ≡ false = search rules in
     rw (← c.self.view_is) (stay_same g.I.Framing.framing (meaning_of g.A.Link.Ends.input g.A.Link.Ends.output g.A.Link.Ends.line)
     (AcceptsAsked accepts faults first last) seats.seats seats.seats (λ key. refl)

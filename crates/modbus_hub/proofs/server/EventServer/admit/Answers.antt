@@ -1,56 +1,49 @@
-use Rattle.std.proofs.Common.{refl, ap, ◌∙◌, [], ◌∷◌}
-use Rattle.std.specs.declared.alloc.AllocError.{AllocError}
-use Rattle.std.specs.Prelude.{Ok, Err}
+use Rattle.std.proofs.Common.{rules, ℕ, ap, refl, inl, inr, arith, subst, sym}
+use Rattle.modbus_ready.specs.declared.peered.PeerAddress.{PeerAddress}
 use Rattle.modbus_link.specs.Line.{meaning_of}
-use Rattle.modbus_hub.specs.Events.{came, refused, no_watch, no_memory}
-use Rattle.modbus_hub.specs.Seats.{Admits}
-use Rattle.modbus_hub.specs.Turns.{Brings}
+use Rattle.modbus_hub.specs.declared.seats.Places.{Places}
+use Rattle.modbus_hub.specs.Events.{no_share}
+use Rattle.modbus_hub.specs.Shares.{HasShare, HaveFew, LacksShare}
+use Rattle.modbus_hub.specs.Turns.{Brings, BringsPeer}
 use Rattle.modbus_hub.proofs.Seating.{Refuses, turned_away, stay_as}
-use Rattle.modbus_hub.proofs.Rounding.{state, brings_seat, brings_unwatched, brings_unseated}
+use Rattle.modbus_hub.proofs.Sharing.{few_joined}
+use Rattle.modbus_hub.proofs.Rounding.{state, brings_crowded}
 use Rattle.modbus_hub.proofs.server.EventServer.admit.Goals as goal
 
-pub returns-in-Err-clause-stays : goal.returns-in-Err-clause-stays
-returns-in-Err-clause-stays g c =
+pub returns-then-has_share-clause-stays : goal.returns-then-has_share-clause-stays
+returns-then-has_share-clause-stays g c =
     let meaning = meaning_of g.A.Link.Ends.input g.A.Link.Ends.output g.A.Link.Ends.line in
     let faults = g.S.Readiness.faults in
     let seats = c.self.inside.seats in
-    let first = state c.self.inside.acceptor c.self.inside.readiness seats c.self.inside.unseated c.self.inside.is_asked c.self.inside.is_crowded in
-    let last = state c.self.inside.acceptor c.watch.new.self seats c.self.inside.unseated c.self.inside.is_asked c.self.inside.is_crowded in
-    rw (← c.self.view_is) (stay_as g.I.Framing.framing meaning (Refuses no_watch c.args.link) (Brings faults c.args.link first last)
+    let peer = g.A.Link.Peered.peer c.args.link in
+    let first = state c.self.inside.acceptor c.self.inside.readiness seats c.self.inside.losses c.self.inside.is_asked c.self.inside.is_crowded in
+    let last = state c.self.inside.acceptor c.self.inside.readiness seats (record c.self.inside.losses { share = c.saturating_add-self-inside.result }) c.self.inside.is_asked c.self.inside.is_crowded in
+    let counted = λ (n : ℕ). state c.self.inside.acceptor c.self.inside.readiness seats (record c.self.inside.losses { share = n }) c.self.inside.is_asked c.self.inside.is_crowded in
+    let has : HasShare seats.places.per_peer c.peer_address-peer.result seats.seats = search rules in
+    rw (← c.self.view_is) (stay_as g.I.Framing.framing meaning (Refuses no_share c.args.link) (BringsPeer faults peer c.args.link first last)
     seats.seats seats.seats
-    (turned_away g.I.Framing.framing meaning no_watch c.args.link seats.seats seats.seats (λ key. refl))
-    (λ history more e. brings_unwatched faults first last c.args.link history more c.in-Err.ensures.cause refl e))
+    (turned_away g.I.Framing.framing meaning no_share c.args.link seats.seats seats.seats (λ key. refl))
+    (λ history more e. record {
+      brings = brings_crowded faults first last c.args.link history more (omega arith) refl c.saturating_add-self-inside.ensures e;
+      share = inl (subst (λ (p : PeerAddress). HasShare seats.places.per_peer p seats.seats) c.peer_address-peer.ensures has, (e, ap counted c.saturating_add-self-inside.ensures));
+    }))
 
-pub returns-in-Ok-admit-clause-stays : goal.returns-in-Ok-admit-clause-stays
-returns-in-Ok-admit-clause-stays g c =
+pub returns-else-has_share-clause-stays : goal.returns-else-has_share-clause-stays
+returns-else-has_share-clause-stays g c =
     let meaning = meaning_of g.A.Link.Ends.input g.A.Link.Ends.output g.A.Link.Ends.line in
     let faults = g.S.Readiness.faults in
-    let seats = c.self.inside.seats in
-    let now = c.admit.new.self in
-    let link = c.watch.new.link in
-    let first = state c.self.inside.acceptor c.self.inside.readiness seats c.self.inside.unseated c.self.inside.is_asked c.self.inside.is_crowded in
-    let last = state c.self.inside.acceptor c.watch.new.self now c.self.inside.unseated c.self.inside.is_asked c.self.inside.is_crowded in
-    rw (← c.self.view_is) (stay_as g.I.Framing.framing meaning (Admits {E = AllocError} link (Ok c.in-Ok-admit._key)) (Brings faults c.args.link first last)
-    seats.seats now.seats c.in-Ok-admit.ensures.stays
-    (λ history more e. brings_seat faults first last c.in-Ok-admit._key c.args.link history more c.watch.ensures.later refl
-    (e ∙ ap (λ (l : g.row.A-Link.Denot). came c.in-Ok-admit._key l ∷ []) c.watch.ensures.link)))
+    let peer = g.A.Link.Peered.peer c.args.link in
+    let first = c.args.self.now in
+    let last = c.seat.new.self in
+    let lacks : LacksShare first.seats.places.per_peer c.peer_address-peer.result first.seats.seats = search rules in
+    stay_as g.I.Framing.framing meaning (Brings faults c.args.link first last) (BringsPeer faults peer c.args.link first last)
+    first.seats.seats last.seats.seats c.seat.ensures.stays
+    (λ history more brings. record { brings = brings; share = inr (subst (λ (p : PeerAddress). LacksShare first.seats.places.per_peer p first.seats.seats) c.peer_address-peer.ensures lacks, c.seat.ensures.share) })
 
-pub returns-in-Err-admit-clause-stays : goal.returns-in-Err-admit-clause-stays
-returns-in-Err-admit-clause-stays g c =
-    let meaning = meaning_of g.A.Link.Ends.input g.A.Link.Ends.output g.A.Link.Ends.line in
-    let faults = g.S.Readiness.faults in
-    let seats = c.self.inside.seats in
-    let now = c.admit.new.self in
-    let link = c.watch.new.link in
-    let first = state c.self.inside.acceptor c.self.inside.readiness seats c.self.inside.unseated c.self.inside.is_asked c.self.inside.is_crowded in
-    let last = state c.self.inside.acceptor c.watch.new.self now c.saturating_add-self-inside.result c.self.inside.is_asked c.self.inside.is_crowded in
-    rw (← c.self.view_is) (stay_as g.I.Framing.framing meaning (Admits {E = AllocError} link (Err c.in-Err-admit.field-0)) (Brings faults c.args.link first last)
-    seats.seats now.seats c.in-Err-admit.ensures.stays
-    (λ history more e. brings_unseated faults first last c.args.link history more c.watch.ensures.later c.saturating_add-self-inside.ensures
-    (e ∙ ap (λ (l : g.row.A-Link.Denot). refused no_memory l ∷ []) c.watch.ensures.link)))
-
-pub returns-in-Ok-admit-clause-left : goal.returns-in-Ok-admit-clause-left
-returns-in-Ok-admit-clause-left g c = rw (← c.self.view_is) c.admit.ensures.left
-
-pub returns-in-Err-admit-clause-left : goal.returns-in-Err-admit-clause-left
-returns-in-Err-admit-clause-left g c = rw (← c.self.view_is) c.admit.ensures.left
+pub returns-else-has_share-clause-few : goal.returns-else-has_share-clause-few
+returns-else-has_share-clause-few g c =
+    let first = c.args.self.now.seats in
+    let last = c.seat.new.self.seats in
+    λ few.
+    subst (λ (p : Places). HaveFew p.per_peer last.seats) (sym c.seat.ensures.one.1)
+    (few_joined first.places.per_peer c.peer_address-peer.result first.seats last.seats c.seat.ensures.joins (search rules) few)

@@ -1,8 +1,10 @@
-use Rattle.std.proofs.Common.{subst, ℕ}
+use Rattle.std.proofs.Common.{subst}
 use Rattle.modbus_link.specs.Line.{meaning_of}
+use Rattle.modbus_hub.specs.declared.seats.Places.{Places}
 use Rattle.modbus_hub.specs.Seats.{IsDrop}
 use Rattle.modbus_hub.specs.Turns.{GivesWay}
 use Rattle.modbus_hub.proofs.Rounds.{drops_both}
+use Rattle.modbus_hub.proofs.Sharing.{peers_both}
 use Rattle.modbus_hub.proofs.Seating.{stay_both}
 use Rattle.modbus_hub.proofs.server.EventServer.let_go.Goals as goal
 
@@ -17,5 +19,9 @@ returns-clause-went g c =
     let last = c.give_way.new.self.seats.seats in (
       now.seats.seats,
       c.sweep.ensures.lets_go,
-      subst (λ (n : ℕ). GivesWay n now.seats.seats last) c.sweep.ensures.no_more.1 c.give_way.ensures.gives_way,
+      subst (λ (p : Places). GivesWay p.connections now.seats.seats last) c.sweep.ensures.no_more.1 c.give_way.ensures.gives_way,
     )
+
+pub returns-clause-peers : goal.returns-clause-peers
+returns-clause-peers g c =
+    peers_both c.args.self.now.seats.seats c.sweep.new.self.seats.seats c.give_way.new.self.seats.seats c.sweep.ensures.peers c.give_way.ensures.peers

@@ -4,6 +4,7 @@ use Rattle.modbus_hub.specs.Counted.{counted}
 use Rattle.modbus_hub.specs.Seats.{polled_by, IsDrop}
 use Rattle.modbus_hub.specs.Turns.{TakesRound, TellsRound}
 use Rattle.modbus_hub.proofs.Seating.{go_aside, go_both}
+use Rattle.modbus_hub.proofs.Sharing.{few_after}
 use Rattle.modbus_hub.proofs.Rounding.{then_drops}
 use Rattle.modbus_hub.proofs.server.EventServer.round.Goals as goal
 
@@ -23,17 +24,21 @@ returns-in-Ok-clause-goes_on g c =
     first.seats.seats now.seats.seats last.seats.seats c.args.service.now after after c.in-Ok.ensures.goes_on
     (go_aside g.I.Framing.framing (counted g.V.Answerer.answering) meaning IsDrop now.seats.seats last.seats.seats after e.stays)
     (λ history xs ys first_round drops. (
-      then_drops accepts faults found first now last history xs ys e.acceptor e.readiness e.unseated first_round drops,
+      then_drops accepts faults found first now last history xs ys e.acceptor e.readiness e.losses first_round drops,
       record {
         now = now;
         taken = xs;
         gone = ys;
         both = refl;
         round = first_round;
-        lets_go = (drops, e.acceptor, e.readiness, e.unseated, e.asked, e.crowded);
+        lets_go = (drops, e.acceptor, e.readiness, e.losses, e.asked, e.crowded);
         marks = λ marks. e.marks (c.turn.ensures.marks marks);
         next = c.look-due.ensures.next;
         looked = c.look-due.ensures.looked;
         went = rw (c.look-due.ensures.idle, c.look-due.ensures.late) at e.went;
       },
     ))
+
+pub returns-in-Ok-clause-few : goal.returns-in-Ok-clause-few
+returns-in-Ok-clause-few g c =
+    λ few. few_after c.turn.new.self.seats c.let_go.new.self.seats c.let_go.ensures.no_more.1 c.let_go.ensures.peers (c.turn.ensures.few few)

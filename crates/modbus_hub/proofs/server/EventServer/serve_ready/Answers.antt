@@ -8,6 +8,7 @@ use Rattle.modbus_ready.specs.declared.readiness.Ready.{Ready}
 use Rattle.modbus_ready.specs.declared.readiness.Ready.TheVariants.{Peer}
 use Rattle.modbus_hub.specs.Turns.{ServerState, IsPeerFound, ServesFound, ServesNext}
 use Rattle.modbus_hub.proofs.Counting.{none_more}
+use Rattle.modbus_hub.proofs.Sharing.{peers_both}
 use Rattle.modbus_hub.proofs.Seating.{go_both, go_same}
 use Rattle.modbus_hub.proofs.Rounding.{found_nothing, found_next, others_next, peer_in}
 use Rattle.modbus_hub.proofs.server.EventServer.serve_ready.Goals as goal
@@ -25,6 +26,7 @@ ready-init g c = (
   λ marks. marks,
   λ was. was,
   λ key. inr refl,
+  λ key peer is. is,
 )
 
 pub ready-preserved : goal.ready-preserved
@@ -40,7 +42,7 @@ ready-preserved g c =
       none_more c.args.self.now.seats c.ready.self.seats c.take_at.new.self.seats c.ready.invariant.0 c.take_at.ensures.no_more,
       c.take_at.ensures.acceptor ∙ c.ready.invariant.1,
       c.take_at.ensures.readiness ∙ c.ready.invariant.2,
-      c.take_at.ensures.unseated ∙ c.ready.invariant.3,
+      c.take_at.ensures.losses ∙ c.ready.invariant.3,
       go_both g.I.Framing.framing (counted g.V.Answerer.answering) (polled_by (meaning_of g.A.Link.Ends.input g.A.Link.Ends.output g.A.Link.Ends.line) g.A.Link.PolledLink.not_ready c.args.self.now.seats.limits) (ServesFound (take index found))
           (ServesNext (take index found) ready) (ServesFound (take (index + 1) found))
           c.args.self.now.seats.seats c.ready.self.seats.seats c.take_at.new.self.seats.seats c.args.service.now c.ready.service c.take_at.new.service
@@ -63,6 +65,7 @@ ready-preserved g c =
           (others_next (take index found) ready key (get c.args.self.now.seats.seats key) (get c.ready.self.seats.seats key) (get c.take_at.new.self.seats.seats key)
           (c.ready.invariant.9 key) (subst (λ (l : List Ready). IsFound key (get_or l index Peer ∷ []) ⊎ (get c.take_at.new.self.seats.seats key ≡ get c.ready.self.seats.seats key)) same
           (c.take_at.ensures.others key))),
+      peers_both c.args.self.now.seats.seats c.ready.self.seats.seats c.take_at.new.self.seats.seats c.ready.invariant.10 c.take_at.ensures.peers,
     )
 
 pub returns-clause-asked : goal.returns-clause-asked

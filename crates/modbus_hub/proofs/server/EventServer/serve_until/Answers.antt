@@ -1,10 +1,12 @@
-use Rattle.std.proofs.Common.{refl, arith, [], Ok, Err}
+use Rattle.std.proofs.Common.{subst, sym, refl, arith, [], Ok, Err}
 use Rattle.modbus_frame.specs.declared.server.Terminated.{Terminated}
 use Rattle.modbus_link.specs.Line.{meaning_of}
 use Rattle.modbus_hub.specs.Counted.{counted}
 use Rattle.modbus_hub.specs.Seats.{polled_by}
 use Rattle.modbus_hub.specs.Turns.{TellsRound, TellsRounds}
 use Rattle.modbus_hub.proofs.Counting.{within_both}
+use Rattle.modbus_hub.specs.Losses.{TellsAll}
+use Rattle.modbus_hub.proofs.Telling.{none_told, told_more}
 use Rattle.modbus_hub.proofs.Seating.{go_as, go_both, go_same, go_under}
 use Rattle.modbus_hub.proofs.Rounding.{none_come}
 use Rattle.modbus_hub.proofs.Serving.{RoundsSoFar, rounds_more, rounds_fail, so_far}
@@ -19,6 +21,8 @@ rounds-init g c = (
       (RoundsSoFar g.A.PolledAcceptor.accepts g.S.Readiness.faults g.S.Readiness.found c.args.deadlines c.begin-sweeps.result c.args.self.now c.args.self.now) c.args.self.now.seats.seats c.args.service.now
       (λ history. (none_come g.A.PolledAcceptor.accepts g.S.Readiness.faults c.args.self.now c.args.self.now history [] refl (omega arith) refl refl, (c.begin-sweeps.result.last, c.begin-sweeps.ensures.first, [], (refl, refl), c.begin-sweeps.ensures.begun))),
   λ marks. marks,
+  λ few. few,
+  none_told g.W.Watcher.tells c.args.self.now.losses c.args.watcher.now,
 )
 
 pub rounds-preserved : goal.rounds-preserved
@@ -38,6 +42,8 @@ rounds-preserved g c =
           c.rounds.invariant.3
           (go_under g.I.Framing.framing (counted g.V.Answerer.answering) (meaning_of g.A.Link.Ends.input g.A.Link.Ends.output g.A.Link.Ends.line) g.A.Link.PolledLink.not_ready now.seats.limits first.seats.limits (TellsRound accepts faults found c.rounds.sweeps c.round.new.sweeps now next (Ok tt)) now.seats.seats next.seats.seats c.rounds.service c.round.new.service c.rounds.invariant.0.0 c.in-Ok.ensures.goes_on) (rounds_more accepts faults found c.args.deadlines c.rounds.sweeps c.round.new.sweeps first now next),
       λ marks. c.round.ensures.marks (c.rounds.invariant.4 marks),
+      λ few. c.round.ensures.few (c.rounds.invariant.5 few),
+      told_more g.W.Watcher.tells first.losses now.losses next.losses c.args.watcher.now c.rounds.watcher c.round.new.watcher c.rounds.invariant.6 c.in-Ok.ensures.told,
     )
 
 pub returns-in-Err-clause-goes_on : goal.returns-in-Err-clause-goes_on
@@ -66,3 +72,9 @@ returns-then-is_set-clause-goes_on g c =
     (RoundsSoFar accepts faults found c.args.deadlines c.rounds.sweeps first now) (TellsRounds accepts faults {R = Terminated} found c.args.deadlines first now (Ok Terminated.Aborted))
     first.seats.seats now.seats.seats c.args.service.now c.rounds.service c.rounds.invariant.3
     (λ history more some. so_far accepts faults found c.args.deadlines c.rounds.sweeps first now history more some Terminated.Aborted)
+
+pub returns-in-Err-clause-few : goal.returns-in-Err-clause-few
+returns-in-Err-clause-few g c = λ few. c.round.ensures.few (c.rounds.invariant.5 few)
+
+pub returns-in-Err-clause-told : goal.returns-in-Err-clause-told
+returns-in-Err-clause-told g c = (c.rounds.self.losses, subst (λ (w : g.row.W.Denot). TellsAll g.W.Watcher.tells c.args.self.now.losses c.rounds.self.losses c.args.watcher.now w) (sym c.in-Err.ensures.told) c.rounds.invariant.6)

@@ -3,6 +3,7 @@ use Rattle.modbus_link.specs.Line.{meaning_of}
 use Rattle.modbus_hub.specs.Seats.{IsDrop, on_time}
 use Rattle.modbus_hub.specs.Sweeps.{stays_if}
 use Rattle.modbus_hub.proofs.Rounds.{drops_both}
+use Rattle.modbus_hub.proofs.Sharing.{peers_both}
 use Rattle.modbus_hub.proofs.Seating.{stay_both}
 use Rattle.modbus_hub.proofs.server.EventServer.sweep.Goals as goal
 
@@ -13,3 +14,7 @@ returns-clause-stays g c =
 
 pub returns-clause-lets_go : goal.returns-clause-lets_go
 returns-clause-lets_go g c key = c.sweep_late.ensures.lets_go key ∙ ap (stays_if c.args.due.late on_time) (c.sweep_idle.ensures.lets_go key)
+
+pub returns-clause-peers : goal.returns-clause-peers
+returns-clause-peers g c =
+    peers_both c.args.self.now.seats.seats c.sweep_idle.new.self.seats.seats c.sweep_late.new.self.seats.seats c.sweep_idle.ensures.peers c.sweep_late.ensures.peers

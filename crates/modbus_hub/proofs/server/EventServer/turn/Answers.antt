@@ -5,6 +5,7 @@ use Rattle.modbus_hub.specs.Seats.{polled_by, AllStand, AsksNone}
 use Rattle.modbus_hub.specs.Turns.{ServesFound, ServesLeft, AcceptsAsked, IsPeerFound, TakesRound}
 use Rattle.modbus_hub.proofs.Marks.{marks_same, one_same}
 use Rattle.modbus_hub.proofs.Seating.{go_aside, go_both, go_standing, stay_aside}
+use Rattle.modbus_hub.proofs.Sharing.{few_after, peers_both}
 use Rattle.modbus_hub.proofs.Rounding.{state, ServesDue, due_both, round_of}
 use Rattle.modbus_hub.proofs.server.EventServer.turn.Goals as goal
 
@@ -18,7 +19,7 @@ returns-in-Ok-clause-goes_on g c =
     let faults = g.S.Readiness.faults in
     let found = g.S.Readiness.found in
     let seats = c.self.inside.seats in
-    let first = state c.self.inside.acceptor c.self.inside.readiness seats c.self.inside.unseated c.self.inside.is_asked c.self.inside.is_crowded in
+    let first = state c.self.inside.acceptor c.self.inside.readiness seats c.self.inside.losses c.self.inside.is_asked c.self.inside.is_crowded in
     let ready = c.serve_ready.new.self in
     let served = c.serve_left.new.self in
     let last = c.accept_asked.new.self in
@@ -47,8 +48,16 @@ returns-in-Ok-clause-goes_on g c =
     (go_aside framing answering meaning (λ history more. AcceptsAsked accepts faults served last history more × AsksNone history more) served.seats.seats last.seats.seats after
     (stay_aside framing link (AcceptsAsked accepts faults served last) served.seats.seats last.seats.seats c.accept_asked.ensures.stays))
     (λ history xs ys some more. round_of accepts faults found first served last history xs ys (c.serve_left.ensures.acceptor ∙ c.serve_ready.ensures.acceptor) waited
-    (c.serve_left.ensures.unseated ∙ c.serve_ready.ensures.unseated) (one_same served.seats last.seats c.accept_asked.ensures.left c.serve_left.ensures.one_left) asks some more))
+    (c.serve_left.ensures.losses ∙ c.serve_ready.ensures.losses) (one_same served.seats last.seats c.accept_asked.ensures.left c.serve_left.ensures.one_left) asks some more))
 
 pub returns-in-Ok-clause-marks : goal.returns-in-Ok-clause-marks
 returns-in-Ok-clause-marks g c =
     rw (← c.self.view_is) (λ marks. marks_same c.serve_left.new.self.seats c.accept_asked.new.self.seats c.accept_asked.ensures.left (c.serve_left.ensures.marks (c.serve_ready.ensures.marks marks)))
+
+pub returns-in-Ok-clause-few : goal.returns-in-Ok-clause-few
+returns-in-Ok-clause-few g c =
+    let seats = c.self.inside.seats in
+    let ready = c.serve_ready.new.self.seats in
+    let served = c.serve_left.new.self.seats in
+    rw (← c.self.view_is) (λ few. c.accept_asked.ensures.few (few_after seats served (c.serve_left.ensures.no_more.1 ∙ c.serve_ready.ensures.no_more.1)
+    (peers_both seats.seats ready.seats served.seats c.serve_ready.ensures.peers c.serve_left.ensures.peers) few))
