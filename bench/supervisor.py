@@ -31,6 +31,12 @@ def processor_seconds():
     return usage.ru_utime + usage.ru_stime
 
 
+def device(number, port):
+    """A device of the map with one point."""
+    points = f'[{{ name = "a", address = {number}, kind = "u16" }}]'
+    return f'[[device]]\nname = "d{number}"\ntcp = "127.0.0.1:{port}"\npoints = {points}\n'
+
+
 def measure(path, every, count):
     """Prints what so many polls of each device take."""
     before, began = processor_seconds(), time.monotonic()
@@ -49,8 +55,8 @@ def main():
         port = listener.getsockname()[1]
     loop = subprocess.Popen([LOOP, "tcp", str(port)], stderr=subprocess.PIPE, text=True)
     loop.stderr.readline()
-    with tempfile.NamedTemporaryFile("w", suffix=".list") as file:
-        file.writelines(f"d{number} 127.0.0.1:{port} 1 a={number}:u16\n" for number in range(DEVICES))
+    with tempfile.NamedTemporaryFile("w", suffix=".toml") as file:
+        file.writelines(device(number, port) for number in range(DEVICES))
         file.flush()
         measure(file.name, 1, 100)
         measure(file.name, 1000, 10)

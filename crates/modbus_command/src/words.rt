@@ -5,7 +5,6 @@ ghost use Rattle.modbus_about.specs.declared.TheConstants.{FAILED, USAGE};
 
 use clap::error::{Error, ErrorKind};
 use modbus_about::{FAILED, USAGE};
-use modbus_poll::PointError;
 use std::{env, io};
 
 /// Tells what clap has to say to the user of this program, and gives the status: 0 where the help or the version was asked for and could be told.
@@ -49,15 +48,5 @@ pub fn words_of(rt: &HostRuntime, program: &str) -> Result<Vec<String>, u8>
             let _ = eprintln!(rt; "{program}: no memory");
             Err(FAILED)
         }
-    }
-}
-
-/// Why a word names no item.
-pub fn why_no_point(fault: PointError) -> &'static str {
-    match fault {
-        PointError::Address => "no address from 0 to 65535 before the colon",
-        PointError::Kind =>
-            "no kind: u16 i16 u32 i32 u64 i64 u32le i32le u64le i64le, or text1 to text125",
-        PointError::End => "passes the last address, 65535",
     }
 }

@@ -1,3 +1,5 @@
 pub mod Lines
-pub mod SeenLine
 pub mod Reads
+pub mod Targets
+pub mod Turns
+pub mod Watched

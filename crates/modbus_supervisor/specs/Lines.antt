@@ -1,29 +1,43 @@
--- The lines that the program prints, each an object of JSON (RFC 8259) and a line feed.
-use Rattle.std.specs.Prelude.{ℕ, true, false, List, [], ◌∷◌, ◌++◌, decimal, codes}
-use Rattle.json.specs.Token.{Token, begin_object, end_object, key, number, string, boolean}
-use Rattle.json.specs.Print.{print}
-use Rattle.modbus_command.specs.Json.{json_value}
-use Rattle.modbus_poll.specs.declared.value.Value.{Value}
+-- The lines that the program prints, each of one device at one time: objects of JSON (RFC 8259), or lines of InfluxDB's line protocol.
+use Rattle.std.specs.Prelude.{ℕ, List}
+use Rattle.modbus_frame.specs.declared.code.ExceptionCode.{ExceptionCode}
+use Rattle.modbus_frame.specs.Codes.{exception_number}
+use Rattle.modbus_lines.specs.declared.reading.Format.{Format}
+use Rattle.modbus_lines.specs.declared.reading.Format.TheVariants as format
+use Rattle.modbus_lines.specs.declared.reading.Reading.{Reading}
+use Rattle.modbus_lines.specs.Told as told
+use Rattle.modbus_supervisor.specs.declared.lines.Output.{Output}
+use Rattle.modbus_supervisor.specs.declared.lines.Output.TheVariants.{Json, Influx}
+use Rattle.modbus_supervisor.specs.declared.lines.Stamp.{Stamp}
 
--- each object begins with the device: its name in the list, and its unit identifier
-abbrev pub line_head : List ℕ → ℕ → List Token
-line_head device unit = begin_object ∷ key (codes "device") ∷ string device ∷ key (codes "unit") ∷ number (decimal unit) ∷ []
+-- the format of the texts of values
+abbrev pub format_of : Output → Format
+format_of (Json large) = format.Json
+format_of Influx = format.Influx
 
-abbrev pub text_of_tokens : List Token → List ℕ
-text_of_tokens tokens = print (tokens ++ end_object ∷ []) ++ 10 ∷ []
+-- a point has this value
+abbrev pub value_line : Stamp → Reading → List ℕ
+value_line stamp reading = elim stamp.output [
+  | Json large ↦ told.point_json large stamp.time.now stamp.device.now reading
+  | Influx ↦ told.point_influx stamp.nanos stamp.device.now reading
+]
 
--- an item has this value
-abbrev pub changed_line : List ℕ → ℕ → List ℕ → Value → List ℕ
-changed_line device unit item value = text_of_tokens (line_head device unit ++ key (codes "item") ∷ string item ∷ key (codes "value") ∷ json_value value ∷ [])
-
--- the device answers its read with this exception
-abbrev pub refused_line : List ℕ → ℕ → List ℕ → ℕ → List ℕ
-refused_line device unit item exception =
-    text_of_tokens (line_head device unit ++ key (codes "item") ∷ string item ∷ key (codes "exception") ∷ number (decimal exception) ∷ [])
+-- the device answers the read of a point of this name with this exception
+abbrev pub exception_line : Stamp → List ℕ → ExceptionCode → List ℕ
+exception_line stamp name code = elim stamp.output [
+  | Json large ↦ told.exception_json stamp.time.now stamp.device.now name (exception_number code)
+  | Influx ↦ told.exception_influx stamp.nanos stamp.device.now name (exception_number code)
+]
 
 -- the device is away, and why; it is back
-abbrev pub away_line : List ℕ → ℕ → List ℕ → List ℕ
-away_line device unit why = text_of_tokens (line_head device unit ++ key (codes "away") ∷ boolean true ∷ key (codes "why") ∷ string why ∷ [])
+abbrev pub away_line : Stamp → List ℕ → List ℕ
+away_line stamp why = elim stamp.output [
+  | Json large ↦ told.away_json stamp.time.now stamp.device.now why
+  | Influx ↦ told.away_influx stamp.nanos stamp.device.now why
+]
 
-abbrev pub back_line : List ℕ → ℕ → List ℕ
-back_line device unit = text_of_tokens (line_head device unit ++ key (codes "away") ∷ boolean false ∷ [])
+abbrev pub back_line : Stamp → List ℕ
+back_line stamp = elim stamp.output [
+  | Json large ↦ told.back_json stamp.time.now stamp.device.now
+  | Influx ↦ told.back_influx stamp.nanos stamp.device.now
+]

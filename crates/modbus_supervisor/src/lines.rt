@@ -1,103 +1,94 @@
-//! The lines that the program prints, each an object of JSON (RFC 8259).
-ghost use Rattle.std.specs.Prelude.{◌≡◌, [], IfOk};
-ghost use Rattle.modbus_supervisor.specs.Lines.{line_head, text_of_tokens, changed_line, refused_line, away_line, back_line};
+//! The lines that the program prints: objects of JSON (RFC 8259), or lines of InfluxDB's line protocol.
+ghost use Rattle.std.specs.Prelude.{◌≡◌, IfOk};
+ghost use Rattle.modbus_frame.specs.Codes.{exception_number};
+ghost use Rattle.modbus_supervisor.specs.Lines.{format_of, value_line, exception_line, away_line, back_line};
 
-use json::Writer;
-use modbus_command::put_value;
-use modbus_poll::Value;
+use modbus_frame::ExceptionCode;
+use modbus_lines::{
+    Format, LargeNumbers, Reading, away_influx, away_json, back_influx, back_json,
+    exception_influx, exception_json, point_influx, point_json,
+};
 use std::alloc::{AllocError, Global};
 
-/// A device, as each line names it.
+/// How lines are written.
+#[derive(Clone, Copy, Debug, PartialEq, Eq)]
+pub enum Output {
+    /// An object of JSON, in which large numbers are told so.
+    Json(LargeNumbers),
+    /// A line of InfluxDB's line protocol.
+    Influx,
+}
+
+impl Output {
+    /// The format of the texts of values.
+    pub fn format(self) -> Format
+        ensures { result ≡ format_of self }
+    {
+        match self {
+            Output::Json(_) => Format::Json,
+            Output::Influx => Format::Influx,
+        }
+    }
+}
+
+/// A device at one time, as each line tells it.
 #[derive(Clone, Copy, Debug)]
-pub struct Label<'a> {
-    /// Its name in the list.
-    pub name: &'a str,
-    /// Its unit identifier.
-    pub unit: u8,
+pub struct Stamp<'a> {
+    /// How the line is written.
+    pub output: Output,
+    /// The time, as RFC 3339 has it.
+    pub time: &'a str,
+    /// The time in nanoseconds since 1970.
+    pub nanos: i64,
+    /// The name of the device.
+    pub device: &'a str,
 }
 
-/// Begins an object with the device.
-fn begin(alloc: Global, device: Label<'_>) -> Result<Writer, AllocError>
-    ensures before { IfOk result (λ writer. writer.before ≡ []) }
-    ensures tokens { IfOk result (λ writer. writer.tokens
-        ≡ line_head device.entry.name.now device.entry.unit) }
-{
-    let mut writer = Writer::new(Vec::new(alloc));
-    writer.begin_object()?;
-    writer.key("device")?;
-    writer.string(device.name)?;
-    writer.key("unit")?;
-    writer.u64(u64::from(device.unit))?;
-    Ok(writer)
-}
-
-/// Ends an object and its line.
-fn end(mut writer: Writer) -> Result<Vec<u8>, AllocError>
-    requires { writer.before ≡ [] }
-    ensures { IfOk result (λ line. line.items ≡ text_of_tokens writer.tokens) }
-{
-    writer.end_object()?;
-    let mut line = writer.into_inner();
-    line.push(b'\n')?;
-    Ok(line)
-}
-
-/// The line of an item that has another value than before.
-pub fn changed_line(
+/// The line of a point that has another value than before. In the line protocol there is none for a value that it has not.
+pub fn value_line(
     alloc: Global,
-    device: Label<'_>,
-    item: &str,
-    value: &Value,
+    stamp: Stamp<'_>,
+    reading: &Reading<'_>,
 ) -> Result<Vec<u8>, AllocError>
-    ensures { IfOk result (λ line. line.items
-        ≡ changed_line device.entry.name.now device.entry.unit item.now value.now) }
+    ensures { IfOk result (λ line. line.items ≡ value_line stamp.entry reading.now) }
 {
-    let mut writer = begin(alloc, device)?;
-    writer.key("item")?;
-    writer.string(item)?;
-    writer.key("value")?;
-    put_value(alloc, &mut writer, value)?;
-    end(writer)
+    match stamp.output {
+        Output::Json(large) => point_json(alloc, large, stamp.time, stamp.device, reading),
+        Output::Influx => point_influx(alloc, stamp.nanos, stamp.device, reading),
+    }
 }
 
-/// The line of an item whose read the device answers with an exception (V1.1b3, section 7).
-pub fn refused_line(
+/// The line of a point whose read the device answers with an exception (V1.1b3, section 7).
+pub fn exception_line(
     alloc: Global,
-    device: Label<'_>,
-    item: &str,
-    exception: u8,
+    stamp: Stamp<'_>,
+    point: &str,
+    code: ExceptionCode,
 ) -> Result<Vec<u8>, AllocError>
-    ensures { IfOk result (λ line. line.items
-        ≡ refused_line device.entry.name.now device.entry.unit item.now exception) }
+    ensures { IfOk result (λ line. line.items ≡ exception_line stamp.entry point.now code) }
 {
-    let mut writer = begin(alloc, device)?;
-    writer.key("item")?;
-    writer.string(item)?;
-    writer.key("exception")?;
-    writer.u64(u64::from(exception))?;
-    end(writer)
+    match stamp.output {
+        Output::Json(_) => exception_json(alloc, stamp.time, stamp.device, point, code),
+        Output::Influx => exception_influx(alloc, stamp.nanos, stamp.device, point, code),
+    }
 }
 
 /// The line of a device that is away, and why.
-pub fn away_line(alloc: Global, device: Label<'_>, why: &str) -> Result<Vec<u8>, AllocError>
-    ensures { IfOk result (λ line. line.items
-        ≡ away_line device.entry.name.now device.entry.unit why.now) }
+pub fn away_line(alloc: Global, stamp: Stamp<'_>, why: &str) -> Result<Vec<u8>, AllocError>
+    ensures { IfOk result (λ line. line.items ≡ away_line stamp.entry why.now) }
 {
-    let mut writer = begin(alloc, device)?;
-    writer.key("away")?;
-    writer.boolean(true)?;
-    writer.key("why")?;
-    writer.string(why)?;
-    end(writer)
+    match stamp.output {
+        Output::Json(_) => away_json(alloc, stamp.time, stamp.device, why),
+        Output::Influx => away_influx(alloc, stamp.nanos, stamp.device, why),
+    }
 }
 
 /// The line of a device that is back.
-pub fn back_line(alloc: Global, device: Label<'_>) -> Result<Vec<u8>, AllocError>
-    ensures { IfOk result (λ line. line.items
-        ≡ back_line device.entry.name.now device.entry.unit) }
+pub fn back_line(alloc: Global, stamp: Stamp<'_>) -> Result<Vec<u8>, AllocError>
+    ensures { IfOk result (λ line. line.items ≡ back_line stamp.entry) }
 {
-    let mut writer = begin(alloc, device)?;
-    writer.key("away")?;
-    writer.boolean(false)?;
-    end(writer)
+    match stamp.output {
+        Output::Json(_) => back_json(alloc, stamp.time, stamp.device),
+        Output::Influx => back_influx(alloc, stamp.nanos, stamp.device),
+    }
 }

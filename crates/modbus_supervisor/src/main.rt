@@ -1,56 +1,38 @@
-//! A program that polls many Modbus TCP devices on one thread: it reads the items of each so often, and prints a line of JSON for each value
-//! that changed, for each device that is away and for each that is back.
+//! A program that polls the Modbus TCP devices of a plant's map on one thread: it reads the points of each so often, and prints a line for each
+//! value that changed, for each device that is away and for each that is back.
 #![tactic(auto)]
 
 mod fault;
+mod halves;
 mod lines;
-mod list;
 mod plan;
+mod plant;
 mod reads;
+mod refusal;
 mod supervise;
+mod target;
+mod time;
 mod turn;
 mod watched;
 mod words;
 
-use list::{ListFault, parse_list};
-use modbus_command::{FAILED, USAGE, fill_closed_streams, say, words_of};
+use modbus_command::{FAILED, fill_closed_streams, say, words_of};
 use plan::print_plan;
-use std::fs;
+use refusal::Refusal;
 use std::process::ExitCode;
 use supervise::supervise;
+use target::{Target, targets};
 use words::Task;
 
 /// What its messages begin with.
 const PROGRAM: &str = "modbus_supervisor";
 
-/// Tells why a list cannot be read, and gives the status.
-fn refuse(rt: &HostRuntime, file: &str, fault: ListFault<'_>) -> u8 {
-    match fault {
-        ListFault::NoMemory => {
-            let _ = eprintln!(rt; "modbus_supervisor: no memory");
-            FAILED
-        }
-        ListFault::Empty => {
-            let _ = eprintln!(rt; "modbus_supervisor: {file}: no line has a device");
-            USAGE
-        }
-        ListFault::Line { number, word, why } => {
-            let _ = eprintln!(rt; "modbus_supervisor: {file}: line {number}: {word}: {why}");
-            USAGE
-        }
-    }
-}
-
-/// Polls the devices of a list, or prints their reads; the status.
-fn serve_list(rt: &HostRuntime, task: &Task<'_>, text: &str) -> u8 {
-    let list = match parse_list(rt.alloc(), text) {
-        Ok(list) => list,
-        Err(fault) => return refuse(rt, task.file, fault),
-    };
+/// Polls devices, or prints their reads; the status.
+fn serve_targets(rt: &HostRuntime, task: &Task<'_>, targets: Vec<Target>) -> u8 {
     let served = if task.is_plan {
-        print_plan(rt, list.as_slice())
+        print_plan(rt, targets.as_slice())
     } else {
-        supervise(rt, task, list.as_slice())
+        supervise(rt, task, targets)
     };
     match served {
         Ok(()) => 0,
@@ -61,6 +43,20 @@ fn serve_list(rt: &HostRuntime, task: &Task<'_>, text: &str) -> u8 {
     }
 }
 
+/// Tells why nothing can be polled, and gives the status.
+fn refuse(rt: &HostRuntime, refusal: &Refusal<'_>) -> u8 {
+    let _ = eprintln!(rt; "modbus_supervisor: {refusal}");
+    refusal.status()
+}
+
+/// Does what the words ask for that were read, of the devices and points that some of them choose; the status.
+fn serve_task<'a>(rt: &HostRuntime, task: &Task<'a>, chosen: &[&'a str]) -> u8 {
+    match targets(rt, task, chosen) {
+        Ok(targets) => serve_targets(rt, task, targets),
+        Err(refusal) => refuse(rt, &refusal),
+    }
+}
+
 /// Reads the words and does what they ask for; the status.
 fn serve(rt: &HostRuntime, words: &[String]) -> u8 {
     let matches = match words::parse(rt.alloc(), words) {
@@ -68,15 +64,7 @@ fn serve(rt: &HostRuntime, words: &[String]) -> u8 {
         Err(error) => return say(rt, PROGRAM, &error),
     };
     let task = words::task_of(&matches);
-    match fs::read_to_string(rt, task.file) {
-        Ok(text) => serve_list(rt, &task, text.as_str()),
-        Err(error) => {
-            let file = task.file;
-            let kind = error.kind();
-            let _ = eprintln!(rt; "modbus_supervisor: {file}: {kind}");
-            USAGE
-        }
-    }
+    serve_task(rt, &task, matches.get_strs("words").unwrap_or(&[]))
 }
 
 fn main(rt: HostRuntime) -> ExitCode {

@@ -1,9 +1,10 @@
-//! The devices of a list, each of which is polled at its own times on one thread.
+//! The devices of a plant, each of which is polled at its own times on one thread.
 ghost use Rattle.std.specs.Prelude.{◌<◌, ◌^◌, IfOk};
 
 use crate::fault::{Fault, Why, why_unanswered, why_unconnected};
-use crate::lines::Label;
-use crate::list::Entry;
+use crate::lines::Output;
+use crate::target::Target;
+use crate::time::Time;
 use crate::turn::Turn;
 use crate::watched::Watched;
 use crate::words::Task;
@@ -12,7 +13,6 @@ use modbus_client::tcp::OwnAdus;
 use modbus_fleet::{Device, Fleet};
 use modbus_frame::{ExceptionCode, Request, Response, Result as Answer};
 use modbus_ready::{MioReadiness, PolledTcpLink};
-use std::alloc::AllocError;
 use std::io::{self, Write};
 use std::net::SocketAddr;
 use std::time::{Duration, Instant};
@@ -20,24 +20,28 @@ use std::time::{Duration, Instant};
 /// How many reads of a call may give bytes.
 const TURNS: u64 = 64;
 
-/// A device of the list.
+/// A device of the plant.
 #[derive(Drop)]
-struct Supervised<'l> {
+struct Supervised {
     address: SocketAddr,
-    watched: Watched<'l>,
+    watched: Watched,
     turn: Turn,
+    // how many milliseconds a read may take
+    timeout: u64,
+    // how often a read is made again that has no answer, and how often the one that is asked still is
+    retries: u8,
+    tries: u8,
     // whether no answer came over its connection yet
     is_fresh: bool,
 }
 
 /// The devices as they are asked, and as they are seen, under the same keys.
 #[derive(Drop)]
-struct Supervisor<'l> {
+struct Supervisor {
     fleet: Fleet<'static, OwnAdus, PolledTcpLink, MioReadiness>,
-    devices: Vec<Supervised<'l>>,
+    devices: Vec<Supervised>,
     began: Instant,
-    every: u32,
-    timeout: u64,
+    output: Output,
     // when something is to be done next, if no answer comes; `None` where nothing is any more
     wake: Option<u64>,
     // what is printed next
@@ -64,7 +68,7 @@ fn is_opened<E: Drop>(asked: Option<Result<(), E>>) -> Result<bool, Fault> {
     }
 }
 
-impl<'l> Supervisor<'l> {
+impl Supervisor {
     /// How many milliseconds passed since the program began.
     fn now(&self, rt: &HostRuntime) -> Result<u64, Fault>
         ensures { IfOk result (λ now. now < 2 ^ 63) }
@@ -89,7 +93,7 @@ impl<'l> Supervisor<'l> {
     fn end(&mut self, rt: &HostRuntime, key: usize) -> Result<(), Fault> {
         let now = self.now(rt)?;
         if let Some(device) = self.devices.get_mut(key) {
-            device.turn.end(self.every, now);
+            device.turn.end(now);
         }
         self.note_wake(key);
         Ok(())
@@ -97,10 +101,20 @@ impl<'l> Supervisor<'l> {
 
     /// Ends the poll of the device under a key, which is away.
     fn leave(&mut self, rt: &HostRuntime, key: usize, why: Why) -> Result<(), Fault> {
+        let time = Time::now(rt)?;
+        if let Some(device) = self.devices.get_mut(key) {
+            device.watched.leave(rt.alloc(), self.output, &time, why.text(), &mut self.lines)?;
+        }
+        self.end(rt, key)
+    }
+
+    /// Ends the poll of the device under a key, each read of which had an answer.
+    fn finish(&mut self, rt: &HostRuntime, key: usize) -> Result<(), Fault> {
+        let time = Time::now(rt)?;
         if let Some(device) = self.devices.get_mut(key) {
             device
                 .watched
-                .leave(rt.alloc(), why.text(), &mut self.lines)?;
+                .end(rt.alloc(), self.output, &time, &mut self.lines)?;
         }
         self.end(rt, key)
     }
@@ -168,7 +182,7 @@ impl<'l> Supervisor<'l> {
             return Ok(false);
         }
         if let Some(device) = self.devices.get_mut(key) {
-            device.turn.ask(now.saturating_add(self.timeout));
+            device.turn.ask(now.saturating_add(device.timeout));
         }
         self.note_wake(key);
         Ok(true)
@@ -177,7 +191,7 @@ impl<'l> Supervisor<'l> {
     /// Asks the read of the device under a key that comes next, or ends its poll where none is left. Whether a read was asked.
     fn ask(&mut self, rt: &HostRuntime, key: usize) -> Result<bool, Fault> {
         let Some(request) = self.next_request(key) else {
-            self.end(rt, key)?;
+            self.finish(rt, key)?;
             return Ok(false);
         };
         if !self.is_connected(rt, key)? {
@@ -190,18 +204,34 @@ impl<'l> Supervisor<'l> {
         Ok(is_asked)
     }
 
-    /// Goes on with the device under a key after a call without its answer: the read is asked again over a new connection, since the device
-    /// may have closed the last one between two polls; if this one was new, it is away. Whether it was asked.
+    /// Whether the read of the device under a key is made again that had no answer, which counts.
+    fn takes_try(&mut self, key: usize) -> bool {
+        match self.devices.get_mut(key) {
+            Some(device) if device.tries > 0 => {
+                device.tries = device.tries.saturating_sub(1);
+                true
+            }
+            _ => false,
+        }
+    }
+
+    /// Goes on with the device under a key after a call without its answer: the read is asked again over a new connection as often as the map
+    /// says; then the device is away. Whether it was asked.
+    fn try_again(&mut self, rt: &HostRuntime, key: usize, why: Why) -> Result<bool, Fault> {
+        if self.takes_try(key) {
+            return self.ask(rt, key);
+        }
+        self.leave(rt, key, why)?;
+        Ok(false)
+    }
+
+    /// Goes on with the device under a key whose connection broke, or whose answer was none: where an answer came over that connection
+    /// before, the read is asked again over a new one and doesn't count, since the device may have closed the last one between two polls.
+    /// Whether it was asked.
     fn try_anew(&mut self, rt: &HostRuntime, key: usize, why: Why) -> Result<bool, Fault> {
-        let is_fresh = match self.devices.get(key) {
-            Some(device) => device.is_fresh,
-            None => true,
-        };
-        if is_fresh {
-            self.leave(rt, key, why)?;
-            Ok(false)
-        } else {
-            self.ask(rt, key)
+        match self.devices.get(key) {
+            Some(device) if !device.is_fresh => self.ask(rt, key),
+            _ => self.try_again(rt, key, why),
         }
     }
 
@@ -215,10 +245,11 @@ impl<'l> Supervisor<'l> {
         let Some(device) = self.devices.get_mut(key) else {
             return Ok(Some(Why::Other));
         };
-        if !device.watched.take(rt.alloc(), reply, &mut self.lines)? {
+        if !device.watched.take(rt.alloc(), reply)? {
             return Ok(Some(Why::Other));
         }
         device.is_fresh = false;
+        device.tries = device.retries;
         Ok(None)
     }
 
@@ -278,20 +309,30 @@ impl<'l> Supervisor<'l> {
     /// Begins a poll of the device under a key.
     fn begin(&mut self, rt: &HostRuntime, key: usize) -> Result<(), Fault> {
         if let Some(device) = self.devices.get_mut(key) {
-            device.watched.begin();
+            device.watched.begin()?;
+            device.tries = device.retries;
         }
+        self.go_on(rt, key)
+    }
+
+    /// Asks the next read of the device under a key, and takes the answers that come at once.
+    fn go_on(&mut self, rt: &HostRuntime, key: usize) -> Result<(), Fault> {
         if self.ask(rt, key)? {
             self.take_ready(rt, key)?;
         }
         Ok(())
     }
 
-    /// Gives up the call of the device under a key, unless its answer has come.
-    fn give_up(&mut self, rt: &HostRuntime, key: usize) -> Result<(), Fault> {
-        match self.fleet.poll(key) {
-            Some(answer) => self.take(rt, key, answer),
-            None => self.leave(rt, key, Why::NoAnswer),
+    /// Gives up the call of the device under a key, unless its answer has come, with its link: the reply may still come.
+    fn give_up(&mut self, rt: &HostRuntime, key: usize, now: u64) -> Result<(), Fault> {
+        if let Some(answer) = self.fleet.poll(key) {
+            return self.take(rt, key, answer);
         }
+        let _is_given_up = self.fleet.expire_at(key, now);
+        if self.takes_try(key) {
+            return self.go_on(rt, key);
+        }
+        self.leave(rt, key, Why::NoAnswer)
     }
 
     /// Does what is to be done for the device under a key at this time.
@@ -301,7 +342,7 @@ impl<'l> Supervisor<'l> {
         };
         let turn = device.turn;
         if turn.is_late(now) {
-            self.give_up(rt, key)?;
+            self.give_up(rt, key, now)?;
         } else if turn.is_due(now) {
             self.begin(rt, key)?;
         }
@@ -314,12 +355,6 @@ impl<'l> Supervisor<'l> {
         self.wake = None;
         for key in 0..self.devices.len() {
             self.serve(rt, key, now)?;
-        }
-        // The links are dropped of the calls that were given up.
-        for _ in 0..u64::MAX {
-            if self.fleet.expire(now).is_none() {
-                return Ok(());
-            }
         }
         Ok(())
     }
@@ -337,31 +372,30 @@ impl<'l> Supervisor<'l> {
         }
     }
 
-    /// Adds a device of the list, which is not connected yet.
-    fn add(&mut self, rt: &HostRuntime, task: &Task<'_>, entry: &Entry<'l>) -> Result<(), Fault> {
-        let device = Device::new(entry.unit, TURNS, u64::from(task.timeout));
+    /// Adds a device, which is not connected yet.
+    fn add(&mut self, rt: &HostRuntime, count: u64, target: Target) -> Result<(), Fault> {
+        let times = target.times;
+        let timeout = u64::from(times.timeout);
+        let device = Device::new(target.unit, TURNS, timeout);
         if self.fleet.add(device)? != self.devices.len() {
             return Err(Fault::NoMemory);
         }
-        let watched = watched_of(rt, entry)?;
         self.devices.push(Supervised {
-            address: entry.address,
-            watched,
-            turn: Turn::new(task.count),
+            address: target.address,
+            watched: Watched::new(rt.alloc(), target.name, target.points)?,
+            turn: Turn::new(count, times.every),
+            timeout,
+            retries: times.retries,
+            tries: times.retries,
             is_fresh: true,
         })?;
         Ok(())
     }
 
-    /// Adds the devices of a list.
-    fn add_all(
-        &mut self,
-        rt: &HostRuntime,
-        task: &Task<'_>,
-        list: &[Entry<'l>],
-    ) -> Result<(), Fault> {
-        for entry in list {
-            self.add(rt, task, entry)?;
+    /// Adds devices.
+    fn add_all(&mut self, rt: &HostRuntime, count: u64, targets: Vec<Target>) -> Result<(), Fault> {
+        for target in targets {
+            self.add(rt, count, target)?;
         }
         Ok(())
     }
@@ -400,7 +434,7 @@ impl<'l> Supervisor<'l> {
 }
 
 /// A supervisor of no device.
-fn idle<'l>(rt: &HostRuntime, task: &Task<'_>) -> Result<Supervisor<'l>, Fault> {
+fn idle(rt: &HostRuntime, output: Output) -> Result<Supervisor, Fault> {
     let alloc = rt.alloc();
     let Ok(began) = Instant::now(rt) else {
         return Err(Fault::Clock);
@@ -412,38 +446,19 @@ fn idle<'l>(rt: &HostRuntime, task: &Task<'_>) -> Result<Supervisor<'l>, Fault> 
         fleet: Fleet::new(alloc, readiness),
         devices: Vec::new(alloc),
         began,
-        every: task.every,
-        timeout: u64::from(task.timeout),
+        output,
         wake: Some(0),
         lines: Vec::new(alloc),
         is_short_of_files: false,
     })
 }
 
-/// The devices of a list, none of them connected yet.
-fn supervisor_of<'l>(
-    rt: &HostRuntime,
-    task: &Task<'_>,
-    list: &[Entry<'l>],
-) -> Result<Supervisor<'l>, Fault> {
-    let mut supervisor = idle(rt, task)?;
-    supervisor.add_all(rt, task, list)?;
-    Ok(supervisor)
-}
-
-/// A device of the list, of which nothing was seen.
-fn watched_of<'l>(rt: &HostRuntime, entry: &Entry<'l>) -> Result<Watched<'l>, AllocError> {
-    let label = Label {
-        name: entry.name,
-        unit: entry.unit.0,
-    };
-    Watched::new(rt.alloc(), label, entry.wanted.as_slice())
-}
-
-/// Polls the devices of a list, each as often as the task says.
+/// Polls devices, each as often as it is to be.
 ///
 /// # Errors
 /// Why it ended before.
-pub fn supervise(rt: &HostRuntime, task: &Task<'_>, list: &[Entry<'_>]) -> Result<(), Fault> {
-    supervisor_of(rt, task, list)?.run(rt)
+pub fn supervise(rt: &HostRuntime, task: &Task<'_>, targets: Vec<Target>) -> Result<(), Fault> {
+    let mut supervisor = idle(rt, task.output)?;
+    supervisor.add_all(rt, task.count, targets)?;
+    supervisor.run(rt)
 }

@@ -1,11 +1,14 @@
 //! When a device is polled. Times are milliseconds since the program began.
-ghost use Rattle.std.specs.Prelude.{◌≡◌, ◌<◌, ◌≤◌, ◌+◌, ◌-◌, ◌^◌, ◌%◌};
+ghost use Rattle.std.specs.Prelude.{◌≡◌, ◌≢◌, ◌↔◌, ◌<◌, ◌≤◌, ◌+◌, ◌-◌, ◌^◌, None, IsTrue, max};
+ghost use Rattle.modbus_supervisor.specs.Turns.{IsNextAfter};
 
 /// When the polls of a device begin, and when its call is given up.
 #[derive(Clone, Copy, Debug)]
 pub struct Turn {
     // how many polls are left
     left: u64,
+    // how many milliseconds pass from the beginning of a poll to that of the next
+    every: u32,
     // when the next one begins
     due: u64,
     // when the call that is under way is given up
@@ -17,25 +20,31 @@ fn next_due(began: u64, every: u64, now: u64) -> u64
     requires interval { 0 < every }
     requires began { began ≤ now }
     requires fits { now + every < 2 ^ 64 }
-    ensures later { now < result }
-    ensures soon { result ≤ now + every }
-    ensures whole { (result - began) % every ≡ 0 }
+    ensures { IsNextAfter began every now result }
 {
     now + (every - (now - began) % every)
 }
 
 impl Turn {
-    /// A turn of so many polls, of which the first begins at once.
-    pub fn new(count: u64) -> Turn {
+    /// A turn of so many polls, so often, of which the first begins at once.
+    pub fn new(count: u64, every: u32) -> Turn
+        ensures count { result.left ≡ count }
+        ensures every { result.every ≡ max every 1 }
+        ensures due { (result.due ≡ 0) × (result.deadline ≡ None) }
+    {
         Turn {
             left: count,
+            every: every.max(1),
             due: 0,
             deadline: None,
         }
     }
 
     /// Whether a poll is to begin.
-    pub fn is_due(&self, now: u64) -> bool {
+    pub fn is_due(&self, now: u64) -> bool
+        ensures { IsTrue result ↔ (self.now.deadline ≡ None) × (0 < self.now.left)
+            × (self.now.due ≤ now) }
+    {
         self.deadline.is_none() && self.left > 0 && self.due <= now
     }
 
@@ -62,13 +71,18 @@ impl Turn {
     }
 
     /// The poll is over. The next one begins a whole number of intervals later; those that were missed are left out.
-    pub fn end(&mut self, every: u32, now: u64)
+    pub fn end(&mut self, now: u64)
         requires { now < 2 ^ 63 }
+        ensures left { self.new.left ≡ self.old.left - 1 }
+        ensures rest { (self.new.deadline ≡ None) × (self.new.every ≡ self.old.every) }
+        ensures next { 0 < self.old.every → self.old.due ≤ now
+            → IsNextAfter self.old.due self.old.every now self.new.due }
+        ensures stays { now < self.old.due → self.new.due ≡ self.old.due }
     {
         self.deadline = None;
         self.left = self.left.saturating_sub(1);
         if self.due <= now {
-            self.due = next_due(self.due, u64::from(every.max(1)), now);
+            self.due = next_due(self.due, u64::from(self.every.max(1)), now);
         }
     }
 }

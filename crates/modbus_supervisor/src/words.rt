@@ -1,20 +1,24 @@
 //! The words of the command line.
 
+use crate::lines::Output;
 use clap::{Arg, ArgMatches, Command, Error, value_parser};
 use modbus_command::{VERSION, command, flag, option, positional};
+use modbus_lines::LargeNumbers;
 use std::alloc::{AllocError, Global};
 
 /// What the words ask for.
-#[derive(Drop)]
+#[derive(Clone, Copy)]
 pub struct Task<'a> {
-    /// The file with the list of devices.
+    /// The file with the map of the plant.
     pub file: &'a str,
-    /// How many milliseconds pass from the beginning of a device's poll to that of its next.
-    pub every: u32,
-    /// How many milliseconds a read may take, with the connection where there is none.
-    pub timeout: u32,
+    /// How many milliseconds pass from the beginning of a device's poll to that of its next, where not the map tells it.
+    pub every: Option<u32>,
+    /// How many milliseconds a read may take, with the connection where there is none, where not the map tells it.
+    pub timeout: Option<u32>,
     /// How many polls each device has.
     pub count: u64,
+    /// How lines are written.
+    pub output: Output,
     /// Whether the reads are printed, and nothing is sent.
     pub is_plan: bool,
 }
@@ -22,26 +26,38 @@ pub struct Task<'a> {
 /// How many milliseconds an option has at most: a day.
 const MOST_MILLIS: i64 = 86_400_000;
 
+/// How lines are written.
+const FORMATS: [&str; 2] = ["json", "influx"];
+
 fn millis<'a>(alloc: Global, name: &'a str, help: &'a str) -> Arg<'a> {
-    option(alloc, name, "MS", help)
-        .value_parser(value_parser!(u32).range(1..=MOST_MILLIS))
-        .default_value("1000")
+    option(alloc, name, "MS", help).value_parser(value_parser!(u32).range(1..=MOST_MILLIS))
 }
 
 fn file<'a>(alloc: Global) -> Arg<'a> {
     positional(
         alloc,
         "file",
-        "FILE",
-        "The list, a line for each device: a name, ADDRESS:PORT, a unit identifier and items, as pump1 192.0.2.1:502 1 level=100:u16",
+        "PLANT",
+        "The map of the plant, a text in TOML; its devices are reached over Modbus TCP",
     )
+}
+
+fn chosen<'a>(alloc: Global) -> Arg<'a> {
+    positional(
+        alloc,
+        "words",
+        "DEVICE[.POINT]",
+        "The devices of the map, or points, that are polled: all where none is named",
+    )
+    .required(false)
+    .num_args(0..)
 }
 
 fn every<'a>(alloc: Global) -> Arg<'a> {
     millis(
         alloc,
         "every",
-        "Poll each device again after so many milliseconds",
+        "Poll each device again after so many milliseconds; else what the map says of it, and 1000 where that says nothing",
     )
 }
 
@@ -49,7 +65,7 @@ fn timeout<'a>(alloc: Global) -> Arg<'a> {
     millis(
         alloc,
         "timeout",
-        "How long a read may take, in milliseconds, with its connection",
+        "How long a read may take, in milliseconds, with its connection; else what the map says",
     )
 }
 
@@ -61,6 +77,25 @@ fn count<'a>(alloc: Global) -> Arg<'a> {
         "End after so many polls of each device; else it goes on for ever",
     )
     .value_parser(value_parser!(u64).range(1..=1_000_000_000_000))
+}
+
+fn format<'a>(alloc: Global) -> Arg<'a> {
+    option(
+        alloc,
+        "format",
+        "FORMAT",
+        "How lines are written; influx is the line protocol of InfluxDB",
+    )
+    .value_parser(FORMATS.as_slice())
+    .default_value("json")
+}
+
+fn big_as_text<'a>(alloc: Global) -> Arg<'a> {
+    flag(
+        alloc,
+        "big-as-text",
+        "In JSON numbers above 2^53 are texts, for readers that take each number as a double",
+    )
 }
 
 fn plan<'a>(alloc: Global) -> Arg<'a> {
@@ -75,15 +110,18 @@ fn plan<'a>(alloc: Global) -> Arg<'a> {
 fn whole<'a>(alloc: Global) -> Result<Command<'a>, AllocError> {
     let words = vec![in alloc;
         file(alloc),
+        chosen(alloc),
         every(alloc),
         timeout(alloc),
         count(alloc),
+        format(alloc),
+        big_as_text(alloc),
         plan(alloc),
     ]?;
     let whole = command(
         alloc,
         "modbus_supervisor",
-        "Polls many Modbus TCP devices, and prints what changes",
+        "Polls the Modbus TCP devices of a plant's map, and prints what changes",
         words,
     )?;
     Ok(whole.version(VERSION))
@@ -97,13 +135,23 @@ pub fn parse<'a>(alloc: Global, words: &'a [String]) -> Result<ArgMatches<'a>, E
     whole(alloc)?.try_get_matches_from(words)
 }
 
+/// How lines are written.
+fn output_of(matches: &ArgMatches<'_>) -> Output {
+    match matches.get_str("format") {
+        Some("influx") => Output::Influx,
+        _ if matches.get_flag("big-as-text") => Output::Json(LargeNumbers::AsTexts),
+        _ => Output::Json(LargeNumbers::AsNumbers),
+    }
+}
+
 /// What the words ask for that were read.
 pub fn task_of<'a>(matches: &ArgMatches<'a>) -> Task<'a> {
     Task {
         file: matches.get_str("file").unwrap_or(""),
-        every: matches.get_one("every").unwrap_or(1000),
-        timeout: matches.get_one("timeout").unwrap_or(1000),
+        every: matches.get_one("every"),
+        timeout: matches.get_one("timeout"),
         count: matches.get_one("count").unwrap_or(u64::MAX),
+        output: output_of(matches),
         is_plan: matches.get_flag("plan"),
     }
 }

@@ -21,6 +21,8 @@ mod map;
 #[cfg(test)]
 mod plant;
 #[cfg(test)]
+mod poll;
+#[cfg(test)]
 mod store;
 #[cfg(test)]
 mod told;
