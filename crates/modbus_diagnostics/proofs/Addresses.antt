@@ -8,10 +8,11 @@ use Rattle.modbus_service.specs.Exchange.{Exchange, Run}
 use Rattle.modbus_service.specs.Outcome.{Outcome}
 use Rattle.modbus_service.specs.Units.{LineUnits, unit_at, Did, OneAsked, units_give, units_answering}
 use Rattle.modbus_service.specs.declared.only_unit.OnlyUnit.{OnlyUnit}
+use Rattle.modbus_field.specs.LineAnswers.{addresses_of}
 use Rattle.modbus_diagnostics.specs.declared.heard.Heard.{Heard}
 use Rattle.modbus_diagnostics.specs.declared.heard.Heard.TheVariants.{Noise, Another, Broadcast, Own, Asks, Monitored, MonitoredBroadcast, MonitoredAnother}
 use Rattle.modbus_diagnostics.specs.Journal.{JournalState}
-use Rattle.modbus_diagnostics.specs.Port.{PortState, addresses_of, Answers, port_answering}
+use Rattle.modbus_diagnostics.specs.Port.{PortState, Answers, port_answering}
 
 module _ {S : Type 0} (A : Answering S) where
   did_all : (request : Asked) (old new : List (OnlyUnit S)) → AllZip (Did A request) old new → addresses_of new ≡ addresses_of old

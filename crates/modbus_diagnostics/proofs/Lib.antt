@@ -1,6 +1,7 @@
 pub mod Addresses
 pub mod Fitting
 pub mod Noise
+pub mod Own
 pub mod Parts
 pub mod Places
 pub mod Runs

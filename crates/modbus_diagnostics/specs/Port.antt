@@ -1,7 +1,6 @@
 -- A port of a serial line, which counts what it hears and answers for its counters (Modbus Application Protocol V1.1b3, section 6.8).
-use Rattle.std.specs.Prelude.{◌≡◌, ℕ, Bool, true, false, List, [], ◌∷◌, ◌++◌, All, map, Option, Some, None, Result, Ok, Err, ⊤, if◌then◌else◌}
+use Rattle.std.specs.Prelude.{◌≡◌, ℕ, Bool, true, false, List, [], ◌∷◌, ◌++◌, All, Option, Some, None, Result, Ok, Err, ⊤, if◌then◌else◌}
 use Rattle.modbus_frame.specs.Meaning.{Asked}
-use Rattle.modbus_frame.specs.declared.code.ExceptionCode.{ExceptionCode}
 use Rattle.modbus_frame.specs.declared.response.Response.{Response}
 use Rattle.modbus_service.specs.Answering.{Answering}
 use Rattle.modbus_service.specs.Exchange.{Exchange, Run}
@@ -10,6 +9,7 @@ use Rattle.modbus_service.specs.Units.{LineUnits, Checks, units_answering}
 use Rattle.modbus_service.specs.declared.only_unit.OnlyUnit.{OnlyUnit}
 use Rattle.modbus_service.specs.declared.service.ServiceError.{ServiceError}
 use Rattle.modbus_service.specs.declared.service.ServiceError.TheVariants.{Exception, NoMemory}
+use Rattle.modbus_field.specs.LineAnswers.{addresses_of}
 use Rattle.modbus_diagnostics.specs.declared.counters.Ended.{Ended}
 use Rattle.modbus_diagnostics.specs.declared.counters.Ended.TheVariants.{Well, Refused, Silent}
 use Rattle.modbus_diagnostics.specs.declared.heard.Heard.{Heard}
@@ -30,19 +30,19 @@ pub record PortState (S : Type 0) : Type 0 where
   pub line : LineUnits S
   pub journal : JournalState
 
--- the addresses of units
-abbrev pub addresses_of : {S : Type 0} → List (OnlyUnit S) → List ℕ
-addresses_of units = map (λ it. it.unit) units
+-- a port that has heard nothing, of these units; it has no exception for another address
+abbrev pub port_over : {S : Type 0} → List (OnlyUnit S) → PortState S
+port_over units = record { units = addresses_of units; line = record { units = units; absent = None }; journal = empty_journal }
 
--- a port that has heard nothing, of these units
-abbrev pub port_over : {S : Type 0} → List (OnlyUnit S) → Option ExceptionCode → PortState S
-port_over units absent = record { units = addresses_of units; line = record { units = units; absent = absent }; journal = empty_journal }
+-- a port counts for the addresses of its units, and these are silent to every other
+abbrev pub IsQuiet : {S : Type 0} → List ℕ → LineUnits S → Type 0
+IsQuiet units line = (units ≡ addresses_of line.units) × (line.absent ≡ None)
 
 -- A port was made of units, where their addresses are those of single devices and distinct; else it is told which is not.
-abbrev pub MakesPort : {S : Type 0} → List (OnlyUnit S) → Option ExceptionCode → Result (PortState S) PortError → Type 0
-MakesPort units absent (Ok port) = (port ≡ port_over units absent) × Checks units (Ok tt)
-MakesPort units absent (Err (BadUnits error)) = Checks units (Err error)
-MakesPort units absent (Err NoRoom) = ⊤
+abbrev pub MakesPort : {S : Type 0} → List (OnlyUnit S) → Result (PortState S) PortError → Type 0
+MakesPort units (Ok port) = (port ≡ port_over units) × Checks units (Ok tt)
+MakesPort units (Err (BadUnits error)) = Checks units (Err error)
+MakesPort units (Err NoRoom) = ⊤
 
 -- how a message ended that was told so; untold where memory was refused
 abbrev pub told_end : Result (Option Response) ServiceError → Option Ended

@@ -3,14 +3,17 @@ ghost use Rattle.std.specs.Prelude.{◌≡◌, IfOk};
 ghost use Rattle.modbus_frame.specs.Meaning.{meaning};
 ghost use Rattle.modbus_service.specs.Answering.{Keeps};
 ghost use Rattle.modbus_service.specs.Units.{units_answering};
-ghost use Rattle.modbus_diagnostics.specs.Port.{addresses_of, MakesPort, hearing, noted_when, TellsEnd, port_answering};
+ghost use Rattle.modbus_field.specs.LineAnswers.{addresses_of};
+ghost use Rattle.modbus_diagnostics.specs.Port.{MakesPort, IsQuiet, hearing, noted_when, TellsEnd, port_answering};
 
 use crate::counters::{Counters, Ended};
 use crate::heard::{Heard, hear};
 use crate::journal::Journal;
 use crate::port_units::{PortUnits, end_of};
 use crate::query::reply;
-use modbus_frame::{ExceptionCode, Response, SlaveId, SlaveRequest};
+use modbus_field::burst::LineAnswerer;
+use modbus_field::burst::laws::units_keep_to_own;
+use modbus_frame::{Response, SlaveId, SlaveRequest};
 use modbus_service::{Answerer, OnlyUnit, ServiceError, UnitsError};
 use std::alloc::{AllocError, Global};
 use std::marker::Model;
@@ -44,11 +47,13 @@ pub struct Port<S> {
 
 /// A contract sees the addresses of its units, these, and what it keeps of its line.
 impl<S> Model for Port<S> {
-    ghost use Rattle.modbus_diagnostics.specs.Port.{PortState};
+    ghost use Rattle.modbus_diagnostics.specs.Port.{PortState, IsQuiet};
 
     ghost Value = { PortState S };
 
     ghost view = { λ it. record { units = it.units.items; line = it.line; journal = it.journal } };
+
+    ghost invariant = { λ it. IsQuiet it.units.items it.line };
 }
 
 /// The addresses of these units.
@@ -63,22 +68,18 @@ fn addresses_of<S>(alloc: Global, units: &[OnlyUnit<S>]) -> Result<Vec<SlaveId>,
 }
 
 impl<S: Drop> Port<S> {
-    /// A port that has heard nothing, of these units: what is for one of them or for all is for the port, and nothing else is. `absent`
-    /// is the exception for an address that no unit has, or silence, as on a line that is shared.
+    /// A port that has heard nothing, of these units: what is for one of them or for all is for the port, and nothing else is. A message
+    /// for any other address has no answer, as it is a neighbour's.
     ///
     /// # Errors
     /// The first address that is out of range, or that an earlier unit has too; or refused memory.
-    pub fn new(
-        alloc: Global,
-        units: Vec<OnlyUnit<S>>,
-        absent: Option<ExceptionCode>,
-    ) -> Result<Port<S>, PortError>
-        ensures { MakesPort units.items absent result }
+    pub fn new(alloc: Global, units: Vec<OnlyUnit<S>>) -> Result<Port<S>, PortError>
+        ensures { MakesPort units.items result }
     {
         let Ok(addresses) = addresses_of(alloc, &units) else {
             return Err(PortError::NoRoom);
         };
-        match PortUnits::new(units, absent) {
+        match PortUnits::new(units) {
             Ok(line) => Ok(Port {
                 units: addresses,
                 line,
@@ -172,9 +173,21 @@ impl<S: Answerer> Answerer for Port<S> {
         alloc: Global,
         request: SlaveRequest<'_>,
     ) -> Result<Option<Response>, ServiceError> {
+        units_keep_to_own::<S>();
         let heard = hear(&self.units, self.journal.listens_only(), &request);
         let (told, end) = tell(&mut self.line, alloc, &self.journal, heard, request);
         note_when(&mut self.journal, heard, end);
         told
+    }
+}
+
+impl<S: Answerer> LineAnswerer for Port<S> {
+    ghost addresses = { λ it. it.units };
+
+    ghost is_quiet = { λ it. IsQuiet it.units it.line };
+
+    fn keep_to_own(&self) {
+        let _units = &self.units;
+        units_keep_to_own::<S>();
     }
 }

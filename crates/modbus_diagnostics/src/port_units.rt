@@ -1,5 +1,5 @@
 //! The units behind a port. They are asked as `Units` of the services is, and tell how a message for all ended.
-ghost use Rattle.std.specs.Prelude.{◌≡◌, length, IfOk, MatchOption, MatchResult};
+ghost use Rattle.std.specs.Prelude.{◌≡◌, length, None, IfOk, MatchOption, MatchResult};
 ghost use Rattle.modbus_frame.specs.Meaning.{meaning};
 ghost use Rattle.std.specs.List.{AllZip};
 ghost use Rattle.modbus_service.specs.Outcome.{silence};
@@ -8,25 +8,25 @@ ghost use Rattle.modbus_diagnostics.specs.Port.{told_end};
 ghost use Rattle.modbus_diagnostics.specs.PortUnits.{worse, AllDid, EndsAt};
 
 use crate::counters::Ended;
-use modbus_frame::{ExceptionCode, Request, Response, Slave, SlaveId, SlaveRequest};
+use modbus_frame::{Request, Response, Slave, SlaveId, SlaveRequest};
 use modbus_service::{Answerer, OnlyUnit, ServiceError, UnitsError};
 use std::alloc::{AllocError, Global};
 use std::marker::Model;
 
-/// Services behind distinct addresses on the line of a port, and the exception for an address that none has.
+/// Services behind distinct addresses on the line of a port, which are silent to every other address.
 #[derive(Drop)]
 pub(crate) struct PortUnits<S> {
     units: Vec<OnlyUnit<S>>,
-    absent: Option<ExceptionCode>,
 }
 
 /// A contract sees the units of a line.
 impl<S> Model for PortUnits<S> {
+    ghost use Rattle.std.specs.Prelude.{None};
     ghost use Rattle.modbus_service.specs.Units.{LineUnits};
 
     ghost Value = { LineUnits S };
 
-    ghost view = { λ it. record { units = it.units.items; absent = it.absent } };
+    ghost view = { λ it. record { units = it.units.items; absent = None } };
 }
 
 impl<S: Drop> PortUnits<S> {
@@ -34,14 +34,11 @@ impl<S: Drop> PortUnits<S> {
     ///
     /// # Errors
     /// The first address that is out of range, or that an earlier unit has too.
-    pub(crate) fn new(
-        units: Vec<OnlyUnit<S>>,
-        absent: Option<ExceptionCode>,
-    ) -> Result<PortUnits<S>, UnitsError>
-        ensures { MakesUnits units.items absent result }
+    pub(crate) fn new(units: Vec<OnlyUnit<S>>) -> Result<PortUnits<S>, UnitsError>
+        ensures { MakesUnits units.items None result }
     {
         match check_units(&units) {
-            Ok(()) => Ok(PortUnits { units, absent }),
+            Ok(()) => Ok(PortUnits { units }),
             Err(error) => Err(error),
         }
     }
@@ -175,10 +172,7 @@ impl<S: Answerer> Answerer for PortUnits<S> {
         }
         match place_of(&self.units, request.slave) {
             Some(place) => self.units[place].service.ask(alloc, request),
-            None => match self.absent {
-                Some(code) => Err(ServiceError::Exception(code)),
-                None => Ok(None),
-            },
+            None => Ok(None),
         }
     }
 }

@@ -7,5 +7,6 @@
 
 mod bytes;
 mod guard;
+pub mod laws;
 
 pub use crate::guard::{Echo, EchoGuard, FRAME};

@@ -5,6 +5,8 @@ pub mod Framed
 pub mod Never
 pub mod OneReading
 pub mod OwnLength
+pub mod Own
+pub mod QuietUnits
 pub mod Read
 pub mod Reading
 pub mod Reserved

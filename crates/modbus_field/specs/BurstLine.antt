@@ -7,8 +7,11 @@ use Rattle.modbus_server.specs.declared.error.ProcessError.{ProcessError}
 use Rattle.modbus_server.specs.declared.error.ProcessError.TheVariants.{TooManyRetries, BytesRemaining, InvalidRequest, InvalidLength, InvalidProtocol, NoMemory}
 use Rattle.modbus_server.specs.Complete.{RepliesFit}
 use Rattle.modbus_server.specs.Exchanges.{Exchange, Run, output, asked_of, asks}
+use Rattle.modbus_server.specs.Moment.{Moment}
+use Rattle.modbus_server.specs.Step.{Ran}
 use Rattle.modbus_field.specs.Bursts.{Heard, messages}
 use Rattle.modbus_field.specs.BurstFraming.{bursts}
+use Rattle.modbus_field.specs.LineAnswers.{IsOfOwn}
 
 -- the messages of the bursts that were read, where each read is a burst
 abbrev pub messages_read : Input → Input → List Heard
@@ -37,3 +40,7 @@ IsOfNoBurst (InvalidRequest reason) = Unit {0}
 IsOfNoBurst InvalidLength = Unit {0}
 IsOfNoBurst (InvalidProtocol protocol) = Unit {0}
 IsOfNoBurst _ = ⊥
+
+-- The run of a call is one of which all that was sent is framed for these addresses, whether the sink tells it or not.
+abbrev pub SendsOwn : {S : Type 0} → Answering S → List ℕ → ℕ → Moment S → Moment S → Result (Unit {0}) ProcessError → Type 0
+SendsOwn A own turns before after result = (ran : Ran bursts A turns before after result) × IsOfOwn own ran.sent

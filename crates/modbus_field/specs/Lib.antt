@@ -6,6 +6,7 @@ pub mod BurstLink
 pub mod BurstReading
 pub mod Bursts
 pub mod DefaultUnit
+pub mod LineAnswers
 pub mod Pieces
 pub mod ReservedCodes
 pub mod StandardAnswers

@@ -21,7 +21,7 @@ pub const MOST_READ: usize = 65_536;
 ///
 /// Its room is taken as it is opened, so a read takes no memory.
 #[derive(Drop)]
-pub struct Bursts {
+pub(crate) struct Bursts {
     bytes: BytesMut,
     // how many of them were taken off
     taken: usize,

@@ -14,6 +14,10 @@ ghost use Rattle.modbus_field.specs.BurstLength.{own_head};
 ghost use Rattle.modbus_field.specs.BurstLimits.{most_read};
 ghost use Rattle.modbus_field.specs.Bursts.{Heard, is_answered, heard, frame_of, frame_length, messages, noise, said, slave_and_pdu, frames, frames_in_message};
 ghost use Rattle.modbus_field.specs.BurstReading.{IsFrame, IsRead, messages_of};
+ghost use Rattle.modbus_field.specs.LineAnswers.{addresses_of, KeepsToOwn};
+ghost use Rattle.modbus_service.specs.Units.{units_answering};
+
+use modbus_service::Answerer;
 
 /// A burst of bytes is a frame exactly where it is that of a slave address and of a PDU of 1 to 253 bytes. Its message is then these, and
 /// noise exactly where it is no frame.
@@ -84,4 +88,10 @@ pub fn last_alone_is_answered()
     ensures { (burst : List ℕ) (front later : List Heard) (message : Heard)
         → said burst ≡ front ++ message ∷ later → is_answered message.header ≡ true
         → flat_map frames_in_message later ≡ [] }
+{}
+
+/// Units that have no exception for another address answer what is for their addresses alone, and go on so.
+pub fn units_keep_to_own<S: Answerer>()
+    ensures { KeepsToOwn (units_answering S.answering) (λ it. addresses_of it.units)
+        (λ it. it.absent ≡ None) }
 {}

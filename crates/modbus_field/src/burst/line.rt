@@ -1,31 +1,25 @@
 //! Serving a line of bursts, until its input ends (MODBUS over Serial Line V1.02, section 2.5.1.1).
+//!
+//! What is served has to be a `LineAnswerer`, so that no neighbour is answered. The drivers of modbus_server take any answerer; `Bursts` is
+//! private, so that none of them runs over it but by the calls of this module.
 ghost use Rattle.std.specs.Prelude.{◌≡◌, IsTrue, Ok, IfErr};
 ghost use Rattle.modbus_server.specs.Complete.{Completes};
 ghost use Rattle.modbus_server.specs.Step.{Ran};
 ghost use Rattle.modbus_field.specs.BurstFraming.{bursts};
-ghost use Rattle.modbus_field.specs.BurstLine.{AnswersBursts, ServesBursts, IsOfNoBurst};
+ghost use Rattle.modbus_field.specs.BurstLine.{AnswersBursts, ServesBursts, IsOfNoBurst, SendsOwn};
 ghost use Rattle.modbus_server.specs.Moment.{moment};
 
 use crate::burst::bursts::Bursts;
+use crate::burst::line_answerer::LineAnswerer;
 use modbus_link::{Sink, Source};
 use modbus_server::{ProcessError, serve, serve_link};
-use modbus_service::Answerer;
 use std::alloc::Global;
-
-/// A connection of bursts: the burst that was fed and not used yet.
-pub type Connection = modbus_server::Connection<Bursts>;
-
-/// A server of bursts over a link that may not be ready.
-pub type PolledProcess = modbus_server::PolledProcess<Bursts>;
-
-/// One connection of bursts as work that can be handed over.
-pub type ConnectionWorker<L, V, H, X> = modbus_server::ConnectionWorker<Bursts, L, V, H, X>;
 
 /// Serves one object as source and sink until its input ends; its contract is that of `process`. A `BurstLink` over a serial line is one.
 ///
 /// # Errors
 /// Those of `process`.
-pub fn process_link<L: Source + Sink, V: Answerer>(
+pub fn process_link<L: Source + Sink, V: LineAnswerer>(
     alloc: Global,
     link: &mut L,
     service: &mut V,
@@ -44,7 +38,12 @@ pub fn process_link<L: Source + Sink, V: Answerer>(
     ensures serves { ServesBursts V.answering service.old (L.input link.old) (L.input link.new)
         (L.output link.old) (L.output link.new) turns result }
     ensures causes { IfErr result (λ error. IsOfNoBurst error → ⊥) }
+    ensures own { SendsOwn V.answering (V.addresses service.old) turns
+        (moment service.old (L.input link.old) (L.output link.old))
+        (moment service.new (L.input link.new) (L.output link.new)) result }
+    ensures addresses { V.addresses service.new ≡ V.addresses service.old }
 {
+    service.keep_to_own();
     serve_link::<Bursts, L, V>(alloc, link, service, turns)
 }
 
@@ -61,9 +60,9 @@ pub fn process_link<L: Source + Sink, V: Answerer>(
 /// on. What is left is noise, as a cut frame with all that stands behind it, and a burst that fills the room: it asks a custom request of
 /// function code 0 with no byte, for the address 255. No bytes of two bursts are ever read as one frame.
 ///
-/// So the service hears the whole line, and has to be silent to what is not for it: `OnlyUnit` and `Units` of modbus_service are, to the
-/// messages for other slaves. Below them `StandardAnswers` answers a PDU that can't be read with the exception that the standard wants, and is
-/// silent to noise.
+/// So the service hears the whole line, and has to be silent to what is not for it. A `LineAnswerer` is: whatever comes, all that is sent is
+/// framed for its own addresses, which it keeps. `OnlyUnit` of modbus_service, `QuietUnits` and the port of modbus_diagnostics are such ones.
+/// Below them `StandardAnswers` answers a PDU that can't be read with the exception that the standard wants, and is silent to noise.
 ///
 /// # Errors
 /// - `ReadFault`, `WriteFault`: only where the source, the sink counted a fault in this call.
@@ -75,7 +74,7 @@ pub fn process_link<L: Source + Sink, V: Answerer>(
 /// `TooManyRetries`, `BytesRemaining`, `InvalidRequest`, `InvalidLength` and `InvalidProtocol` never come: whatever is on the line, bursts
 /// have no fault, nothing is left over, and each message asks something. After any error but `WriteFault`, each answer to a last frame before
 /// the failing place was written whole.
-pub fn process<S: Source, K: Sink, V: Answerer>(
+pub fn process<S: Source, K: Sink, V: LineAnswerer>(
     alloc: Global,
     source: &mut S,
     sink: &mut K,
@@ -96,6 +95,11 @@ pub fn process<S: Source, K: Sink, V: Answerer>(
     ensures serves { ServesBursts V.answering service.old (S.input source.old) (S.input source.new)
         (K.output sink.old) (K.output sink.new) turns result }
     ensures causes { IfErr result (λ error. IsOfNoBurst error → ⊥) }
+    ensures own { SendsOwn V.answering (V.addresses service.old) turns
+        (moment service.old (S.input source.old) (K.output sink.old))
+        (moment service.new (S.input source.new) (K.output sink.new)) result }
+    ensures addresses { V.addresses service.new ≡ V.addresses service.old }
 {
+    service.keep_to_own();
     serve::<Bursts, S, K, V>(alloc, source, sink, service, turns)
 }

@@ -1,5 +1,5 @@
 use Rattle.std.proofs.Common.{◌≡◌, take}
-use Rattle.modbus_diagnostics.specs.Port.{addresses_of}
+use Rattle.modbus_field.specs.LineAnswers.{addresses_of}
 use Rattle.modbus_diagnostics.proofs.port.addresses_of.Given as goal
 
 abbrev pub invariant-loop-it : goal.invariant-loop-it

@@ -13,6 +13,7 @@ use Rattle.modbus_diagnostics.specs.declared.heard.Heard.{Heard}
 use Rattle.modbus_diagnostics.specs.declared.heard.Heard.TheVariants.{Broadcast}
 use Rattle.modbus_diagnostics.specs.Heard.{heard_as}
 use Rattle.modbus_diagnostics.specs.Port.{PortState, noted_when, hearing, Answers, Ends, TellsEnd, port_gives, port_answering}
+use Rattle.modbus_diagnostics.proofs.Own.{kept}
 use Rattle.modbus_diagnostics.proofs.port.PortAnswerer.ask.Goals as goal
 
 module _ {S : Type 0} (A : Answering S) where
@@ -86,3 +87,8 @@ returns g c =
     (c.hear-heard.ensures ∙ ap (λ us. heard_as us c.listens_only.result slave request) c.deref.ensures.value
     ∙ ap (λ l. heard_as c.self.inside.units.items l slave request) c.listens_only.ensures)
     c.tell-told.ensures.keeps c.tell-told.ensures.ends c.note_when.ensures refl)
+
+pub invariant_of-self : goal.invariant_of-self
+invariant_of-self g c =
+    kept g.S.Answerer.answering c.units_keep_to_own.ensures c.self.inside.units.items c.self.inside.line c.tell-told.new.line c.self.invariant
+    c.self.inside.journal c.hear-heard.result c.args.request.slave (meaning c.args.request.request) c.tell-told.result.0 c.tell-told.ensures.keeps

@@ -1,5 +1,6 @@
-use Rattle.std.proofs.Common.{◌≡◌, ◌≢◌, length, set, refl, subst}
+use Rattle.std.proofs.Common.{◌≡◌, ◌≢◌, length, set, refl, subst, Option, None}
 use Rattle.modbus_frame.specs.Meaning.{meaning}
+use Rattle.modbus_frame.specs.declared.code.ExceptionCode.{ExceptionCode}
 use Rattle.modbus_service.specs.Answering.{Keeps}
 use Rattle.modbus_service.specs.Units.{LineUnits, FirstAt, units_answering}
 use Rattle.modbus_diagnostics.proofs.Places.{keeps_one}
@@ -10,7 +11,7 @@ returns-in-Some g c =
     let A = g.S.Answerer.answering in
     let request = meaning c.args.request.request in
     let units = c.self.inside.units.items in
-    let absent = c.self.inside.absent in
+    let absent : Option ExceptionCode = None in
     let new : LineUnits g.row.S.Denot =
     record { units = set units c.in-Some.place (record { unit = c.index_mut.result.now.unit; service = c.ask.new.self }); absent = absent } in
     let one : c.args.request.slave ≢ 0 = λ zero. (let on = c.is_broadcast.ensures.1 zero in cc) in
