@@ -1,5 +1,6 @@
 //! The units of the device.
 ghost use Rattle.std.specs.Prelude.{◌≡◌, IfOk, IfErr};
+ghost use Rattle.modbus_field.specs.LineAnswers.{addresses_of};
 ghost use Rattle.modbus_files.specs.Files.{files_at_start};
 ghost use Rattle.modbus_device.specs.Held.{HasFiles};
 
@@ -235,7 +236,9 @@ fn have_units(plan: &Plan<'_>) -> bool {
 }
 
 /// The units of a device, each with four tables of zeros, but for the inputs that are set.
-fn open_units(alloc: Global, plan: &Plan<'_>) -> Result<Vec<OnlyUnit<Unit>>, OpenError> {
+fn open_units(alloc: Global, plan: &Plan<'_>) -> Result<Vec<OnlyUnit<Unit>>, OpenError>
+    ensures { IfOk result (λ units. addresses_of units.items ≡ plan.now.units.now) }
+{
     if !have_units(plan) {
         return Err(OpenError::Setting);
     }
@@ -288,10 +291,13 @@ pub fn open(alloc: Global, plan: &Plan<'_>, addressing: Addressing) -> Result<De
     })
 }
 
-/// The same units on a serial line, whose port has heard nothing; they are silent to a request for any other.
+/// The same units on a serial line, whose port has heard nothing. They are silent to whatever is for another: a port has no exception for
+/// an address that none of them has.
 ///
 /// # Errors
 /// Those of `open`, but for the default unit.
-pub fn open_line(alloc: Global, plan: &Plan<'_>) -> Result<LineDevice, OpenError> {
-    Ok(Port::new(alloc, open_units(alloc, plan)?, None)?)
+pub fn open_line(alloc: Global, plan: &Plan<'_>) -> Result<LineDevice, OpenError>
+    ensures { IfOk result (λ device. device.units ≡ plan.now.units.now) }
+{
+    Ok(Port::new(alloc, open_units(alloc, plan)?)?)
 }

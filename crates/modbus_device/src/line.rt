@@ -1,5 +1,5 @@
 //! Serving a serial line.
-ghost use Rattle.std.specs.Prelude.{IfErr};
+ghost use Rattle.std.specs.Prelude.{◌≡◌, IfErr};
 ghost use Rattle.modbus_field.specs.BurstLine.{IsOfNoBurst};
 
 use crate::device::LineDevice;
@@ -108,7 +108,8 @@ fn serve_bursts<L: CountedLink + Drop>(
     bursts: &mut EchoGuard<EchoedLink<L>>,
     device: &mut LineDevice,
 ) -> Result<(), ProcessError>
-    ensures { IfErr result (λ error. IsOfNoBurst error → ⊥) }
+    ensures causes { IfErr result (λ error. IsOfNoBurst error → ⊥) }
+    ensures units { device.new.units ≡ device.old.units }
 {
     let mut told = Told {
         echo: false,
@@ -143,7 +144,8 @@ fn serve_ends<I: Read + Drop, O: Write + Drop>(
     line: SerialLine<'_>,
     device: &mut LineDevice,
 ) -> Result<(), ProcessError>
-    ensures { IfErr result (λ error. IsOfNoBurst error → ⊥) }
+    ensures causes { IfErr result (λ error. IsOfNoBurst error → ⊥) }
+    ensures units { device.new.units ≡ device.old.units }
 {
     let (source, sink) = (ReadSource::new(ends.0), WriteSink::new(ends.1));
     let silence = Duration::from_millis(line.silence);
@@ -163,7 +165,8 @@ pub fn serve(
     line: SerialLine<'_>,
     device: &mut LineDevice,
 ) -> Result<(), ProcessError>
-    ensures { IfErr result (λ error. IsOfNoBurst error → ⊥) }
+    ensures causes { IfErr result (λ error. IsOfNoBurst error → ⊥) }
+    ensures units { device.new.units ≡ device.old.units }
 {
     match open {
         OpenLine::File(file) => serve_ends(rt, (file, file), file.as_raw_fd(), line, device),

@@ -8,6 +8,7 @@ ghost use Rattle.std.specs.Prelude.{◌≡◌, ◌≢◌, ◌↔◌, Err};
 
 mod device;
 mod files;
+mod laws;
 mod line;
 mod listen;
 mod options;
