@@ -83,6 +83,11 @@ abbrev pub with_link : {I L : Type 0} → L → Option (DeviceState I L) → Opt
 with_link link None = None
 with_link link (Some device) = Some (record device { stand = Idle link })
 
+-- the next requests of a device under a key go to this slave
+abbrev pub of_slave : {I L : Type 0} → ℕ → Option (DeviceState I L) → Option (DeviceState I L)
+of_slave slave None = None
+of_slave slave (Some device) = Some (record device { slave = slave })
+
 -- a call is under way under a key that is to be given up at this time
 abbrev pub IsDueAt : {I L : Type 0} → ℕ → Option (DeviceState I L) → Type 0
 IsDueAt now None = ⊥

@@ -69,6 +69,13 @@ impl<'a, P: Protocol, L: PolledLink + Drop> Device<'a, P, L> {
         matches!(self.stand, Stand::Idle(_))
     }
 
+    /// Has its next requests go to this slave or unit, as several share a link. A call that is under way goes on as it is.
+    pub fn set_slave(&mut self, slave: Slave)
+        ensures { self.new ≡ record self.old { slave = slave.0 } }
+    {
+        self.slave = slave;
+    }
+
     /// Gives it a new link, on which nothing was sent. A link that it had is dropped, with its call.
     pub fn connect(&mut self, link: L)
         ensures { self.new ≡ record self.old { stand = Idle link } }

@@ -1,15 +1,17 @@
 //! Many devices, and what is ready of them.
 ghost use Rattle.std.specs.Prelude.{◌≡◌, ◌↔◌, ◌≤◌, [], Some, None, IsTrue, IfOk, OnOk, OnErr, if◌then◌else◌, ◌==◌, option_copied};
+ghost use Rattle.std.specs.Option.{option_map};
+ghost use Rattle.std.specs.Duration.{as_nanos};
 ghost use Rattle.modbus_frame.specs.Meaning.{meaning};
 ghost use Rattle.modbus_link.specs.Line.{meaning_of};
 ghost use Rattle.modbus_link.specs.Outside.{Rose};
 ghost use Rattle.slab.specs.Slab.{get, slab_len, Updates, SameValues};
 ghost use Rattle.modbus_fleet.specs.Device.{fleet_by};
-ghost use Rattle.modbus_fleet.specs.Fleet.{EachGoes, PollsAt, BeginsAt, OthersStay, TakesReady, TakesInTurn, waiting, with_link, IsDueAt, given_up, ExpiresOne};
+ghost use Rattle.modbus_fleet.specs.Fleet.{EachGoes, PollsAt, BeginsAt, OthersStay, TakesReady, TakesInTurn, waiting, with_link, of_slave, IsDueAt, given_up, ExpiresOne};
 
 use crate::device::Device;
 use modbus_client::Protocol;
-use modbus_frame::{Error, Request, Response};
+use modbus_frame::{Error, Request, Response, Slave};
 use modbus_link::{Failed, PolledLink};
 use modbus_ready::{Readiness, Ready};
 use slab::Slab;
@@ -105,6 +107,17 @@ impl<'a, P: Protocol, L: PolledLink + Drop, S: Readiness<L>> Fleet<'a, P, L, S> 
         self.devices.try_remove(key)
     }
 
+    /// Has the next requests of the device under a key go to this slave or unit, as several share its link; nothing where there is no device.
+    pub fn set_slave(&mut self, key: usize, slave: Slave)
+        ensures device { get self.new.devices key ≡ of_slave slave.0 (get self.old.devices key) }
+        ensures others { OthersStay key self.old.devices self.new.devices }
+        ensures rest { self.new ≡ record self.old { devices = self.new.devices } }
+    {
+        if let Some(device) = self.devices.get_mut(key) {
+            device.set_slave(slave);
+        }
+    }
+
     /// Gives the device under a key a new link, which is watched under that key from then on. A link that it had is dropped, with its call.
     /// Where no device is, the link is dropped.
     ///
@@ -116,6 +129,7 @@ impl<'a, P: Protocol, L: PolledLink + Drop, S: Readiness<L>> Fleet<'a, P, L, S> 
         ensures others { OthersStay key self.old.devices self.new.devices }
         ensures stays { OnErr result (SameValues self.old.devices self.new.devices) }
         ensures waiting { waiting S.found self.new ≡ waiting S.found self.old }
+        ensures watched { OnOk result (S.watched self.new.readiness ≡ Some key) }
         ensures later { S.faults self.old.readiness ≤ S.faults self.new.readiness }
         ensures cause { OnErr result (Rose (S.faults self.old.readiness)
             (S.faults self.new.readiness)) }
@@ -170,6 +184,7 @@ impl<'a, P: Protocol, L: PolledLink + Drop, S: Readiness<L>> Fleet<'a, P, L, S> 
         ensures devices { self.new.devices ≡ self.old.devices }
         ensures found { waiting S.found self.new ≡ S.found self.new.readiness }
         ensures nothing { OnErr result (waiting S.found self.new ≡ []) }
+        ensures patience { S.patience self.new.readiness ≡ option_map as_nanos timeout }
         ensures later { S.faults self.old.readiness ≤ S.faults self.new.readiness }
         ensures cause { OnErr result (Rose (S.faults self.old.readiness)
             (S.faults self.new.readiness)) }

@@ -11,6 +11,7 @@ use Rattle.modbus_hub.specs.Accepts.{with_given, GivesByPolls, GivesLinks, EndsI
 use Rattle.modbus_ready.specs.declared.readiness.Ready.{Ready}
 use Rattle.modbus_ready.specs.declared.readiness.Ready.TheVariants.{Peer, Link}
 use Rattle.modbus_hub.specs.declared.losses.Losses.{Losses}
+use Rattle.modbus_hub.specs.Losses.{SameGone, SameRefused}
 use Rattle.modbus_hub.specs.Events.{Event, Place, Refusal, no_watch, no_memory, no_share, came, refused, told, turned, dropped, KeyAccount, account_of, by_key, HasAnyTurn, TurnsAmong, links_of, counted_if, counted_over}
 use Rattle.slab.specs.Slab.{get}
 use Rattle.modbus_link.specs.Line.{LinkMeaning}
@@ -274,6 +275,15 @@ module _ {L : Type 0} where
   counted_on cause [] a b h = h
   counted_on cause (x ∷ xs) a b h = counted_on cause xs (counted_if cause x a) (counted_if cause x b) (counts_up cause x a b h)
 
+pub same_refused : (a b : Losses) → b ≡ a → SameRefused a b
+same_refused a b same = (ap (λ (l : Losses). l.memory) same, ap (λ (l : Losses). l.share) same)
+
+pub same_gone : (a b : Losses) → b ≡ a → SameGone a b
+same_gone a b same = (ap (λ (l : Losses). l.late) same, ap (λ (l : Losses). l.gave_way) same)
+
+pub gone_both : (a b c : Losses) → SameGone a b → SameGone b c → SameGone a c
+gone_both a b c first second = (second.0 ∙ first.0, second.1 ∙ first.1)
+
 module _ {A S L : Type 0} (faults : S → ℕ) where
   pub counts_both : (a b c : ServerState A S L) (xs ys : List (Event L)) → CountsDrops faults a b xs → CountsDrops faults b c ys → CountsDrops faults a c (xs ++ ys)
   counts_both a b c xs ys first second = record {
@@ -284,11 +294,11 @@ module _ {A S L : Type 0} (faults : S → ℕ) where
   }
 
   -- where no link came each count is as it was, or further on
-  pub counts_none : (a b : ServerState A S L) (more : List (Event L)) → links_of more ≡ [] → faults a.readiness ≤ faults b.readiness → b.losses ≡ a.losses → CountsDrops faults a b more
+  pub counts_none : (a b : ServerState A S L) (more : List (Event L)) → links_of more ≡ [] → faults a.readiness ≤ faults b.readiness → SameRefused a.losses b.losses → CountsDrops faults a b more
   counts_none a b more none later same = record {
     watch = subst (λ (n : ℕ). n ≤ faults b.readiness) (sym (counted_none no_watch more (faults a.readiness) none)) later;
-    memory = ap (λ (l : Losses). l.memory) same ∙ sym (counted_none no_memory more a.losses.memory none);
-    share = ap (λ (l : Losses). l.share) same ∙ sym (counted_none no_share more a.losses.share none);
+    memory = same.0 ∙ sym (counted_none no_memory more a.losses.memory none);
+    share = same.1 ∙ sym (counted_none no_share more a.losses.share none);
   }
 
   -- a link that came is a connection
@@ -302,6 +312,7 @@ module _ {A S L : Type 0} (faults : S → ℕ) where
       share = subst (λ (l : List (Event L)). b.losses.share ≡ counted_over no_share l a.losses.share) (sym e) (ap (λ (l : Losses). l.share) count);
     };
     none = subst (λ (l : List (Event L)). DropsNone l) (sym e) tt;
+    gone = same_gone a.losses b.losses count;
   }
 
   -- one that could not be watched
@@ -315,12 +326,13 @@ module _ {A S L : Type 0} (faults : S → ℕ) where
       share = subst (λ (l : List (Event L)). b.losses.share ≡ counted_over no_share l a.losses.share) (sym e) (ap (λ (l : Losses). l.share) count);
     };
     none = subst (λ (l : List (Event L)). DropsNone l) (sym e) tt;
+    gone = same_gone a.losses b.losses count;
   }
 
   -- one for which memory was refused
   pub brings_unseated : (a b : ServerState A S L) (link : L) (history more : List (Event L)) → faults a.readiness ≤ faults b.readiness → b.losses.memory ≡ next_count a.losses.memory
-      → b.losses.share ≡ a.losses.share → more ≡ refused no_memory link ∷ [] → Brings faults link a b history more
-  brings_unseated a b link history more later count same e = record {
+      → b.losses.share ≡ a.losses.share → SameGone a.losses b.losses → more ≡ refused no_memory link ∷ [] → Brings faults link a b history more
+  brings_unseated a b link history more later count same gone e = record {
     links = ap links_of e;
     counts = record {
       watch = subst (λ (l : List (Event L)). counted_over no_watch l (faults a.readiness) ≤ faults b.readiness) (sym e) later;
@@ -328,12 +340,13 @@ module _ {A S L : Type 0} (faults : S → ℕ) where
       share = subst (λ (l : List (Event L)). b.losses.share ≡ counted_over no_share l a.losses.share) (sym e) same;
     };
     none = subst (λ (l : List (Event L)). DropsNone l) (sym e) tt;
+    gone = gone;
   }
 
   -- one whose address had its share
   pub brings_crowded : (a b : ServerState A S L) (link : L) (history more : List (Event L)) → faults a.readiness ≤ faults b.readiness → b.losses.memory ≡ a.losses.memory
-      → b.losses.share ≡ next_count a.losses.share → more ≡ refused no_share link ∷ [] → Brings faults link a b history more
-  brings_crowded a b link history more later same count e = record {
+      → b.losses.share ≡ next_count a.losses.share → SameGone a.losses b.losses → more ≡ refused no_share link ∷ [] → Brings faults link a b history more
+  brings_crowded a b link history more later same count gone e = record {
     links = ap links_of e;
     counts = record {
       watch = subst (λ (l : List (Event L)). counted_over no_watch l (faults a.readiness) ≤ faults b.readiness) (sym e) later;
@@ -341,6 +354,7 @@ module _ {A S L : Type 0} (faults : S → ℕ) where
       share = subst (λ (l : List (Event L)). b.losses.share ≡ counted_over no_share l a.losses.share) (sym e) count;
     };
     none = subst (λ (l : List (Event L)). DropsNone l) (sym e) tt;
+    gone = gone;
   }
 
 module _ {A L : Type 0} (accepts : A → Result (Polled L) Failed → A → Type 0) where
@@ -390,10 +404,14 @@ module _ {A S L : Type 0} (accepts : A → Result (Polled L) Failed → A → Ty
   }
 
   pub accepts_both : (a b c : Server) (history xs ys : List (Event L)) → Accepted a b history xs → Accepted b c (history ++ xs) ys → Accepted a c history (xs ++ ys)
-  accepts_both a b c history xs ys first second = (comes_both a b c history xs ys first.0 second.0, none_both xs ys first.1 second.1)
+  accepts_both a b c history xs ys first second = (
+    comes_both a b c history xs ys first.0 second.0,
+    none_both xs ys first.1 second.1,
+    gone_both a.losses b.losses c.losses first.2 second.2,
+  )
 
   -- where no link came the acceptor is as it was
-  pub none_come : (a b : Server) (history more : List (Event L)) → b.acceptor ≡ a.acceptor → faults a.readiness ≤ faults b.readiness → b.losses ≡ a.losses → links_of more ≡ []
+  pub none_come : (a b : Server) (history more : List (Event L)) → b.acceptor ≡ a.acceptor → faults a.readiness ≤ faults b.readiness → SameRefused a.losses b.losses → links_of more ≡ []
       → Came a b history more
   none_come a b history more same later count none = record {
     gives = subst (λ (l : List L). GivesLinks accepts a.acceptor l b.acceptor) (sym none)
@@ -414,7 +432,7 @@ module _ {A S L : Type 0} (accepts : A → Result (Polled L) Failed → A → Ty
   }
 
   pub nobody : (a b : Server) (history : List (Event L)) (poll : Result (Polled L) Failed) → with_given poll [] ≡ [] → accepts a.acceptor poll b.acceptor
-      → faults a.readiness ≤ faults b.readiness → b.losses ≡ a.losses → Came a b history []
+      → faults a.readiness ≤ faults b.readiness → SameRefused a.losses b.losses → Came a b history []
   nobody a b history poll none accepted later count = record {
     gives = (poll ∷ [], (b.acceptor, [], accepted, sym none, (refl, refl)));
     counts = counts_none faults a b [] refl later count;
@@ -451,7 +469,7 @@ module _ {A S L : Type 0} (accepts : A → Result (Polled L) Failed → A → Ty
   AcceptsSome count a b history more = Accepted a b history more × (length (links_of more) ≡ count) × (b.is_asked ≡ a.is_asked)
 
   pub accepts_none : (a : Server) (history : List (Event L)) → AcceptsSome 0 a a history []
-  accepts_none a history = ((none_come a a history [] refl (le_refl (faults a.readiness)) refl refl, tt), refl, refl)
+  accepts_none a history = ((none_come a a history [] refl (le_refl (faults a.readiness)) (refl, refl) refl, tt, (refl, refl)), refl, refl)
 
   pub accepts_more : (count : ℕ) (a now b : Server) (history xs ys : List (Event L)) → AcceptsSome count a now history xs → AcceptsNext accepts faults true now b (history ++ xs) ys
       → AcceptsSome (count + 1) a b history (xs ++ ys)
@@ -492,8 +510,12 @@ module _ {A S L : Type 0} (accepts : A → Result (Polled L) Failed → A → Ty
       → TakesRound accepts faults found a b (Ok tt) history (xs ++ ys)
   round_of found a now b history xs ys same later count one asks first second =
       let links : links_of (xs ++ ys) ≡ links_of ys = links_more xs ys ∙ ap (λ (l : List L). l ++ links_of ys) first.0.0 in
-      let came = none_come a now history xs same later count first.0.0 in record {
-        come = (comes_both a now b history xs ys came second.0.0.0, none_both xs ys first.0.2 second.0.0.1);
+      let came = none_come a now history xs same later (same_refused a.losses now.losses count) first.0.0 in record {
+        come = (
+          comes_both a now b history xs ys came second.0.0.0,
+          none_both xs ys first.0.2 second.0.0.1,
+          gone_both a.losses now.losses b.losses (same_gone a.losses now.losses count) second.0.0.2,
+        );
         left = λ left key spent. turn_after key xs ys (first.1 left key spent);
         told = λ key is here. turn_after key xs ys (first.2 key is here);
         once = among_both (λ key. IsDue (found b.readiness) a.seats key) (λ key. ⊥) (λ key. IsDue (found b.readiness) a.seats key) xs ys first.3
@@ -505,7 +527,7 @@ module _ {A S L : Type 0} (accepts : A → Result (Polled L) Failed → A → Ty
         waits = λ asked. waits_after a now b history xs ys came (λ full. ap length links ∙ full) (second.0.3 (asks asked));
       }
 
-  pub then_drops : (found : S → List Ready) (a now b : Server) (history xs ys : List (Event L)) → b.acceptor ≡ now.acceptor → b.readiness ≡ now.readiness → b.losses ≡ now.losses
+  pub then_drops : (found : S → List Ready) (a now b : Server) (history xs ys : List (Event L)) → b.acceptor ≡ now.acceptor → b.readiness ≡ now.readiness → SameRefused now.losses b.losses
       → TakesRound accepts faults found a now (Ok tt) history xs → IsDrop (history ++ xs) ys → Came a b history (xs ++ ys)
   then_drops found a now b history xs ys same ready count first second =
       let later : faults now.readiness ≤ faults b.readiness = subst (λ (s : S). faults now.readiness ≤ faults s) (sym ready) (le_refl (faults now.readiness)) in

@@ -1,5 +1,5 @@
 -- What a server of many connections on one thread does, round by round.
-use Rattle.std.specs.Prelude.{◌≡◌, ◌⊎◌, ℕ, ◌≤◌, ◌==◌, nat_le, nat_lt, ◌&&◌, if◌then◌else◌, List, [], ◌∷◌, ◌++◌, length, Option, Some, None, IsSome, Result, Ok, Err, Bool, true, false, IsTrue}
+use Rattle.std.specs.Prelude.{◌≡◌, ◌⊎◌, ℕ, ◌≤◌, ◌==◌, nat_le, nat_lt, ◌&&◌, ◌||◌, if◌then◌else◌, List, [], ◌∷◌, ◌++◌, length, Option, Some, None, IsSome, Result, Ok, Err, Bool, true, false, IsTrue}
 use Rattle.modbus_link.specs.declared.outside.Failed.{Failed}
 use Rattle.modbus_link.specs.declared.polled.Polled.{Polled}
 use Rattle.slab.specs.Slab.{Slab, get, slab_len}
@@ -8,6 +8,7 @@ use Rattle.modbus_ready.specs.declared.readiness.Ready.TheVariants.{Peer}
 use Rattle.modbus_hub.specs.Accepts.{GivesLinks, GivesUntil, IsNobody, IsFault}
 use Rattle.modbus_ready.specs.declared.peered.PeerAddress.{PeerAddress}
 use Rattle.modbus_hub.specs.declared.losses.Losses.{Losses}
+use Rattle.modbus_hub.specs.Losses.{SameGone, SameRefused, more_gave_way, more_late}
 use Rattle.modbus_hub.specs.Shares.{HasShare, LacksShare}
 use Rattle.modbus_hub.specs.Events.{Event, Place, refused, no_watch, no_memory, no_share, account_of, HasAnyTurn, TurnsAmong, links_of, counted_over}
 use Rattle.modbus_link.specs.Memory.{next_count}
@@ -21,7 +22,7 @@ pub record ServerState (A S L : Type 0) : Type 0 where
   pub acceptor : A
   pub readiness : S
   pub seats : SeatsState L
-  -- how many links were dropped at once, by the cause
+  -- how many links were dropped at once, and connections let go, by the cause
   pub losses : Losses
   -- whether a peer may wait to be accepted
   pub is_asked : Bool
@@ -50,14 +51,36 @@ can_accept it = it.is_asked && nat_lt (slab_len it.seats.seats) it.seats.places.
 abbrev pub is_full : {L : Type 0} → ℕ → Slab (Place L) → Bool
 is_full most seats = nat_le most (slab_len seats)
 
--- Where no place is left, the connection that has not moved for longest is let go. All others stay, and where a place is left all do.
-abbrev pub GivesWay : {L : Type 0} → ℕ → Slab (Place L) → Slab (Place L) → Type 0
-GivesWay most old new = (IsTrue (is_full most old) × LeavesIdlest old new) ⊎ ((is_full most old ≡ false) × ((key : ℕ) → get new key ≡ get old key))
+-- the same, or the last accept failed since the process has as many files open as it may
+abbrev pub wants_room : {A S L : Type 0} → (A → Bool) → ServerState A S L → Bool
+wants_room lacks it = is_full it.seats.places.connections it.seats.seats || lacks it.acceptor
 
--- Idle connections are let go and late ones, each where that is due, and no others; and then one where no place is left.
-abbrev pub Went : {A S L : Type 0} → Bool → Bool → ServerState A S L → Slab (Place L) → Type 0
-Went {A} {S} {L} idle late old new = (between : Slab (Place L)) × ((key : ℕ) → get between key ≡ stays_if late on_time (stays_if idle kept (get old.seats.seats key)))
-    × GivesWay old.seats.places.connections between new
+-- The connection that has not moved for longest is let go, and counted; all others stay.
+abbrev pub LeavesOne : {A S L : Type 0} → ServerState A S L → ServerState A S L → Type 0
+LeavesOne old new = LeavesIdlest old.seats.seats new.seats.seats × (new.losses ≡ more_gave_way (slab_len old.seats.seats) (slab_len new.seats.seats) old.losses)
+
+-- Where no place or no file is left for a peer that comes it is so. Else all stay, and nothing is counted.
+abbrev pub GivesWay : {A S L : Type 0} → (A → Bool) → ServerState A S L → ServerState A S L → Type 0
+GivesWay lacks old new = (IsTrue (wants_room lacks old) × LeavesOne old new)
+    ⊎ ((wants_room lacks old ≡ false) × ((key : ℕ) → get new.seats.seats key ≡ get old.seats.seats key) × (new.losses ≡ old.losses))
+
+-- Late connections are let go where that is due, and counted, and no others.
+abbrev pub LateGo : {A S L : Type 0} → Bool → ServerState A S L → ServerState A S L → Type 0
+LateGo late old new = ((key : ℕ) → get new.seats.seats key ≡ stays_if late on_time (get old.seats.seats key))
+    × (new.losses ≡ (if late then more_late (slab_len old.seats.seats) (slab_len new.seats.seats) old.losses else old.losses))
+
+-- Idle connections are let go where that is due, and no others; nothing is counted.
+abbrev pub IdleGo : {A S L : Type 0} → Bool → ServerState A S L → ServerState A S L → Type 0
+IdleGo idle old new = ((key : ℕ) → get new.seats.seats key ≡ stays_if idle kept (get old.seats.seats key)) × (new.losses ≡ old.losses)
+
+-- Both, one behind the other, under the same limits.
+abbrev pub Swept : {A S L : Type 0} → Bool → Bool → ServerState A S L → ServerState A S L → Type 0
+Swept {A} {S} {L} idle late old new = (between : ServerState A S L) × IdleGo idle old between × LateGo late between new × (new.seats.places ≡ old.seats.places)
+
+-- Idle connections are let go and late ones, each where that is due, and no others; and then one where no place or no file is left.
+abbrev pub Went : {A S L : Type 0} → (A → Bool) → Bool → Bool → ServerState A S L → ServerState A S L → Type 0
+Went {A} {S} {L} lacks idle late old new = (between : ServerState A S L) × Swept idle late old between × (between.acceptor ≡ old.acceptor)
+    × GivesWay lacks between new
 
 -- How long a wait may take that is to take so many nanoseconds, or any time: none where a connection is left whose last turn was cut off,
 -- or more peers can be accepted than were in a round; and not past the next try where an accept failed.
@@ -111,6 +134,7 @@ pub record Brings {A S L : Type 0} (faults : S → ℕ) (link : L) (old new : Se
   pub links : links_of more ≡ link ∷ []
   pub counts : CountsDrops faults old new more
   pub none : DropsNone more
+  pub gone : SameGone old.losses new.losses
 
 -- this link was refused since its address had its share
 abbrev pub IsCrowdedOut : {A S L : Type 0} → L → ServerState A S L → ServerState A S L → List (Event L) → Type 0
@@ -130,9 +154,9 @@ module _ {A S L : Type 0} (accepts : A → Result (Polled L) Failed → A → Ty
     pub gives : GivesLinks accepts old.acceptor (links_of more) new.acceptor
     pub counts : CountsDrops faults old new more
 
-  -- the same, and no connection was let go
+  -- the same, and no connection was let go, or is counted so
   abbrev pub PeersCome : ServerState A S L → ServerState A S L → List (Event L) → List (Event L) → Type 0
-  PeersCome old new history more = Comes old new history more × DropsNone more
+  PeersCome old new history more = Comes old new history more × DropsNone more × SameGone old.losses new.losses
 
   -- Peers were accepted until nobody waits. Or another may wait still, since there are as many connections as there may be, the acceptor
   -- failed, or as many links came as may in a round.
@@ -178,14 +202,14 @@ module _ {A S L : Type 0} (accepts : A → Result (Polled L) Failed → A → Ty
   TakesRound found old new (Ok done) history more = ServesRound (found new.readiness) old new history more
   TakesRound found old new (Err failed) history more = (more ≡ []) × (new.acceptor ≡ old.acceptor) × (new.losses ≡ old.losses)
 
-  -- connections were let go, and nothing else changed
+  -- connections were let go, and nothing else changed but their counts
   abbrev pub LetsGo : ServerState A S L → ServerState A S L → List (Event L) → List (Event L) → Type 0
-  LetsGo old new history more = IsDrop history more × (new.acceptor ≡ old.acceptor) × (new.readiness ≡ old.readiness) × (new.losses ≡ old.losses) × (new.is_asked ≡ old.is_asked)
+  LetsGo old new history more = IsDrop history more × (new.acceptor ≡ old.acceptor) × (new.readiness ≡ old.readiness) × SameRefused old.losses new.losses × (new.is_asked ≡ old.is_asked)
       × (new.is_crowded ≡ old.is_crowded)
 
-  -- A round, and then, by the next reading of the clock, idle and late connections were let go, where that was due, and one where no place was
-  -- left, and no others; what is left stays marked.
-  pub record RoundAndDrops (found : S → List Ready) (sweeps sweeps' : Sweeps) (old new : ServerState A S L) (history more : List (Event L)) : Type 0 where
+  -- A round, and then, by the next reading of the clock, idle and late connections were let go, where that was due, and one where no place or
+  -- no file was left, and no others; what is left stays marked.
+  pub record RoundAndDrops (found : S → List Ready) (lacks : A → Bool) (sweeps sweeps' : Sweeps) (old new : ServerState A S L) (history more : List (Event L)) : Type 0 where
     pub now : ServerState A S L
     pub taken : List (Event L)
     pub gone : List (Event L)
@@ -195,25 +219,25 @@ module _ {A S L : Type 0} (accepts : A → Result (Polled L) Failed → A → Ty
     pub marks : KeepsMarks old.seats new.seats
     pub next : sweeps'.last.number ≡ next_count sweeps.last.number
     pub looked : sweeps' ≡ all_looked sweeps sweeps'.last
-    pub went : Went (is_due sweeps.idle sweeps'.last.at) (is_due sweeps.late sweeps'.last.at) now new.seats.seats
+    pub went : Went lacks (is_due sweeps.idle sweeps'.last.at) (is_due sweeps.late sweeps'.last.at) now new
 
   -- such rounds, one after another
-  abbrev pub GoesByRounds : (S → List Ready) → List (Round A S L) → Sweeps → ServerState A S L → ServerState A S L → List (Event L) → List (Event L) → Type 0
-  GoesByRounds found [] sweeps old new history more = (more ≡ []) × (new ≡ old)
-  GoesByRounds found (round ∷ rounds) sweeps old new history more = (later : List (Event L)) × (more ≡ round.happened ++ later)
-      × RoundAndDrops found sweeps round.sweeps old round.left history round.happened
-      × GoesByRounds found rounds round.sweeps round.left new (history ++ round.happened) later
+  abbrev pub GoesByRounds : (S → List Ready) → (A → Bool) → List (Round A S L) → Sweeps → ServerState A S L → ServerState A S L → List (Event L) → List (Event L) → Type 0
+  GoesByRounds found lacks [] sweeps old new history more = (more ≡ []) × (new ≡ old)
+  GoesByRounds found lacks (round ∷ rounds) sweeps old new history more = (later : List (Event L)) × (more ≡ round.happened ++ later)
+      × RoundAndDrops found lacks sweeps round.sweeps old round.left history round.happened
+      × GoesByRounds found lacks rounds round.sweeps round.left new (history ++ round.happened) later
 
   -- one that may have failed, and the links that came
-  abbrev pub TellsRound : (S → List Ready) → Sweeps → Sweeps → ServerState A S L → ServerState A S L → Result (Unit {0}) Failed → List (Event L) → List (Event L) → Type 0
-  TellsRound found sweeps sweeps' old new (Ok done) history more = Comes old new history more × RoundAndDrops found sweeps sweeps' old new history more
-  TellsRound found sweeps sweeps' old new (Err failed) history more = Comes old new history more × TakesRound found old new (Err failed) history more
+  abbrev pub TellsRound : (S → List Ready) → (A → Bool) → Sweeps → Sweeps → ServerState A S L → ServerState A S L → Result (Unit {0}) Failed → List (Event L) → List (Event L) → Type 0
+  TellsRound found lacks sweeps sweeps' old new (Ok done) history more = Comes old new history more × RoundAndDrops found lacks sweeps sweeps' old new history more
+  TellsRound found lacks sweeps sweeps' old new (Err failed) history more = Comes old new history more × TakesRound found old new (Err failed) history more
 
   -- rounds one after another, of which the last may have failed, and the links that came; the time of these deadlines ran from a first reading
   -- of the clock on
-  abbrev pub TellsRounds : {R : Type 0} → (S → List Ready) → Deadlines → ServerState A S L → ServerState A S L → Result R Failed → List (Event L) → List (Event L) → Type 0
-  TellsRounds found deadlines old new (Ok done) history more = Comes old new history more
-      × ((first : Reading) × (first.number ≡ 1) × (rounds : List (Round A S L)) × GoesByRounds found rounds (begun_with deadlines first) old new history more)
-  TellsRounds found deadlines old new (Err failed) history more = Comes old new history more
+  abbrev pub TellsRounds : {R : Type 0} → (S → List Ready) → (A → Bool) → Deadlines → ServerState A S L → ServerState A S L → Result R Failed → List (Event L) → List (Event L) → Type 0
+  TellsRounds found lacks deadlines old new (Ok done) history more = Comes old new history more
+      × ((first : Reading) × (first.number ≡ 1) × (rounds : List (Round A S L)) × GoesByRounds found lacks rounds (begun_with deadlines first) old new history more)
+  TellsRounds found lacks deadlines old new (Err failed) history more = Comes old new history more
       × ((first : Reading) × (first.number ≡ 1) × (rounds : List (Round A S L)) × (last : ServerState A S L)
-      × GoesByRounds found rounds (begun_with deadlines first) old last history more × TakesRound found last new (Err failed) (history ++ more) [])
+      × GoesByRounds found lacks rounds (begun_with deadlines first) old last history more × TakesRound found last new (Err failed) (history ++ more) [])

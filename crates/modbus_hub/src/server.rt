@@ -9,14 +9,13 @@ ghost use Rattle.modbus_link.specs.Outside.{Rose};
 ghost use Rattle.slab.specs.Slab.{get, slab_len};
 ghost use Rattle.modbus_hub.specs.Counted.{counted};
 ghost use Rattle.modbus_hub.specs.Seats.{SeatsGoOn, SeatsStay, polled_by, IsDrop, IsFound, IsOneLeft, NoMore, OneMore, KeepsFew, KeepsLimit, KeepsMarks, MarksLeft, SameLeft, kept, on_time};
-ghost use Rattle.modbus_hub.specs.Losses.{TellsRoundOf, TellsUntil, no_losses};
+ghost use Rattle.modbus_hub.specs.Losses.{SameRefused, TellsRoundOf, TellsUntil, more_late, no_losses};
 ghost use Rattle.modbus_hub.specs.Shares.{NoNewPeers, OneJoins};
-ghost use Rattle.modbus_hub.specs.Idlest.{LeavesIdlest};
 ghost use Rattle.modbus_hub.specs.Sweeps.{stays_if};
-ghost use Rattle.modbus_hub.specs.Turns.{GivesWay, AcceptsNext, AcceptsAsked, AcceptsUpTo, Brings, BringsPeer, IsPeerFound, ServesFound, ServesLeft, ServesNext, TakesRound, TellsRound, TellsRounds, Went, can_accept, is_full, patience_of};
+ghost use Rattle.modbus_hub.specs.Turns.{GivesWay, LateGo, LeavesOne, Swept, AcceptsNext, AcceptsAsked, AcceptsUpTo, Brings, BringsPeer, IsPeerFound, ServesFound, ServesLeft, ServesNext, TakesRound, TellsRound, TellsRounds, Went, can_accept, is_full, patience_of, wants_room};
 
 use crate::counted::Counted;
-use crate::losses::Losses;
+use crate::losses::{Losses, gone_more};
 use crate::seats::{Limits, Places, Seats, is_told};
 use crate::sweeps::{Deadlines, Due, Sweeps, shorter};
 use crate::watcher::Watcher;
@@ -124,7 +123,7 @@ where
         self.seats.is_empty()
     }
 
-    /// How many links were dropped at once, by the cause.
+    /// How many links were dropped at once, and how many connections were let go since they were late, or gave way to another.
     pub fn losses(&self) -> Losses
         ensures { result ≡ self.now.losses }
     {
@@ -428,7 +427,8 @@ where
         ensures readiness { self.new.readiness ≡ self.old.readiness }
         ensures asked { self.new.is_asked ≡ self.old.is_asked }
         ensures crowded { self.new.is_crowded ≡ self.old.is_crowded }
-        ensures losses { self.new.losses ≡ self.old.losses }
+        ensures losses { self.new.losses ≡ more_late (slab_len self.old.seats.seats)
+            (slab_len self.new.seats.seats) self.old.losses }
         ensures no_more { NoMore self.old.seats self.new.seats }
         ensures peers { NoNewPeers self.old.seats.seats self.new.seats.seats }
         ensures marks { KeepsMarks self.old.seats self.new.seats }
@@ -437,7 +437,9 @@ where
         ensures lets_go { (key : ℕ) → get self.new.seats.seats key
             ≡ on_time (get self.old.seats.seats key) }
     {
+        let before = self.seats.len();
         self.seats.drop_late();
+        self.losses.late = gone_more(self.losses.late, before, self.seats.len());
     }
 
     // Lets idle connections go, where that is due.
@@ -466,14 +468,13 @@ where
         ensures readiness { self.new.readiness ≡ self.old.readiness }
         ensures asked { self.new.is_asked ≡ self.old.is_asked }
         ensures crowded { self.new.is_crowded ≡ self.old.is_crowded }
-        ensures losses { self.new.losses ≡ self.old.losses }
+        ensures losses { SameRefused self.old.losses self.new.losses }
         ensures no_more { NoMore self.old.seats self.new.seats }
         ensures peers { NoNewPeers self.old.seats.seats self.new.seats.seats }
         ensures marks { KeepsMarks self.old.seats self.new.seats }
         ensures stays { SeatsStay I.framing (meaning_of A.Link.input A.Link.output A.Link.line)
             IsDrop self.old.seats.seats self.new.seats.seats }
-        ensures lets_go { (key : ℕ) → get self.new.seats.seats key
-            ≡ stays_if is_due on_time (get self.old.seats.seats key) }
+        ensures lets_go { LateGo is_due self.old self.new }
     {
         if is_due {
             self.drop_late();
@@ -486,15 +487,13 @@ where
         ensures readiness { self.new.readiness ≡ self.old.readiness }
         ensures asked { self.new.is_asked ≡ self.old.is_asked }
         ensures crowded { self.new.is_crowded ≡ self.old.is_crowded }
-        ensures losses { self.new.losses ≡ self.old.losses }
+        ensures losses { SameRefused self.old.losses self.new.losses }
         ensures no_more { NoMore self.old.seats self.new.seats }
         ensures peers { NoNewPeers self.old.seats.seats self.new.seats.seats }
         ensures marks { KeepsMarks self.old.seats self.new.seats }
         ensures stays { SeatsStay I.framing (meaning_of A.Link.input A.Link.output A.Link.line)
             IsDrop self.old.seats.seats self.new.seats.seats }
-        ensures lets_go { (key : ℕ) → get self.new.seats.seats key
-            ≡ stays_if due.late on_time
-            (stays_if due.idle kept (get self.old.seats.seats key)) }
+        ensures lets_go { Swept due.idle due.late self.old self.new }
     {
         self.sweep_idle(due.idle);
         self.sweep_late(due.late);
@@ -506,15 +505,17 @@ where
         ensures readiness { self.new.readiness ≡ self.old.readiness }
         ensures asked { self.new.is_asked ≡ self.old.is_asked }
         ensures crowded { self.new.is_crowded ≡ self.old.is_crowded }
-        ensures losses { self.new.losses ≡ self.old.losses }
+        ensures losses { SameRefused self.old.losses self.new.losses }
         ensures no_more { NoMore self.old.seats self.new.seats }
         ensures peers { NoNewPeers self.old.seats.seats self.new.seats.seats }
         ensures marks { KeepsMarks self.old.seats self.new.seats }
         ensures stays { SeatsStay I.framing (meaning_of A.Link.input A.Link.output A.Link.line)
             IsDrop self.old.seats.seats self.new.seats.seats }
-        ensures gives_way { LeavesIdlest self.old.seats.seats self.new.seats.seats }
+        ensures gives_way { LeavesOne self.old self.new }
     {
+        let before = self.seats.len();
         self.seats.drop_idlest();
+        self.losses.gave_way = gone_more(self.losses.gave_way, before, self.seats.len());
     }
 
     // Whether no place is left for a peer that comes.
@@ -524,46 +525,52 @@ where
         self.seats.is_full()
     }
 
-    // Lets the connection go that has not moved for longest, where no place is left for a peer that comes.
+    // Whether no place or no file is left for a peer that comes.
+    fn wants_room(&self) -> bool
+        ensures { result ≡ wants_room A.lacks_files self.now }
+    {
+        self.is_full() || self.acceptor.lacks_files()
+    }
+
+    // Lets the connection go that has not moved for longest, where no place or no file is left for a peer that comes.
     fn give_way(&mut self)
         ensures acceptor { self.new.acceptor ≡ self.old.acceptor }
         ensures readiness { self.new.readiness ≡ self.old.readiness }
         ensures asked { self.new.is_asked ≡ self.old.is_asked }
         ensures crowded { self.new.is_crowded ≡ self.old.is_crowded }
-        ensures losses { self.new.losses ≡ self.old.losses }
+        ensures losses { SameRefused self.old.losses self.new.losses }
         ensures no_more { NoMore self.old.seats self.new.seats }
         ensures peers { NoNewPeers self.old.seats.seats self.new.seats.seats }
         ensures marks { KeepsMarks self.old.seats self.new.seats }
         ensures stays { SeatsStay I.framing (meaning_of A.Link.input A.Link.output A.Link.line)
             IsDrop self.old.seats.seats self.new.seats.seats }
-        ensures gives_way { GivesWay self.old.seats.places.connections
-            self.old.seats.seats self.new.seats.seats }
+        ensures gives_way { GivesWay A.lacks_files self.old self.new }
     {
-        if self.is_full() {
+        if self.wants_room() {
             self.drop_idlest();
         }
     }
 
-    // Lets connections go: idle ones and late ones, each where that is due, and then one where no place is left.
+    // Lets connections go: idle ones and late ones, each where that is due, and then one where no place or no file is left.
     fn let_go(&mut self, due: Due)
         ensures acceptor { self.new.acceptor ≡ self.old.acceptor }
         ensures readiness { self.new.readiness ≡ self.old.readiness }
         ensures asked { self.new.is_asked ≡ self.old.is_asked }
         ensures crowded { self.new.is_crowded ≡ self.old.is_crowded }
-        ensures losses { self.new.losses ≡ self.old.losses }
+        ensures losses { SameRefused self.old.losses self.new.losses }
         ensures no_more { NoMore self.old.seats self.new.seats }
         ensures peers { NoNewPeers self.old.seats.seats self.new.seats.seats }
         ensures marks { KeepsMarks self.old.seats self.new.seats }
         ensures stays { SeatsStay I.framing (meaning_of A.Link.input A.Link.output A.Link.line)
             IsDrop self.old.seats.seats self.new.seats.seats }
-        ensures went { Went due.idle due.late self.old self.new.seats.seats }
+        ensures went { Went A.lacks_files due.idle due.late self.old self.new }
     {
         self.sweep(due);
         self.give_way();
     }
 
-    // A round, and then lets those go who are to be by the next reading of the clock, and one where no place is left. Tells how many links were
-    // dropped in it.
+    // A round, and then lets those go who are to be by the next reading of the clock, and one where no place or no file is left. Tells how many were lost
+    // in it.
     fn round<R: Clock, V: Answerer, W: Watcher>(
         &mut self,
         rt: &R,
@@ -582,7 +589,8 @@ where
         ensures goes_on { SeatsGoOn I.framing (counted V.answering)
             (polled_by (meaning_of A.Link.input A.Link.output A.Link.line) A.Link.not_ready
             self.old.seats.limits)
-            (TellsRound A.accepts S.faults S.found sweeps.old sweeps.new self.old self.new result)
+            (TellsRound A.accepts S.faults S.found A.lacks_files sweeps.old sweeps.new self.old
+            self.new result)
             self.old.seats.seats self.new.seats.seats service.old service.new }
     {
         let before = self.losses();
@@ -603,9 +611,11 @@ where
     /// one that does not move, and one that begins a message and completes none.
     ///
     /// Where one more connection came than there are at a time, the one that has not moved for longest gives way, so one a round at most (MODBUS
-    /// Messaging on TCP/IP Implementation Guide V1.0b, section 4.2.1).
+    /// Messaging on TCP/IP Implementation Guide V1.0b, section 4.2.1). So it is too where an accept fails since the process has as many files open
+    /// as it may; the next round accepts again.
     ///
-    /// Behind each round the watcher is told how many links were dropped in it, and so of each once.
+    /// Behind each round the watcher is told how many links were dropped in it, how many connections were late, and how many gave way, and so
+    /// of each once.
     ///
     /// It goes by rounds, each of which is a `turn`, behind which such connections are let go, exactly where that is due by a reading of the
     /// clock. Whatever the readiness that it is told of:
@@ -634,7 +644,8 @@ where
         ensures goes_on { SeatsGoOn I.framing (counted V.answering)
             (polled_by (meaning_of A.Link.input A.Link.output A.Link.line) A.Link.not_ready
             self.old.seats.limits)
-            (TellsRounds A.accepts S.faults S.found deadlines self.old self.new result)
+            (TellsRounds A.accepts S.faults S.found A.lacks_files deadlines self.old self.new
+            result)
             self.old.seats.seats self.new.seats.seats service.old service.new }
     {
         let mut sweeps = Sweeps::begin(rt, deadlines);

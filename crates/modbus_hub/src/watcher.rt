@@ -1,14 +1,14 @@
 //! Who is told of what is lost.
 use crate::losses::Losses;
 
-/// Who is told how many links were dropped. Nothing that is told changes what is served.
+/// Who is told how many connections were lost. Nothing that is told changes what is served.
 pub trait Watcher {
     ghost use Rattle.modbus_hub.specs.declared.losses.Losses.{Losses};
 
     // what telling losses may lead to
     ghost tells: { Self → Losses → Self → Type 0 };
 
-    /// Is told behind a round how many links were dropped in it, also where none was.
+    /// Is told behind a round how many were lost in it, also where none was.
     fn tell(&mut self, losses: Losses)
         ensures { tells self.old losses self.new };
 }

@@ -1,5 +1,5 @@
 -- What acceptors that never wait count, and what one in memory keeps.
-use Rattle.std.specs.Prelude.{◌≡◌, ◌⊎◌, ℕ, List, [], ◌∷◌, Result, Ok, Err}
+use Rattle.std.specs.Prelude.{◌≡◌, ◌⊎◌, ℕ, Bool, false, List, [], ◌∷◌, Result, Ok, Err}
 use Rattle.modbus_link.specs.declared.outside.Failed.{Failed}
 use Rattle.modbus_link.specs.declared.polled.Polled.{Polled}
 use Rattle.modbus_link.specs.declared.polled.Polled.TheVariants.{Ready, Pending}
@@ -15,6 +15,15 @@ given_by (Err error) given = given
 -- both counts after such a poll
 abbrev pub tally_by : {T E : Type 0} → Result (Polled T) E → Tally → Tally
 tally_by result tally = record { given = given_by result tally.given; faults = faults_after result tally.faults }
+
+-- an acceptor over TCP: what it counts, and whether its last poll failed since the process has as many files open as it may
+pub record TcpAcceptorState : Type 0 where
+  pub tally : Tally
+  pub lacks_files : Bool
+
+-- one that was never asked
+abbrev pub tcp_acceptor_at_start : TcpAcceptorState
+tcp_acceptor_at_start = record { tally = tally_at_start; lacks_files = false }
 
 -- an acceptor in memory of links of this type
 pub record ScheduleState (L : Type 0) : Type 0 where

@@ -1,4 +1,7 @@
 -- What an error of a socket that does not block comes to.
+use Rattle.std.specs.Prelude.{◌≡◌, Some, pos}
+use Rattle.std.specs.IoError.{raw_os_error}
+use Rattle.std.specs.declared.io.Error.{Error}
 use Rattle.std.specs.declared.io.ErrorKind.{ErrorKind}
 use Rattle.std.specs.declared.io.ErrorKind.TheVariants as kind
 use Rattle.modbus_ready.specs.declared.setback.Setback.{Setback}
@@ -14,3 +17,7 @@ setback_of _ = Failed
 abbrev pub setback_of_accept : ErrorKind → Setback
 setback_of_accept kind.ConnectionAborted = Again
 setback_of_accept other = setback_of other
+
+-- the system's error that the process has as many files open as it may (EMFILE)
+abbrev pub IsManyFiles : Error → Type 0
+IsManyFiles error = raw_os_error error ≡ Some (pos 24)

@@ -1,5 +1,5 @@
 //! What gives the links of peers that connect, and never waits.
-ghost use Rattle.std.specs.Prelude.{◌≡◌, ℕ, ◌≤◌, Result, OnErr};
+ghost use Rattle.std.specs.Prelude.{◌≡◌, ℕ, ◌≤◌, Bool, false, IsTrue, IsErr, Result, OnErr};
 ghost use Rattle.modbus_link.specs.declared.outside.Failed.{Failed};
 ghost use Rattle.modbus_link.specs.declared.polled.Polled.{Polled};
 ghost use Rattle.modbus_link.specs.Outside.{Rose};
@@ -20,6 +20,9 @@ pub trait PolledAcceptor {
     // how many links it gave
     ghost given: { Self → ℕ };
 
+    // whether its last poll failed since the process has as many files open as it may
+    ghost lacks_files: { Self → Bool };
+
     // what a poll may lead to, by the state before, the answer and the state after; an implementation says it, and by default nothing
     // is said
     ghost accepts: { Self → Result (Polled Self.Link) Failed → Self → Type 0 } = { λ _ _ _. Unit {0} };
@@ -33,7 +36,12 @@ pub trait PolledAcceptor {
         ensures later { faults self.old ≤ faults self.new }
         ensures counts { given self.new ≡ given_by result (given self.old) }
         ensures accepts { accepts self.old result self.new }
+        ensures lacks { IsTrue (lacks_files self.new) → IsErr result }
         ensures cause { OnErr result (Rose (faults self.old) (faults self.new)) };
+
+    /// Whether the last poll failed since the process has as many files open as it may: another is well once one is closed.
+    fn lacks_files(&self) -> bool
+        ensures { result ≡ lacks_files self.now };
 }
 
 /// An acceptor that was handed the answers of its polls, for tests. After the last one nobody waits.
@@ -76,6 +84,8 @@ impl<L> PolledAcceptor for ScheduledAcceptor<L> {
 
     ghost given = { λ acceptor. acceptor.tally.given };
 
+    ghost lacks_files = { λ acceptor. false };
+
     ghost accepts = { AcceptsBySchedule };
 
     fn poll_accept(&mut self) -> Result<Polled<L>, Failed> {
@@ -91,5 +101,9 @@ impl<L> PolledAcceptor for ScheduledAcceptor<L> {
             }
             None => Ok(Polled::Pending),
         }
+    }
+
+    fn lacks_files(&self) -> bool {
+        false
     }
 }

@@ -27,16 +27,26 @@ pub struct MioReadiness {
     poll: Poll,
     events: Events,
     ready: Vec<Ready>,
+    watched: Option<usize>,
+    patience: Option<Duration>,
     faults: u64,
 }
 
-/// What a contract knows of it is how often it failed, and what its last wait found.
+/// What a contract knows of it is how often it failed, what its last wait found, which link it was told to watch last, and how long it was to
+/// wait.
 impl Model for MioReadiness {
+    ghost use Rattle.std.specs.Option.{option_map};
+    ghost use Rattle.std.specs.Duration.{as_nanos};
     ghost use Rattle.modbus_ready.specs.Found.{ReadinessState};
 
     ghost Value = { ReadinessState };
 
-    ghost view = { λ it. record { faults = it.faults; found = it.ready.items } };
+    ghost view = { λ it. record {
+      faults = it.faults;
+      found = it.ready.items;
+      watched = it.watched;
+      patience = option_map as_nanos it.patience;
+    } };
 }
 
 impl MioReadiness {
@@ -52,12 +62,16 @@ impl MioReadiness {
             poll: Poll::new(rt)?,
             events: Events::with_capacity(alloc, EVENTS)?,
             ready: Vec::with_capacity(alloc, EVENTS)?,
+            watched: None,
+            patience: None,
             faults: 0,
         })
     }
 
     fn count_fault(&mut self) -> Failed
         ensures found { self.new.found ≡ self.old.found }
+        ensures watched { self.new.watched ≡ self.old.watched }
+        ensures patience { self.new.patience ≡ self.old.patience }
         ensures later { self.old.faults ≤ self.new.faults }
         ensures rose { Rose self.old.faults self.new.faults }
     {
@@ -87,7 +101,12 @@ impl Readiness<PolledTcpLink> for MioReadiness {
 
     ghost found = { λ it. it.found };
 
+    ghost watched = { λ it. it.watched };
+
+    ghost patience = { λ it. it.patience };
+
     fn watch(&mut self, link: &mut PolledTcpLink, key: usize) -> Result<(), Failed> {
+        self.watched = Some(key);
         match link.register(self.poll.registry(), token_of(Ready::Link(key))) {
             Ok(()) => Ok(()),
             Err(_) => Err(self.count_fault()),
@@ -100,7 +119,8 @@ impl Readiness<PolledTcpLink> for MioReadiness {
     /// `Failed` where the system refuses, or memory.
     fn wait(&mut self, timeout: Option<Duration>) -> Result<(), Failed> {
         self.ready.clear();
-        match self.poll.poll(&mut self.events, timeout) {
+        self.patience = timeout;
+        match self.poll.poll(&mut self.events, self.patience) {
             Ok(()) => match take_events(&self.events, &mut self.ready) {
                 Ok(()) => Ok(()),
                 Err(_) => Err(self.count_fault()),

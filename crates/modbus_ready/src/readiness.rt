@@ -1,5 +1,7 @@
 //! Which links may be ready.
-ghost use Rattle.std.specs.Prelude.{◌≡◌, ℕ, ◌≤◌, List, [], false, IfOk, OnErr};
+ghost use Rattle.std.specs.Prelude.{◌≡◌, ℕ, ◌≤◌, List, [], Option, Some, false, IfOk, OnOk, OnErr};
+ghost use Rattle.std.specs.Option.{option_map};
+ghost use Rattle.std.specs.Duration.{as_nanos};
 ghost use Rattle.modbus_link.specs.Outside.{Rose};
 ghost use Rattle.modbus_ready.specs.Found.{nothing_found};
 
@@ -28,6 +30,10 @@ pub trait Readiness<L> {
     ghost faults: { Self → ℕ };
     // what its last wait found
     ghost found: { Self → List Ready };
+    // the key of the link that it was told to watch last
+    ghost watched: { Self → Option ℕ };
+    // how many nanoseconds its last wait was to take at most; any time, where none
+    ghost patience: { Self → Option ℕ };
 
     /// Watches a link under a key, and does nothing else to it. A link that is dropped is watched no more.
     ///
@@ -36,6 +42,7 @@ pub trait Readiness<L> {
     fn watch(&mut self, link: &mut L, key: usize) -> Result<(), Failed>
         ensures link { link.new ≡ link.old }
         ensures found { found self.new ≡ found self.old }
+        ensures watched { OnOk result (watched self.new ≡ Some key) }
         ensures later { faults self.old ≤ faults self.new }
         ensures cause { OnErr result (Rose (faults self.old) (faults self.new)) };
 
@@ -45,6 +52,7 @@ pub trait Readiness<L> {
     /// `Failed`, only where the count of faults rose; then nothing is ready.
     fn wait(&mut self, timeout: Option<Duration>) -> Result<(), Failed>
         ensures nothing { OnErr result (found self.new ≡ []) }
+        ensures patience { patience self.new ≡ option_map as_nanos timeout }
         ensures later { faults self.old ≤ faults self.new }
         ensures cause { OnErr result (Rose (faults self.old) (faults self.new)) };
 
@@ -60,16 +68,25 @@ pub struct ScheduledReadiness {
     schedule: Vec<Ready>,
     round: usize,
     now: Vec<Ready>,
+    watched: Option<usize>,
+    patience: Option<Duration>,
     faults: u64,
 }
 
 /// What a contract knows of it is how often it failed, and what its last wait found.
 impl Model for ScheduledReadiness {
+    ghost use Rattle.std.specs.Option.{option_map};
+    ghost use Rattle.std.specs.Duration.{as_nanos};
     ghost use Rattle.modbus_ready.specs.Found.{ReadinessState};
 
     ghost Value = { ReadinessState };
 
-    ghost view = { λ it. record { faults = it.faults; found = it.now.items } };
+    ghost view = { λ it. record {
+      faults = it.faults;
+      found = it.now.items;
+      watched = it.watched;
+      patience = option_map as_nanos it.patience;
+    } };
 }
 
 impl ScheduledReadiness {
@@ -84,6 +101,8 @@ impl ScheduledReadiness {
             schedule: Vec::from_slice(alloc, schedule)?,
             round: 0,
             now: Vec::with_capacity(alloc, 1)?,
+            watched: None,
+            patience: None,
             faults: 0,
         })
     }
@@ -91,6 +110,7 @@ impl ScheduledReadiness {
     // Finds what stands next in the schedule; nothing, and false, where that has ended, or memory is refused.
     fn advance(&mut self) -> bool
         ensures faults { self.new.faults ≡ self.old.faults }
+        ensures patience { self.new.patience ≡ self.old.patience }
         ensures nothing { result ≡ false → self.new.found ≡ [] }
     {
         self.now.clear();
@@ -107,11 +127,17 @@ impl<L> Readiness<L> for ScheduledReadiness {
 
     ghost found = { λ it. it.found };
 
-    fn watch(&mut self, _link: &mut L, _key: usize) -> Result<(), Failed> {
+    ghost watched = { λ it. it.watched };
+
+    ghost patience = { λ it. it.patience };
+
+    fn watch(&mut self, _link: &mut L, key: usize) -> Result<(), Failed> {
+        self.watched = Some(key);
         Ok(())
     }
 
-    fn wait(&mut self, _timeout: Option<Duration>) -> Result<(), Failed> {
+    fn wait(&mut self, timeout: Option<Duration>) -> Result<(), Failed> {
+        self.patience = timeout;
         if self.advance() {
             return Ok(());
         }

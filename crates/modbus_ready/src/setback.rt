@@ -1,8 +1,11 @@
 //! What an error of a socket that does not block comes to.
-ghost use Rattle.std.specs.Prelude.{◌≡◌};
-ghost use Rattle.modbus_ready.specs.Setbacks.{setback_of, setback_of_accept};
+ghost use Rattle.std.specs.Prelude.{◌≡◌, ◌↔◌, IsTrue};
+ghost use Rattle.modbus_ready.specs.Setbacks.{IsManyFiles, setback_of, setback_of_accept};
 
-use std::io::ErrorKind;
+use std::io::{Error, ErrorKind};
+
+/// The number of the error of a system call that the process has as many files open as it may (EMFILE).
+const MANY_FILES: i32 = 24;
 
 /// What an error of a call comes to.
 #[derive(Clone, Copy, Debug, PartialEq, Eq, Drop)]
@@ -33,5 +36,15 @@ pub(crate) fn setback_of_accept(kind: ErrorKind) -> Setback
     match kind {
         ErrorKind::ConnectionAborted => Setback::Again,
         other => setback_of(other),
+    }
+}
+
+/// Whether a call failed since the process has as many files open as it may.
+pub(crate) fn is_many_files(error: &Error) -> bool
+    ensures { IsTrue result ↔ IsManyFiles error.now }
+{
+    match error.raw_os_error() {
+        Some(number) => number == MANY_FILES,
+        None => false,
     }
 }

@@ -1,12 +1,11 @@
 //! What accepts TCP connections and never waits: the trusted edge, which tells only what it counts.
 ghost use Rattle.std.specs.Prelude.{◌≡◌};
-ghost use Rattle.modbus_link.specs.Listens.{tally_at_start};
-ghost use Rattle.modbus_ready.specs.Accepts.{tally_by};
+ghost use Rattle.modbus_ready.specs.Accepts.{tally_by, tcp_acceptor_at_start};
 ghost use Rattle.modbus_ready.specs.Polls.{GivesNewLink};
 
 use crate::acceptor::PolledAcceptor;
 use crate::peered::PeerAddress;
-use crate::setback::{Setback, setback_of_accept};
+use crate::setback::{Setback, is_many_files, setback_of_accept};
 use crate::tcp_link::PolledTcpLink;
 use mio::net::{TcpListener, TcpStream};
 use mio::{Interest, Registry, Token};
@@ -21,26 +20,31 @@ pub struct PolledTcpAcceptor {
     listener: TcpListener,
     given: u64,
     faults: u64,
+    lacks_files: bool,
 }
 
-/// What a contract knows of it is how many links it gave, and how often it failed.
+/// What a contract knows of it is how many links it gave, how often it failed, and whether it lacked files at last.
 impl Model for PolledTcpAcceptor {
-    ghost use Rattle.modbus_link.specs.Listens.{Tally};
+    ghost use Rattle.modbus_ready.specs.Accepts.{TcpAcceptorState};
 
-    ghost Value = { Tally };
+    ghost Value = { TcpAcceptorState };
 
-    ghost view = { λ acceptor. record { given = acceptor.given; faults = acceptor.faults } };
+    ghost view = { λ acceptor. record {
+      tally = record { given = acceptor.given; faults = acceptor.faults };
+      lacks_files = acceptor.lacks_files;
+    } };
 }
 
 impl PolledTcpAcceptor {
     /// An acceptor over `listener` that was never asked.
     pub fn new(listener: TcpListener) -> PolledTcpAcceptor
-        ensures { result ≡ tally_at_start }
+        ensures { result ≡ tcp_acceptor_at_start }
     {
         PolledTcpAcceptor {
             listener,
             given: 0,
             faults: 0,
+            lacks_files: false,
         }
     }
 
@@ -75,17 +79,21 @@ fn accept_once(listener: &TcpListener) -> IoResult<(TcpStream, SocketAddr)> {
 impl PolledAcceptor for PolledTcpAcceptor {
     type Link = PolledTcpLink;
 
-    ghost faults = { λ acceptor. acceptor.faults };
+    ghost faults = { λ acceptor. acceptor.tally.faults };
 
-    ghost given = { λ acceptor. acceptor.given };
+    ghost given = { λ acceptor. acceptor.tally.given };
 
-    ghost accepts = { λ old result new. GivesNewLink result × (new ≡ tally_by result old) };
+    ghost lacks_files = { λ acceptor. acceptor.lacks_files };
+
+    ghost accepts = { λ old result new. GivesNewLink result
+        × (new.tally ≡ tally_by result old.tally) };
 
     /// The link of the next peer. A peer that gives its connection up before it is accepted is no fault.
     ///
     /// # Errors
     /// `Failed` where the listener failed, as it does where no file descriptor is left.
     fn poll_accept(&mut self) -> Result<Polled<PolledTcpLink>, Failed> {
+        self.lacks_files = false;
         match accept_once(&self.listener) {
             Ok((stream, peer)) => {
                 self.given = self.given.saturating_add(1);
@@ -95,10 +103,15 @@ impl PolledAcceptor for PolledTcpAcceptor {
             Err(error) => match setback_of_accept(error.kind()) {
                 Setback::NotReady => Ok(Polled::Pending),
                 _ => {
+                    self.lacks_files = is_many_files(&error);
                     self.faults = self.faults.saturating_add(1);
                     Err(Failed)
                 }
             },
         }
+    }
+
+    fn lacks_files(&self) -> bool {
+        self.lacks_files
     }
 }

@@ -19,7 +19,7 @@ returns-else-self-clause-stays g c =
     rw (← c.self.view_is) (stay_same g.I.Framing.framing (meaning_of g.A.Link.Ends.input g.A.Link.Ends.output g.A.Link.Ends.line)
     (AcceptsAsked accepts faults first last) seats.seats seats.seats (λ key. refl)
     (λ history all. (
-      (none_come accepts faults first last history [] refl (omega arith) refl refl, tt),
+      (none_come accepts faults first last history [] refl (omega arith) (refl, refl) refl, tt, (refl, refl)),
       omega arith,
       refl,
       λ asked. absurd (no_both c.self.inside.is_asked unasked asked),

@@ -32,6 +32,7 @@ returns-in-Ok-Ready-clause-stays g c =
         brings accepts faults first polled last c.in-Ok-Ready.link history more
             (rw c.in-Ok-Ready.field-0-is at c.in-Ok-Ready.ensures.accepts) c.admit.ensures.acceptor refl refl e.brings,
         e.brings.none,
+        e.brings.gone,
       ),
       ap length e.brings.links,
       c.admit.ensures.asked,
@@ -47,7 +48,7 @@ returns-in-Ok-Pending-clause-stays g c =
     rw (← c.self.view_is) (stay_same g.I.Framing.framing meaning (AcceptsNext accepts faults false first polled)
     c.self.inside.seats.seats c.self.inside.seats.seats (λ key. refl)
     (λ history all. (
-      (nobody accepts faults first polled history (Ok Pending) refl (rw c.in-Ok-Pending.field-0-is at c.in-Ok-Pending.ensures.accepts) (omega arith) refl, tt),
+      (nobody accepts faults first polled history (Ok Pending) refl (rw c.in-Ok-Pending.field-0-is at c.in-Ok-Pending.ensures.accepts) (omega arith) (refl, refl), tt, (refl, refl)),
       refl,
       λ asked. inl (Ok Pending ∷ [], (polled.acceptor, [], rw c.in-Ok-Pending.field-0-is at c.in-Ok-Pending.ensures.accepts, refl, (refl, refl)), tt),
     )))
@@ -62,7 +63,7 @@ returns-in-Err-clause-stays g c =
     rw (← c.self.view_is) (stay_same g.I.Framing.framing meaning (AcceptsNext accepts faults false first polled)
     c.self.inside.seats.seats c.self.inside.seats.seats (λ key. refl)
     (λ history all. (
-      (nobody accepts faults first polled history (Err c.in-Err.field-0) refl c.in-Err.ensures.accepts (omega arith) refl, tt),
+      (nobody accepts faults first polled history (Err c.in-Err.field-0) refl c.in-Err.ensures.accepts (omega arith) (refl, refl), tt, (refl, refl)),
       refl,
       λ asked. inr (asked, inr (inl (Err c.in-Err.field-0 ∷ [], (polled.acceptor, [], c.in-Err.ensures.accepts, refl, (refl, refl)), tt))),
     )))

@@ -24,7 +24,7 @@ returns-then-has_share-clause-stays g c =
     seats.seats seats.seats
     (turned_away g.I.Framing.framing meaning no_share c.args.link seats.seats seats.seats (λ key. refl))
     (λ history more e. record {
-      brings = brings_crowded faults first last c.args.link history more (omega arith) refl c.saturating_add-self-inside.ensures e;
+      brings = brings_crowded faults first last c.args.link history more (omega arith) refl c.saturating_add-self-inside.ensures (refl, refl) e;
       share = inl (subst (λ (p : PeerAddress). HasShare seats.places.per_peer p seats.seats) c.peer_address-peer.ensures has, (e, ap counted c.saturating_add-self-inside.ensures));
     }))
 

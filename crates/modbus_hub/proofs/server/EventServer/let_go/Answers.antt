@@ -1,8 +1,5 @@
-use Rattle.std.proofs.Common.{subst}
 use Rattle.modbus_link.specs.Line.{meaning_of}
-use Rattle.modbus_hub.specs.declared.seats.Places.{Places}
 use Rattle.modbus_hub.specs.Seats.{IsDrop}
-use Rattle.modbus_hub.specs.Turns.{GivesWay}
 use Rattle.modbus_hub.proofs.Rounds.{drops_both}
 use Rattle.modbus_hub.proofs.Sharing.{peers_both}
 use Rattle.modbus_hub.proofs.Seating.{stay_both}
@@ -15,12 +12,7 @@ returns-clause-stays g c =
 
 pub returns-clause-went : goal.returns-clause-went
 returns-clause-went g c =
-    let now = c.sweep.new.self in
-    let last = c.give_way.new.self.seats.seats in (
-      now.seats.seats,
-      c.sweep.ensures.lets_go,
-      subst (λ (p : Places). GivesWay p.connections now.seats.seats last) c.sweep.ensures.no_more.1 c.give_way.ensures.gives_way,
-    )
+    (c.sweep.new.self, c.sweep.ensures.lets_go, c.sweep.ensures.acceptor, c.give_way.ensures.gives_way)
 
 pub returns-clause-peers : goal.returns-clause-peers
 returns-clause-peers g c =

@@ -20,7 +20,7 @@ returns-in-Ok-clause-goes_on g c =
     let meaning = polled_by (meaning_of g.A.Link.Ends.input g.A.Link.Ends.output g.A.Link.Ends.line) g.A.Link.PolledLink.not_ready first.seats.limits in
     let e = c.let_go.ensures in
     go_both g.I.Framing.framing (counted g.V.Answerer.answering) meaning
-    (TakesRound accepts faults found first now (Ok tt)) IsDrop (TellsRound accepts faults found c.args.sweeps.now c.look-due.new.self first last (Ok tt))
+    (TakesRound accepts faults found first now (Ok tt)) IsDrop (TellsRound accepts faults found g.A.PolledAcceptor.lacks_files c.args.sweeps.now c.look-due.new.self first last (Ok tt))
     first.seats.seats now.seats.seats last.seats.seats c.args.service.now after after c.in-Ok.ensures.goes_on
     (go_aside g.I.Framing.framing (counted g.V.Answerer.answering) meaning IsDrop now.seats.seats last.seats.seats after e.stays)
     (λ history xs ys first_round drops. (

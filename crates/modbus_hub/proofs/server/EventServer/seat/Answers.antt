@@ -46,7 +46,7 @@ returns-in-Err-admit-clause-stays g c =
     let last = state c.self.inside.acceptor c.watch.new.self now (record c.self.inside.losses { memory = c.saturating_add-self-inside.result }) c.self.inside.is_asked c.self.inside.is_crowded in
     rw (← c.self.view_is) (stay_as g.I.Framing.framing meaning (Admits {E = AllocError} link (Err c.in-Err-admit.field-0)) (Brings faults c.args.link first last)
     seats.seats now.seats c.in-Err-admit.ensures.stays
-    (λ history more e. brings_unseated faults first last c.args.link history more c.watch.ensures.later c.saturating_add-self-inside.ensures refl
+    (λ history more e. brings_unseated faults first last c.args.link history more c.watch.ensures.later c.saturating_add-self-inside.ensures refl (refl, refl)
     (e ∙ ap (λ (l : g.row.A-Link.Denot). refused no_memory l ∷ []) c.watch.ensures.link)))
 
 pub returns-in-Ok-admit-clause-left : goal.returns-in-Ok-admit-clause-left

@@ -9,7 +9,7 @@ use Rattle.modbus_hub.proofs.server.EventServer.serve_until.Given as goal
 abbrev pub invariant-rounds : goal.invariant-rounds
 invariant-rounds g l = KeepsLimit l.fn.self.seats l.self.seats × (g.S.Readiness.faults l.fn.self.readiness ≤ g.S.Readiness.faults l.self.readiness)
     × (g.X.Stop.stops l.fn.abort_signal ≤ g.X.Stop.stops l.abort_signal)
-    × SeatsGoOn g.I.Framing.framing (counted g.V.Answerer.answering) (polled_by (meaning_of g.A.Link.Ends.input g.A.Link.Ends.output g.A.Link.Ends.line) g.A.Link.PolledLink.not_ready l.fn.self.seats.limits) (RoundsSoFar g.A.PolledAcceptor.accepts g.S.Readiness.faults g.S.Readiness.found l.fn.deadlines l.sweeps l.fn.self l.self)
+    × SeatsGoOn g.I.Framing.framing (counted g.V.Answerer.answering) (polled_by (meaning_of g.A.Link.Ends.input g.A.Link.Ends.output g.A.Link.Ends.line) g.A.Link.PolledLink.not_ready l.fn.self.seats.limits) (RoundsSoFar g.A.PolledAcceptor.accepts g.S.Readiness.faults g.S.Readiness.found g.A.PolledAcceptor.lacks_files l.fn.deadlines l.sweeps l.fn.self l.self)
     l.fn.self.seats.seats l.self.seats.seats l.fn.service l.service
     × KeepsMarks l.fn.self.seats l.self.seats
     × KeepsFew l.fn.self.seats l.self.seats

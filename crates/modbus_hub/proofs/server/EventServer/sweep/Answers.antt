@@ -1,7 +1,6 @@
-use Rattle.std.proofs.Common.{◌∙◌, ap}
+use Rattle.std.proofs.Common.{◌∙◌}
 use Rattle.modbus_link.specs.Line.{meaning_of}
-use Rattle.modbus_hub.specs.Seats.{IsDrop, on_time}
-use Rattle.modbus_hub.specs.Sweeps.{stays_if}
+use Rattle.modbus_hub.specs.Seats.{IsDrop}
 use Rattle.modbus_hub.proofs.Rounds.{drops_both}
 use Rattle.modbus_hub.proofs.Sharing.{peers_both}
 use Rattle.modbus_hub.proofs.Seating.{stay_both}
@@ -13,7 +12,7 @@ returns-clause-stays g c =
     c.args.self.now.seats.seats c.sweep_idle.new.self.seats.seats c.sweep_late.new.self.seats.seats c.sweep_idle.ensures.stays c.sweep_late.ensures.stays drops_both
 
 pub returns-clause-lets_go : goal.returns-clause-lets_go
-returns-clause-lets_go g c key = c.sweep_late.ensures.lets_go key ∙ ap (stays_if c.args.due.late on_time) (c.sweep_idle.ensures.lets_go key)
+returns-clause-lets_go g c = (c.sweep_idle.new.self, (c.sweep_idle.ensures.lets_go, c.sweep_idle.ensures.losses), c.sweep_late.ensures.lets_go, c.sweep_late.ensures.no_more.1 ∙ c.sweep_idle.ensures.no_more.1)
 
 pub returns-clause-peers : goal.returns-clause-peers
 returns-clause-peers g c =
