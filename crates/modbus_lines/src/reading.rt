@@ -1,7 +1,7 @@
 //! The values of a device's points, by the reads of their tables.
-ghost use Rattle.std.specs.Prelude.{◌≡◌, IfOk, string_bytes};
+ghost use Rattle.std.specs.Prelude.{◌≡◌, IfOk, IfErr, string_bytes};
 ghost use Rattle.modbus_map.specs.Gathering.{of_table, seen_by};
-ghost use Rattle.modbus_lines.specs.Readings.{found_in, IsTextIn, IsTextOfFound, AreReadings, Polls};
+ghost use Rattle.modbus_lines.specs.Readings.{found_in, IsTextIn, IsTextOfFound, AreReadings, Polls, IsWhyNoPoll};
 
 use crate::points::Points;
 use modbus_client::Reader;
@@ -135,8 +135,10 @@ pub fn poll<'p, R: Reader>(
     points: &'p Points,
     format: Format,
 ) -> Result<Polled<'p>, TableError>
-    ensures { IfOk result (λ polled.
+    ensures made { IfOk result (λ polled.
         Polls R.Client.answers client.old points.now format polled client.new) }
+    ensures stops { IfErr result (λ stop.
+        IsWhyNoPoll R.Client.answers client.old points.now stop client.new) }
 {
     let given = gather(alloc, client, &points.plans)?;
     match readings_of(alloc, format, points.points.as_slice(), &given) {
