@@ -1,4 +1,5 @@
 pub mod Lines
+pub mod Queues
 pub mod Reads
 pub mod Targets
 pub mod Turns

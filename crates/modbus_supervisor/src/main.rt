@@ -5,8 +5,10 @@
 mod fault;
 mod halves;
 mod lines;
+mod places;
 mod plan;
 mod plant;
+mod queue;
 mod reads;
 mod refusal;
 mod supervise;

@@ -3,27 +3,32 @@ ghost use Rattle.std.specs.Prelude.{◌<◌, ◌^◌, IfOk};
 
 use crate::fault::{Fault, Why, why_unanswered, why_unconnected};
 use crate::lines::Output;
+use crate::places::Places;
 use crate::target::Target;
 use crate::time::Time;
-use crate::turn::Turn;
+use crate::turn::{Turn, rest_of};
 use crate::watched::Watched;
 use crate::words::Task;
 use mio::net::TcpStream;
 use modbus_client::tcp::OwnAdus;
 use modbus_fleet::{Device, Fleet};
-use modbus_frame::{ExceptionCode, Request, Response, Result as Answer};
+use modbus_frame::{ExceptionCode, Request, Response, Result as Answer, Slave};
 use modbus_ready::{MioReadiness, PolledTcpLink};
 use std::io::{self, Write};
-use std::net::SocketAddr;
 use std::time::{Duration, Instant};
 
 /// How many reads of a call may give bytes.
 const TURNS: u64 = 64;
 
+/// When the call of a connection is over for the fleet: from the first on, since the turn of each device says when its call is given up.
+const NO_TIME: u64 = 0;
+
 /// A device of the plant.
 #[derive(Drop)]
 struct Supervised {
-    address: SocketAddr,
+    // the place of the connection over which it is polled
+    place: usize,
+    unit: Slave,
     watched: Watched,
     turn: Turn,
     // how many milliseconds a read may take
@@ -31,17 +36,22 @@ struct Supervised {
     // how often a read is made again that has no answer, and how often the one that is asked still is
     retries: u8,
     tries: u8,
-    // whether no answer came over its connection yet
-    is_fresh: bool,
+    // how many polls in a row it was away
+    misses: u32,
 }
 
-/// The devices as they are asked, and as they are seen, under the same keys.
+/// The devices under their keys, and the connections over which they are polled, each under its place, in the fleet too.
 #[derive(Drop)]
 struct Supervisor {
     fleet: Fleet<'static, OwnAdus, PolledTcpLink, MioReadiness>,
+    places: Places,
     devices: Vec<Supervised>,
+    // the keys of the devices whose polls waited, and begin next
+    called: Vec<usize>,
     began: Instant,
     output: Output,
+    // whether each poll tells all values
+    tells_all: bool,
     // when something is to be done next, if no answer comes; `None` where nothing is any more
     wake: Option<u64>,
     // what is printed next
@@ -89,14 +99,72 @@ impl Supervisor {
         }
     }
 
-    /// Ends the poll of the device under a key.
-    fn end(&mut self, rt: &HostRuntime, key: usize) -> Result<(), Fault> {
+    /// The place of the connection over which the device under a key is polled; one at which there is none where there is no device.
+    fn place_of(&self, key: usize) -> usize {
+        match self.devices.get(key) {
+            Some(device) => device.place,
+            None => usize::MAX,
+        }
+    }
+
+    /// Whether other devices are polled over the connection of the one under a key.
+    fn is_shared(&self, key: usize) -> bool {
+        match self.places.get(self.place_of(key)) {
+            Some(place) => place.is_shared(),
+            None => false,
+        }
+    }
+
+    /// Whether the poll of the device under a key begins at once: if not, it waits for those of others over the same connection.
+    fn enters(&mut self, key: usize) -> Result<bool, Fault> {
+        let place = self.place_of(key);
+        let Some(place) = self.places.get_mut(place) else {
+            return Ok(false);
+        };
+        if place.queue.enter(key)? {
+            return Ok(true);
+        }
+        if let Some(device) = self.devices.get_mut(key) {
+            device.turn.wait();
+        }
+        Ok(false)
+    }
+
+    /// Calls up the device that waited for longest for the connection of the one under a key, whose poll is over.
+    fn hand_over(&mut self, key: usize) -> Result<(), Fault> {
+        let place = self.place_of(key);
+        let Some(place) = self.places.get_mut(place) else {
+            return Ok(());
+        };
+        if let Some(next) = place.queue.leave() {
+            self.called.push(next)?;
+        }
+        Ok(())
+    }
+
+    /// Ends the poll of the device under a key, which has its next so many intervals later.
+    fn end(&mut self, rt: &HostRuntime, key: usize, intervals: u8) -> Result<(), Fault> {
         let now = self.now(rt)?;
         if let Some(device) = self.devices.get_mut(key) {
-            device.turn.end(now);
+            device.turn.end(now, intervals);
         }
         self.note_wake(key);
-        Ok(())
+        self.hand_over(key)
+    }
+
+    /// Counts that the device under a key is away. After how many intervals it is polled again: where it holds up others, the more the longer it
+    /// has been away.
+    fn note_miss(&mut self, key: usize) -> u8 {
+        let is_shared = self.is_shared(key);
+        let Some(device) = self.devices.get_mut(key) else {
+            return 1;
+        };
+        device.misses = device.misses.saturating_add(1);
+        if is_shared {
+            rest_of(device.misses, device.turn.every())
+        } else {
+            1
+        }
     }
 
     /// Ends the poll of the device under a key, which is away.
@@ -105,18 +173,20 @@ impl Supervisor {
         if let Some(device) = self.devices.get_mut(key) {
             device.watched.leave(rt.alloc(), self.output, &time, why.text(), &mut self.lines)?;
         }
-        self.end(rt, key)
+        let intervals = self.note_miss(key);
+        self.end(rt, key, intervals)
     }
 
     /// Ends the poll of the device under a key, each read of which had an answer.
     fn finish(&mut self, rt: &HostRuntime, key: usize) -> Result<(), Fault> {
         let time = Time::now(rt)?;
         if let Some(device) = self.devices.get_mut(key) {
+            device.misses = 0;
             device
                 .watched
                 .end(rt.alloc(), self.output, &time, &mut self.lines)?;
         }
-        self.end(rt, key)
+        self.end(rt, key, 1)
     }
 
     /// Tells the first time that no file descriptor is left.
@@ -129,24 +199,32 @@ impl Supervisor {
         }
     }
 
-    /// Begins a connection to the device under a key, where it has none. A poll of its call goes on with it.
+    /// Begins the connection of the device under a key, where there is none. A poll of its call goes on with it.
     ///
     /// # Errors
     /// Why there is none.
     fn connect(&mut self, rt: &HostRuntime, key: usize) -> Result<(), Why> {
-        match self.fleet.device(key) {
-            Some(device) if device.is_away() => {}
-            _ => return Ok(()),
+        let place = self.place_of(key);
+        match self.fleet.device(place) {
+            Some(device) if device.is_away() => self.connect_to(rt, place),
+            _ => Ok(()),
         }
-        let Some(device) = self.devices.get_mut(key) else {
+    }
+
+    /// Begins the connection of a place.
+    ///
+    /// # Errors
+    /// Why there is none.
+    fn connect_to(&mut self, rt: &HostRuntime, place: usize) -> Result<(), Why> {
+        let Some(it) = self.places.get_mut(place) else {
             return Err(Why::NoConnection);
         };
-        let stream = match TcpStream::connect(rt, device.address) {
+        let stream = match TcpStream::connect(rt, it.address) {
             Ok(stream) => stream,
             Err(error) => return Err(why_unconnected(&error)),
         };
-        device.is_fresh = true;
-        match self.fleet.connect(key, PolledTcpLink::new(stream)) {
+        it.is_fresh = true;
+        match self.fleet.connect(place, PolledTcpLink::new(stream)) {
             Ok(()) => Ok(()),
             Err(_) => Err(Why::NoConnection),
         }
@@ -170,7 +248,7 @@ impl Supervisor {
         }
     }
 
-    /// Hands a read to the device under a key. Whether that took it, as one that is connected does.
+    /// Hands a read to the connection of the device under a key, for the unit of that device. Whether that took it, as one that is connected does.
     fn hand_on(
         &mut self,
         rt: &HostRuntime,
@@ -178,12 +256,14 @@ impl Supervisor {
         request: Request<'static>,
     ) -> Result<bool, Fault> {
         let now = self.now(rt)?;
-        if !is_opened(self.fleet.ask(key, request, now))? {
+        let Some(device) = self.devices.get_mut(key) else {
+            return Ok(false);
+        };
+        self.fleet.set_slave(device.place, device.unit);
+        if !is_opened(self.fleet.ask(device.place, request, now))? {
             return Ok(false);
         }
-        if let Some(device) = self.devices.get_mut(key) {
-            device.turn.ask(now.saturating_add(device.timeout));
-        }
+        device.turn.ask(now.saturating_add(device.timeout));
         self.note_wake(key);
         Ok(true)
     }
@@ -229,9 +309,16 @@ impl Supervisor {
     /// before, the read is asked again over a new one and doesn't count, since the device may have closed the last one between two polls.
     /// Whether it was asked.
     fn try_anew(&mut self, rt: &HostRuntime, key: usize, why: Why) -> Result<bool, Fault> {
-        match self.devices.get(key) {
-            Some(device) if !device.is_fresh => self.ask(rt, key),
+        match self.places.get(self.place_of(key)) {
+            Some(place) if !place.is_fresh => self.ask(rt, key),
             _ => self.try_again(rt, key, why),
+        }
+    }
+
+    /// Keeps that an answer came over the connection at a place.
+    fn note_answer(&mut self, place: usize) {
+        if let Some(place) = self.places.get_mut(place) {
+            place.is_fresh = false;
         }
     }
 
@@ -248,8 +335,9 @@ impl Supervisor {
         if !device.watched.take(rt.alloc(), reply)? {
             return Ok(Some(Why::Other));
         }
-        device.is_fresh = false;
         device.tries = device.retries;
+        let place = device.place;
+        self.note_answer(place);
         Ok(None)
     }
 
@@ -282,8 +370,9 @@ impl Supervisor {
     /// Takes the answers of the device under a key, whose read was asked just now, that come at once: a link that is ready already is not told
     /// of again.
     fn take_ready(&mut self, rt: &HostRuntime, key: usize) -> Result<(), Fault> {
+        let place = self.place_of(key);
         for _ in 0..u64::MAX {
-            let Some(answer) = self.fleet.poll(key) else {
+            let Some(answer) = self.fleet.poll(place) else {
                 return Ok(());
             };
             if !self.take_one(rt, key, answer)? {
@@ -306,8 +395,47 @@ impl Supervisor {
         Ok(())
     }
 
-    /// Begins a poll of the device under a key.
+    /// Takes an answer that came over the connection at a place: it is that of the device whose poll is under way there.
+    fn take_at(
+        &mut self,
+        rt: &HostRuntime,
+        place: usize,
+        answer: Answer<Response>,
+    ) -> Result<(), Fault> {
+        let current = match self.places.get(place) {
+            Some(place) => place.queue.current(),
+            None => None,
+        };
+        match current {
+            Some(key) => self.take(rt, key, answer),
+            None => Ok(()),
+        }
+    }
+
+    /// Begins a poll of the device under a key, or has it wait for those of others over the same connection.
     fn begin(&mut self, rt: &HostRuntime, key: usize) -> Result<(), Fault> {
+        if self.enters(key)? {
+            self.start(rt, key)?;
+        }
+        Ok(())
+    }
+
+    /// Begins the polls that waited, and were called up.
+    fn serve_called(&mut self, rt: &HostRuntime) -> Result<(), Fault> {
+        for _ in 0..u64::MAX {
+            let Some(key) = self.called.pop() else {
+                return Ok(());
+            };
+            if let Some(device) = self.devices.get_mut(key) {
+                device.turn.call_up();
+            }
+            self.start(rt, key)?;
+        }
+        Ok(())
+    }
+
+    /// Begins a poll of the device under a key, whose turn it is.
+    fn start(&mut self, rt: &HostRuntime, key: usize) -> Result<(), Fault> {
         if let Some(device) = self.devices.get_mut(key) {
             device.watched.begin()?;
             device.tries = device.retries;
@@ -325,10 +453,11 @@ impl Supervisor {
 
     /// Gives up the call of the device under a key, unless its answer has come, with its link: the reply may still come.
     fn give_up(&mut self, rt: &HostRuntime, key: usize, now: u64) -> Result<(), Fault> {
-        if let Some(answer) = self.fleet.poll(key) {
+        let place = self.place_of(key);
+        if let Some(answer) = self.fleet.poll(place) {
             return self.take(rt, key, answer);
         }
-        let _is_given_up = self.fleet.expire_at(key, now);
+        let _is_given_up = self.fleet.expire_at(place, now);
         if self.takes_try(key) {
             return self.go_on(rt, key);
         }
@@ -372,22 +501,31 @@ impl Supervisor {
         }
     }
 
+    /// The place of the connection over which one more device at this address is polled.
+    fn take_in(&mut self, rt: &HostRuntime, target: &Target) -> Result<usize, Fault> {
+        let place = self.places.take_in(rt.alloc(), target.address)?;
+        if place == self.fleet.len() {
+            let added = self.fleet.add(Device::new(target.unit, TURNS, NO_TIME))?;
+            if added != place {
+                return Err(Fault::NoMemory);
+            }
+        }
+        Ok(place)
+    }
+
     /// Adds a device, which is not connected yet.
     fn add(&mut self, rt: &HostRuntime, count: u64, target: Target) -> Result<(), Fault> {
         let times = target.times;
-        let timeout = u64::from(times.timeout);
-        let device = Device::new(target.unit, TURNS, timeout);
-        if self.fleet.add(device)? != self.devices.len() {
-            return Err(Fault::NoMemory);
-        }
+        let place = self.take_in(rt, &target)?;
         self.devices.push(Supervised {
-            address: target.address,
-            watched: Watched::new(rt.alloc(), target.name, target.points)?,
+            place,
+            unit: target.unit,
+            watched: Watched::new(rt.alloc(), target.name, target.points, self.tells_all)?,
             turn: Turn::new(count, times.every),
-            timeout,
+            timeout: u64::from(times.timeout),
             retries: times.retries,
             tries: times.retries,
-            is_fresh: true,
+            misses: 0,
         })?;
         Ok(())
     }
@@ -411,6 +549,7 @@ impl Supervisor {
             if wake <= now {
                 self.serve_all(rt, now)?;
             }
+            self.serve_called(rt)?;
             self.print(rt)?;
         }
         Ok(())
@@ -425,7 +564,7 @@ impl Supervisor {
         }
         for _ in 0..u64::MAX {
             match self.fleet.next_answer() {
-                Some(told) => self.take(rt, told.key, told.answer)?,
+                Some(told) => self.take_at(rt, told.key, told.answer)?,
                 None => return Ok(()),
             }
         }
@@ -434,7 +573,7 @@ impl Supervisor {
 }
 
 /// A supervisor of no device.
-fn idle(rt: &HostRuntime, output: Output) -> Result<Supervisor, Fault> {
+fn idle(rt: &HostRuntime, task: &Task<'_>) -> Result<Supervisor, Fault> {
     let alloc = rt.alloc();
     let Ok(began) = Instant::now(rt) else {
         return Err(Fault::Clock);
@@ -444,9 +583,12 @@ fn idle(rt: &HostRuntime, output: Output) -> Result<Supervisor, Fault> {
     };
     Ok(Supervisor {
         fleet: Fleet::new(alloc, readiness),
+        places: Places::new(alloc, task.connections),
         devices: Vec::new(alloc),
+        called: Vec::new(alloc),
         began,
-        output,
+        output: task.output,
+        tells_all: task.tells_all,
         wake: Some(0),
         lines: Vec::new(alloc),
         is_short_of_files: false,
@@ -458,7 +600,7 @@ fn idle(rt: &HostRuntime, output: Output) -> Result<Supervisor, Fault> {
 /// # Errors
 /// Why it ended before.
 pub fn supervise(rt: &HostRuntime, task: &Task<'_>, targets: Vec<Target>) -> Result<(), Fault> {
-    let mut supervisor = idle(rt, task.output)?;
+    let mut supervisor = idle(rt, task)?;
     supervisor.add_all(rt, task.count, targets)?;
     supervisor.run(rt)
 }

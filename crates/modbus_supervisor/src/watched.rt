@@ -214,14 +214,28 @@ pub struct Watched {
     place: usize,
     given: Tables<Vec<Given>>,
     is_away: bool,
+    // whether each poll tells all values, as if none had been seen
+    tells_all: bool,
+}
+
+/// Forgets what was seen of points.
+fn forget(points: &mut [WatchedPoint]) {
+    for point in points.iter_mut() {
+        point.seen = None;
+    }
 }
 
 impl Watched {
-    /// A device of which nothing was seen.
+    /// A device of which nothing was seen. `tells_all` has each poll tell all values, and not changes alone.
     ///
     /// # Errors
     /// Refused memory.
-    pub fn new(alloc: Global, name: String, points: Points) -> Result<Watched, AllocError> {
+    pub fn new(
+        alloc: Global,
+        name: String,
+        points: Points,
+        tells_all: bool,
+    ) -> Result<Watched, AllocError> {
         let whole = reads_of(alloc, &points.plans)?;
         let asks = Vec::from_slice(alloc, whole.as_slice())?;
         Ok(Watched {
@@ -233,6 +247,7 @@ impl Watched {
             place: 0,
             given: nothing_given(alloc),
             is_away: false,
+            tells_all,
         })
     }
 
@@ -241,6 +256,9 @@ impl Watched {
     /// # Errors
     /// Refused memory.
     pub fn begin(&mut self) -> Result<(), AllocError> {
+        if self.tells_all {
+            forget(self.points.as_mut_slice());
+        }
         self.place = 0;
         self.given.coils.clear();
         self.given.discrete_inputs.clear();

@@ -17,6 +17,10 @@ pub struct Task<'a> {
     pub timeout: Option<u32>,
     /// How many polls each device has.
     pub count: u64,
+    /// How many connections there are to one address at most.
+    pub connections: usize,
+    /// Whether each poll tells all values, and not changes alone.
+    pub tells_all: bool,
     /// How lines are written.
     pub output: Output,
     /// Whether the reads are printed, and nothing is sent.
@@ -79,6 +83,24 @@ fn count<'a>(alloc: Global) -> Arg<'a> {
     .value_parser(value_parser!(u64).range(1..=1_000_000_000_000))
 }
 
+fn connections<'a>(alloc: Global) -> Arg<'a> {
+    option(
+        alloc,
+        "connections",
+        "N",
+        "Have so many connections to one address at most, among which its devices are divided; else one",
+    )
+    .value_parser(value_parser!(usize).range(1..=65_535))
+}
+
+fn all<'a>(alloc: Global) -> Arg<'a> {
+    flag(
+        alloc,
+        "all",
+        "Tell all values of each poll, and not changes alone",
+    )
+}
+
 fn format<'a>(alloc: Global) -> Arg<'a> {
     option(
         alloc,
@@ -114,6 +136,8 @@ fn whole<'a>(alloc: Global) -> Result<Command<'a>, AllocError> {
         every(alloc),
         timeout(alloc),
         count(alloc),
+        connections(alloc),
+        all(alloc),
         format(alloc),
         big_as_text(alloc),
         plan(alloc),
@@ -151,6 +175,8 @@ pub fn task_of<'a>(matches: &ArgMatches<'a>) -> Task<'a> {
         every: matches.get_one("every"),
         timeout: matches.get_one("timeout"),
         count: matches.get_one("count").unwrap_or(u64::MAX),
+        connections: matches.get_one("connections").unwrap_or(1),
+        tells_all: matches.get_flag("all"),
         output: output_of(matches),
         is_plan: matches.get_flag("plan"),
     }
