@@ -48,10 +48,10 @@ extern "C" {
 enum modbus_status {
     MODBUS_DONE = 0,      /* a message was found, a request answered, a PDU read or written */
     MODBUS_WAITING = 1,   /* no whole message: more bytes are waited for */
-    MODBUS_SILENT = 2,    /* a broadcast had its effect, and has no answer */
+    MODBUS_SILENT = 2,    /* what was asked has its effect, and no answer: a broadcast, or what is for others */
     MODBUS_REFUSED = 3,   /* the PDU is refused, for the reason that `detail` tells */
     MODBUS_NO_MEMORY = 4, /* memory was refused */
-    MODBUS_NO_LENGTH = 5, /* the header of an ADU tells the length 0: close the connection */
+    MODBUS_NO_LENGTH = 5, /* the header of an ADU tells the length 0, to modbus_stream_serve one above 254 too: close the connection */
     MODBUS_FOREIGN = 6,   /* the header of an ADU tells another protocol: close the connection */
     MODBUS_CROWD = 7,     /* no frame stands at the first twenty offsets */
     MODBUS_NO_ROOM = 8,   /* an array of the caller is too short */
@@ -117,13 +117,13 @@ static inline const char *modbus_status_text(uint32_t status) {
     case MODBUS_WAITING:
         return "no whole message yet";
     case MODBUS_SILENT:
-        return "a broadcast, which has no answer";
+        return "nothing to be answered";
     case MODBUS_REFUSED:
         return "a PDU that is refused";
     case MODBUS_NO_MEMORY:
         return "memory was refused";
     case MODBUS_NO_LENGTH:
-        return "a header of the length 0";
+        return "a header of a length that is none";
     case MODBUS_FOREIGN:
         return "a header of another protocol";
     case MODBUS_CROWD:
@@ -242,6 +242,26 @@ typedef struct {
     size_t count;
 } modbus_response;
 
+/* The tables of a device in arrays of the caller, which requests read and write. A table may have any length; an address past its end is
+ * answered by an exception. */
+typedef struct {
+    bool *coils;
+    size_t coils_len;
+    const bool *discrete_inputs;
+    size_t discrete_inputs_len;
+    uint16_t *holding_registers;
+    size_t holding_registers_len;
+    const uint16_t *input_registers;
+    size_t input_registers_len;
+} modbus_tables;
+
+/* A device of a serial line: its address, 1 to 247, and its tables. Of two of one address the first is asked. Two may share arrays that are
+ * read alone, and no other. */
+typedef struct {
+    uint8_t unit;
+    modbus_tables tables;
+} modbus_unit;
+
 /* The bytes of a serial line that were fed and not used yet: the first `len`, of at most 268. Its fields are the library's. */
 typedef struct {
     size_t len;
@@ -304,7 +324,32 @@ modbus_done modbus_tcp_wrap(uint16_t transaction_id, uint8_t unit_id, const uint
                             size_t output_len);
 modbus_done modbus_rtu_wrap(uint8_t slave, const uint8_t *pdu, size_t pdu_len, uint8_t *output, size_t output_len);
 
-/* Answers the ADU at the front of the input, or the next frame, by the caller's tables: the reply goes to the front of the output, and
+/* A server on a serial line that others share: the units hear `burst`, which is all that came between two silences, and the answer to its
+ * last frame goes to the front of the output (SL 2.5.1.1).
+ * A burst is one frame where it ends with its checksum; else frames one after another, each as long as a request or a reply of its function,
+ * with a right checksum. What is left, as a frame that was cut, is noise: it asks nothing, and nothing is kept of it for the next burst. A
+ * frame with the length of a reply alone asks nothing. Each other is done by the unit of its address, one for slave 0 by all of them, one
+ * for another address by nobody. Only the last frame is answered: behind an earlier one its master spoke on.
+ * A PDU that can't be read is answered by exception 03, a function that is not known by 01 (AP 6, 7); a request for which there is no
+ * memory by 04.
+ * MODBUS_DONE: the reply has `written` bytes; MODBUS_SILENT: nothing is answered; MODBUS_NO_MEMORY: there was none for the frame at `used`:
+ * those before it were done, and nothing is answered; MODBUS_NO_ROOM: the output has less than MODBUS_LONGEST_REPLY bytes, and nothing was
+ * done. Else `used` is the length of the burst. */
+modbus_served modbus_line_serve(modbus_unit *units, size_t units_len, const uint8_t *burst, size_t burst_len, uint8_t *output,
+                                size_t output_len);
+
+/* A server of Modbus TCP: answers what stands at the front of the input by the tables of the device, whatever unit identifier it has (TCP
+ * 3.1.3, 4.4.1.2). It is one request: call again with the bytes from `used` on. What can't be read is answered as by modbus_line_serve.
+ * MODBUS_DONE; MODBUS_WAITING; MODBUS_SILENT: the message has no function code of a request; MODBUS_NO_MEMORY; MODBUS_FOREIGN as soon as four
+ * bytes tell another protocol, so at the first four of a `GET`; MODBUS_NO_LENGTH as soon as six bytes tell no byte or more than 254;
+ * MODBUS_NO_ROOM: the output has less than MODBUS_LONGEST_REPLY bytes. Only where it is done or silent a table may change, and only where it
+ * is done the output changes. */
+modbus_served modbus_stream_serve(modbus_tables *tables, const uint8_t *input, size_t input_len, uint8_t *output, size_t output_len);
+
+/* For one device alone on a line or a connection, whose peer is known to send nothing but whole requests: on a line that others share take
+ * modbus_line_serve, towards a network modbus_stream_serve. These two and the inbox answer each address, and so the requests of neighbours.
+ *
+ * Answers the ADU at the front of the input, or the next frame, by the caller's tables: the reply goes to the front of the output, and
  * what the request writes into the tables (AP 6, 7). It is one request: call again with the bytes from `used` on. Tables may have any
  * length; an address past the end is answered by an exception. Where `broadcast` is true, slave or unit 0 has its effect and no answer.
  * MODBUS_DONE; MODBUS_WAITING; MODBUS_SILENT; MODBUS_REFUSED: not answered; MODBUS_NO_MEMORY; MODBUS_NO_LENGTH and MODBUS_FOREIGN (TCP);
@@ -385,7 +430,8 @@ modbus_block rattle_realloc(void *at, size_t old, size_t size, size_t align);
 
 /*
  * Null pointers. What stands here is compiled into the caller, and C gets it for each function above: a null pointer beside the length 0 is
- * an array of no entry; where a pointer is null that has to point to something, MODBUS_NULL is told, and nothing is read or written. Where
+ * an array of no entry (in modbus_tables it is put right); where a pointer is null that has to point to something, MODBUS_NULL is told, and
+ * no table is read or written. Where
  * there is no status the answer is 0, or the checksum of no byte. Who defines MODBUS_UNCHECKED, or calls the library from another
  * language, owes that no pointer is null.
  */
@@ -494,6 +540,47 @@ static inline modbus_done modbus_checked_rtu_wrap(uint8_t slave, const uint8_t *
         return refused;
     }
     return modbus_rtu_wrap(slave, pdu ? pdu : &none.byte, pdu_len, output ? output : &none.byte, output_len);
+}
+
+/* Whether tables have a pointer wherever they have an entry. Where they have none, a null pointer is put right. */
+static inline bool modbus_checked_tables(modbus_tables *tables) {
+    static modbus_none none;
+    if ((!tables->coils && tables->coils_len) || (!tables->discrete_inputs && tables->discrete_inputs_len) ||
+        (!tables->holding_registers && tables->holding_registers_len) || (!tables->input_registers && tables->input_registers_len)) {
+        return false;
+    }
+    tables->coils = tables->coils ? tables->coils : &none.coil;
+    tables->discrete_inputs = tables->discrete_inputs ? tables->discrete_inputs : &none.coil;
+    tables->holding_registers = tables->holding_registers ? tables->holding_registers : &none.word;
+    tables->input_registers = tables->input_registers ? tables->input_registers : &none.word;
+    return true;
+}
+
+static inline modbus_served modbus_checked_line_serve(modbus_unit *units, size_t units_len, const uint8_t *burst, size_t burst_len,
+                                                      uint8_t *output, size_t output_len) {
+    modbus_none none = {0, false, 0};
+    modbus_unit nobody = {0, {&none.coil, 0, &none.coil, 0, &none.word, 0, &none.word, 0}};
+    const modbus_served refused = {MODBUS_NULL, 0, 0, 0};
+    if ((!units && units_len) || (!burst && burst_len) || (!output && output_len)) {
+        return refused;
+    }
+    for (size_t place = 0; place < units_len; place++) {
+        if (!modbus_checked_tables(&units[place].tables)) {
+            return refused;
+        }
+    }
+    return modbus_line_serve(units ? units : &nobody, units_len, burst ? burst : &none.byte, burst_len, output ? output : &none.byte,
+                             output_len);
+}
+
+static inline modbus_served modbus_checked_stream_serve(modbus_tables *tables, const uint8_t *input, size_t input_len, uint8_t *output,
+                                                        size_t output_len) {
+    modbus_none none = {0, false, 0};
+    const modbus_served refused = {MODBUS_NULL, 0, 0, 0};
+    if (!tables || (!input && input_len) || (!output && output_len) || !modbus_checked_tables(tables)) {
+        return refused;
+    }
+    return modbus_stream_serve(tables, input ? input : &none.byte, input_len, output ? output : &none.byte, output_len);
 }
 
 static inline modbus_served modbus_checked_tcp_serve(const uint8_t *input, size_t input_len, bool *coils, size_t coils_len,
@@ -631,6 +718,8 @@ static inline modbus_done modbus_checked_call_answer(modbus_call *call, modbus_r
 #define modbus_response_encode modbus_checked_response_encode
 #define modbus_tcp_wrap modbus_checked_tcp_wrap
 #define modbus_rtu_wrap modbus_checked_rtu_wrap
+#define modbus_line_serve modbus_checked_line_serve
+#define modbus_stream_serve modbus_checked_stream_serve
 #define modbus_tcp_serve modbus_checked_tcp_serve
 #define modbus_rtu_serve modbus_checked_rtu_serve
 #define modbus_ascii_serve modbus_checked_ascii_serve

@@ -5,3 +5,6 @@ pub mod Replying
 pub mod Dropping
 pub mod Texts
 pub mod Judging
+pub mod Telling
+pub mod Hearing
+pub mod Answering

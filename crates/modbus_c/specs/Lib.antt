@@ -10,3 +10,6 @@ pub mod Inbox
 pub mod Calls
 pub mod Fits
 pub mod Texts
+pub mod Units
+pub mod Line
+pub mod Pieces

@@ -1,5 +1,5 @@
 -- What serving one message did, as a struct of C.
-use Rattle.std.specs.Prelude.{Result, Ok, Err}
+use Rattle.std.specs.Prelude.{ℕ, ◌==◌, if◌then◌else◌, Result, Ok, Err}
 use Rattle.modbus_rtu.specs.declared.front.Crowd.{Crowd}
 use Rattle.modbus_rtu.specs.Limits.{max_retries}
 use Rattle.modbus_tcp.specs.declared.stream.HeaderFault.{HeaderFault}
@@ -29,3 +29,8 @@ flat_frame (Err crowd) = record { status = MODBUS_CROWD; detail = 0; used = max_
 -- the output has too little room for the longest reply, so nothing was done
 abbrev pub no_room : ModbusServed
 no_room = record { status = MODBUS_NO_ROOM; detail = 0; used = 0; written = 0 }
+
+-- a burst of so many bytes: all of it was heard, and a reply of so many was written, or none; or memory was refused at a place
+abbrev pub flat_burst : ℕ → Result ℕ ℕ → ModbusServed
+flat_burst size (Ok written) = record { status = if written == 0 then MODBUS_SILENT else MODBUS_DONE; detail = 0; used = size; written = written }
+flat_burst size (Err used) = record { status = MODBUS_NO_MEMORY; detail = 0; used = used; written = 0 }

@@ -57,7 +57,7 @@ pub(crate) fn flat(served: Served) -> ModbusServed
     }
 }
 
-fn flat_of_adu(served: Result<Served, HeaderFault>) -> ModbusServed
+pub(crate) fn flat_of_adu(served: Result<Served, HeaderFault>) -> ModbusServed
     ensures { result ≡ flat_adu served }
 {
     match served {

@@ -39,7 +39,7 @@ pub enum Served {
 }
 
 /// Writes the ADU of an answer that fits to the front of the output, by way of an empty buffer with room for it. How many bytes it has.
-fn adu_into(
+pub(crate) fn adu_into(
     alloc: Global,
     header: Header,
     answer: &Result<Response, ExceptionResponse>,

@@ -11,7 +11,7 @@ pub const MODBUS_DONE: u32 = 0;
 /// No whole message: more bytes are waited for.
 pub const MODBUS_WAITING: u32 = 1;
 
-/// A broadcast had its effect, and has no answer.
+/// What was asked has its effect, and no answer.
 pub const MODBUS_SILENT: u32 = 2;
 
 /// The PDU is refused, for the reason that `detail` tells.
@@ -20,7 +20,7 @@ pub const MODBUS_REFUSED: u32 = 3;
 /// Memory was refused.
 pub const MODBUS_NO_MEMORY: u32 = 4;
 
-/// The header of an ADU tells the length 0.
+/// The header of an ADU tells a length that is none.
 pub const MODBUS_NO_LENGTH: u32 = 5;
 
 /// The header of an ADU tells another protocol, `detail`.
