@@ -4,7 +4,7 @@
 usage: bench/c.py
 
 It serves 1,000 and 11,000 requests under callgrind, and prints the difference a request: reads and writes of ten registers, over Modbus TCP
-and RTU, with malloc and with the arena of examples/c. libmodbus is given the same requests over TCP, without its receiving; its checks are
+and RTU, by the calls for a network and a shared line too, with malloc and with the arena of examples/c. libmodbus is given the same requests over TCP, without its receiving; its checks are
 there, so they aren't counted. Then come the allocations a request, the most bytes of the arena, and the size of the archive without
 symbols. It is no test; it needs gcc, valgrind and the built archive (tools/c/run builds it), and for libmodbus libmodbus-dev. MODBUS_ROOT
 names a folder with its usr/, in place of the one that is installed.
@@ -53,12 +53,12 @@ def main():
     if not os.path.exists(ARCHIVE):
         sys.exit("c.py: the archive is not built: run tools/c/run first")
     with tempfile.TemporaryDirectory() as work:
-        gcc = ["gcc", "-O2", "-I", os.path.join(CRATE, "include")]
+        gcc = ["gcc", "-O2", "-DMODBUS_UNCHECKED", "-I", os.path.join(CRATE, "include")]
         count, arena, reply = (os.path.join(work, name) for name in ("count", "arena", "reply"))
         source = os.path.join(TOP, "bench", "c", "count.c")
         run(*gcc, "-o", count, source, ARCHIVE, heap)
         run(*gcc, "-DARENA=8192", "-o", arena, source, os.path.join(TOP, "examples", "c", "arena.c"), ARCHIVE)
-        for mode in "tcp", "rtu":
+        for mode in "tcp", "rtu", "stream", "line":
             for kind in "read", "write":
                 figures = f"{counted(count, mode, kind):.0f} with malloc, {counted(arena, mode, kind):.0f} with the arena"
                 print(f"{mode} {kind}: {figures}; {allocations(count, mode, kind):.0f} allocations; {run(arena, '1', mode, kind).splitlines()[-1]}")

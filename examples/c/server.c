@@ -29,20 +29,16 @@ static struct pollfd polled[CONNECTIONS + 1];
 static nfds_t count = 1; /* the listener, and the connections behind it */
 static unsigned long long turns;
 
-/* Answers the ADU at the front of these bytes. */
-static modbus_served serve(const uint8_t *input, size_t input_len, uint8_t *output, size_t output_len) {
-    return modbus_tcp_serve(input, input_len, coils, ENTRIES, discrete_inputs, ENTRIES, holding_registers, ENTRIES, input_registers,
-                            ENTRIES, false, output, output_len);
-}
+static modbus_tables tables = {coils, ENTRIES, discrete_inputs, ENTRIES, holding_registers, ENTRIES, input_registers, ENTRIES};
 
 /* Answers all whole ADUs that are held, and keeps the rest. Whether the connection goes on: it does not where a reply is not taken at once,
- * and where all room is full of no whole ADU. */
+ * and where the header is none of Modbus. */
 static bool answer(int socket, struct connection *it) {
     size_t at = 0;
     bool goes_on = true;
     for (;;) {
         uint8_t reply[MODBUS_LONGEST_REPLY];
-        modbus_served served = serve(it->held + at, it->held_len - at, reply, sizeof reply);
+        modbus_served served = modbus_stream_serve(&tables, it->held + at, it->held_len - at, reply, sizeof reply);
         if (served.status == MODBUS_WAITING) {
             break;
         }
@@ -58,7 +54,7 @@ static bool answer(int socket, struct connection *it) {
     }
     it->held_len -= at;
     memmove(it->held, it->held + at, it->held_len);
-    return goes_on && it->held_len < HELD;
+    return goes_on;
 }
 
 /* Reads what came, and answers it. Whether the connection goes on. */

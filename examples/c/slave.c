@@ -1,8 +1,10 @@
-/* An RTU slave on a serial line: a frame stands between two silences of 3.5 characters, and what is for another slave is passed by.
+/* An RTU slave on a serial line that others share: all that comes between two silences of 3.5 characters is one burst for the library, which
+ * passes by what is for others.
  * usage: slave ADDRESS PORT [BAUD [PARITY]] */
 #include "line.h"
 
-enum { ENTRIES = 256, LONGEST_FRAME = 256 };
+/* A burst has more than a frame where neighbours speak without a silence between them. */
+enum { ENTRIES = 256, MOST_HEARD = 4096 };
 
 static bool coils[ENTRIES], discrete_inputs[ENTRIES];
 static uint16_t holding_registers[ENTRIES], input_registers[ENTRIES];
@@ -11,22 +13,16 @@ static uint16_t holding_registers[ENTRIES], input_registers[ENTRIES];
 static size_t hear(const struct line *line, uint8_t *burst) {
     size_t len = 0;
     while (line_waits(line, len ? line->silence_us : -1)) {
-        uint8_t piece[LONGEST_FRAME];
+        uint8_t piece[256];
         size_t got = line_read(line, piece, sizeof piece);
-        if (len + got > LONGEST_FRAME) {
+        if (len + got > MOST_HEARD) {
             line_quiet(line);
-            return LONGEST_FRAME + 1;
+            return MOST_HEARD + 1;
         }
         memcpy(burst + len, piece, got);
         len += got;
     }
     return len;
-}
-
-/* Whether these bytes are one frame, for this slave or for all (address 0). */
-static bool is_mine(const uint8_t *burst, size_t len, uint8_t address) {
-    modbus_frame found = modbus_rtu_find_request(burst, len);
-    return found.status == MODBUS_DONE && found.start == 0 && found.used == len && (burst[0] == address || burst[0] == 0);
 }
 
 int main(int argc, char **argv) {
@@ -39,16 +35,19 @@ int main(int argc, char **argv) {
         input_registers[i] = (uint16_t)(65535 - i);
         discrete_inputs[i] = i % 2 == 1;
     }
+    modbus_unit unit = {
+        .unit = (uint8_t)address,
+        .tables = {coils, ENTRIES, discrete_inputs, ENTRIES, holding_registers, ENTRIES, input_registers, ENTRIES},
+    };
     printf("ready\n");
     fflush(stdout);
     for (;;) {
-        uint8_t burst[LONGEST_FRAME], reply[MODBUS_LONGEST_REPLY];
+        uint8_t burst[MOST_HEARD], reply[MODBUS_LONGEST_REPLY];
         size_t len = hear(&line, burst);
-        if (len > LONGEST_FRAME || !is_mine(burst, len, (uint8_t)address)) {
+        if (len > MOST_HEARD) {
             continue;
         }
-        modbus_served served = modbus_rtu_serve(burst, len, coils, ENTRIES, discrete_inputs, ENTRIES, holding_registers, ENTRIES,
-                                                input_registers, ENTRIES, true, reply, sizeof reply);
+        modbus_served served = modbus_line_serve(&unit, 1, burst, len, reply, sizeof reply);
         if (served.status == MODBUS_DONE) {
             line_send(&line, reply, served.written);
         } else if (served.status != MODBUS_SILENT) {

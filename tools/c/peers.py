@@ -1,4 +1,4 @@
-"""Asks the server of examples/c as more peers than it has room for, beside one that never reads. The status is 0 where each answer was the
+"""Asks the server of examples/c as more peers than it has room for, beside one that never reads and one that speaks HTTP. The status is 0 where each answer was the
 one wanted.
 
 usage: peers.py PORT
@@ -45,6 +45,11 @@ def main(port):
             while sent < BYTES:
                 sent += deaf.send(LONG_READ * 1000)
         assert sent < BYTES
+        # another protocol is told by its first bytes, and ends the connection
+        other = connected()
+        other.sendall(b"GET / HTTP/1.1\r\n")
+        with contextlib.suppress(ConnectionError):
+            assert other.recv(100) == b""
         assert asked(connected()) == ANSWER
     print("each answer was the one wanted")
 

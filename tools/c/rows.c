@@ -372,6 +372,7 @@ static void fitting(void) {
     modbus_call call;
     modbus_response response;
     modbus_done told;
+    memset(&call, 0, sizeof call); /* it is compared whole below, with what lies between its fields */
     modbus_call_tcp(&call, 1, 17, &coils, words, 0, three, 0, output, sizeof output);
     told = answer_of(&call, "0001 0000 0004 11 01 01 05", 99, &response, words, 0, three, 2);
     row("two of three coils", told.status == MODBUS_NO_ROOM && three[1] && call.inbox.len == 10);
@@ -479,7 +480,139 @@ static void nulls(void) {
                                       modbus_call_answer(&call, NULL, NULL, 0, NULL, 0).status == MODBUS_NULL);
 }
 
+/* The tables of a device. */
+static modbus_tables tables_of(struct device *device) {
+    const modbus_tables tables = {device->coils, ENTRIES, device->discrete_inputs, ENTRIES, device->holding_registers, ENTRIES,
+                                  device->input_registers, ENTRIES};
+    return tables;
+}
+
+/* Puts a frame behind others of a burst. How many bytes there are then. */
+static size_t put(uint8_t *burst, size_t at, uint8_t slave, const char *pdu) {
+    size_t len;
+    uint8_t *bytes = bytes_of(pdu, &len);
+    modbus_done done = modbus_rtu_wrap(slave, bytes, len, burst + at, MODBUS_LONGEST_REPLY);
+    free(bytes);
+    return at + done.written;
+}
+
+/* One burst: all of it is used, and the reply is the frame of this PDU, or none. The burst has no byte to spare. */
+static void hears(const char *name, modbus_unit *units, size_t units_len, const uint8_t *burst, size_t len, uint8_t slave,
+                  const char *reply) {
+    uint8_t *exact = malloc(len ? len : 1), *output = malloc(MODBUS_LONGEST_REPLY), wanted[MODBUS_LONGEST_REPLY];
+    size_t reply_len;
+    modbus_served done;
+    memcpy(exact, burst, len);
+    memset(output, 0xA5, MODBUS_LONGEST_REPLY);
+    memset(wanted, 0xA5, sizeof wanted);
+    reply_len = *reply ? put(wanted, 0, slave, reply) : 0;
+    done = modbus_line_serve(units, units_len, exact, len, output, MODBUS_LONGEST_REPLY);
+    row(name, done.status == (reply_len ? MODBUS_DONE : MODBUS_SILENT) && done.detail == 0 && done.used == len && done.written == reply_len &&
+                  memcmp(output, wanted, sizeof wanted) == 0);
+    free(exact);
+    free(output);
+}
+
+static void lines(void) {
+    struct device one = {0}, other = {0}, before;
+    modbus_unit units[2] = {{17, tables_of(&one)}, {18, tables_of(&other)}};
+    modbus_unit bare = {17, {NULL, 0, NULL, 0, one.holding_registers, ENTRIES, NULL, 0}};
+    modbus_served done;
+    uint8_t burst[2048], output[MODBUS_LONGEST_REPLY];
+    size_t len;
+    one.holding_registers[2] = 0x1234;
+    other.holding_registers[2] = 0x5678;
+    hears("a request of a unit", units, 2, burst, put(burst, 0, 17, "03 0002 0001"), 17, "03 02 1234");
+    hears("a request of the other unit", units, 2, burst, put(burst, 0, 18, "03 0002 0001"), 18, "03 02 5678");
+    before = one;
+    hears("a write of a neighbour", units, 2, burst, put(burst, 0, 19, "06 0002 0001"), 0, "");
+    hears("a neighbour's answer to a read", units, 2, burst, put(burst, 0, 19, "03 02 0001"), 0, "");
+    hears("an answer to a write of registers", units, 2, burst, put(burst, 0, 17, "10 0002 0001"), 17, "90 03");
+    len = put(burst, put(burst, 0, 19, "10 0002 0001 02 4711"), 19, "10 0002 0001");
+    hears("a neighbour's write and its answer", units, 2, burst, len, 0, "");
+    len = put(burst, put(burst, 0, 17, "01 02 5555"), 19, "01 0000 0008");
+    hears("an answer of the unit's address, and a request behind it", units, 2, burst, len, 0, "");
+    row("neighbours change nothing", memcmp(&before, &one, sizeof one) == 0);
+    len = put(burst, put(burst, 0, 19, "03 02 0001"), 17, "03 0002 0001");
+    hears("a request behind a neighbour's answer", units, 2, burst, len, 17, "03 02 1234");
+    len = put(burst, put(burst, 0, 17, "06 0003 0007"), 19, "03 0002 0001");
+    hears("a write behind which its master spoke on", units, 2, burst, len, 0, "");
+    row("it is done", one.holding_registers[3] == 7 && other.holding_registers[3] == 0);
+    len = put(burst, put(burst, 0, 17, "03 0002 0001"), 18, "03 0002 0001");
+    hears("two requests of two units", units, 2, burst, len, 18, "03 02 5678");
+    hears("a frame that is cut", units, 2, burst, put(burst, 0, 17, "06 0003 0009") - 1, 0, "");
+    hears("and what follows it", units, 2, burst, put(burst, 0, 17, "03 0003 0001"), 17, "03 02 0007");
+    hears("a broadcast", units, 2, burst, put(burst, 0, 0, "06 0004 4711"), 0, "");
+    row("all units do it", one.holding_registers[4] == 0x4711 && other.holding_registers[4] == 0x4711);
+    hears("a request that is too short", units, 2, burst, put(burst, 0, 17, "03 00"), 17, "83 03");
+    hears("a request of too many registers", units, 2, burst, put(burst, 0, 17, "03 0000 007E"), 17, "83 03");
+    hears("a request past the table", units, 2, burst, put(burst, 0, 17, "03 003F 0002"), 17, "83 02");
+    hears("a function that is not known", units, 2, burst, put(burst, 0, 17, "41 00"), 17, "C1 01");
+    hears("a MEI type that is not known", units, 2, burst, put(burst, 0, 17, "2B 0D"), 17, "AB 01");
+    hears("an exception", units, 2, burst, put(burst, 0, 17, "83 02"), 0, "");
+    hears("noise", units, 2, (const uint8_t *)"\x11\x03\x00\x02\x00", 5, 0, "");
+    hears("nothing", units, 2, burst, 0, 0, "");
+    hears("a line of no unit", NULL, 0, burst, put(burst, 0, 17, "03 0002 0001"), 0, "");
+    hears("tables that are null", &bare, 1, burst, put(burst, 0, 17, "01 0000 0001"), 17, "81 02");
+    bare.tables.coils = NULL;
+    bare.tables.coils_len = 1;
+    len = put(burst, 0, 17, "06 0002 0001");
+    memset(output, 0xA5, sizeof output);
+    done = modbus_line_serve(&bare, 1, burst, len, output, sizeof output);
+    row("a null table of one entry of a unit", done.status == MODBUS_NULL && done.written == 0 && one.holding_registers[2] == 0x1234);
+    done = modbus_line_serve(units, 2, burst, len, output, MODBUS_LONGEST_REPLY - 1);
+    row("an output of 259 bytes", done.status == MODBUS_NO_ROOM && done.used == 0 && one.holding_registers[2] == 0x1234 &&
+                                      output[0] == 0xA5 && output[MODBUS_LONGEST_REPLY - 1] == 0xA5);
+}
+
+/* The front of a stream: its status, detail, where the message ends, and the reply. */
+static void streams_by(const char *name, struct device *device, const char *input, uint32_t status, uint32_t detail, size_t used,
+                       const char *reply) {
+    size_t input_len, reply_len;
+    uint8_t *in = bytes_of(input, &input_len), *answer = bytes_of(reply, &reply_len);
+    uint8_t *output = malloc(MODBUS_LONGEST_REPLY), wanted[MODBUS_LONGEST_REPLY];
+    modbus_tables tables = tables_of(device);
+    modbus_served done;
+    memset(output, 0xA5, MODBUS_LONGEST_REPLY);
+    memset(wanted, 0xA5, sizeof wanted);
+    memcpy(wanted, answer, reply_len);
+    done = modbus_stream_serve(&tables, in, input_len, output, MODBUS_LONGEST_REPLY);
+    row(name, done.status == status && done.detail == detail && done.used == used && done.written == reply_len &&
+                  memcmp(output, wanted, sizeof wanted) == 0);
+    free(in);
+    free(answer);
+    free(output);
+}
+
+static void streams(void) {
+    struct device device = {0};
+    modbus_tables tables = tables_of(&device);
+    uint8_t output[MODBUS_LONGEST_REPLY] = {0};
+    modbus_served done;
+    device.holding_registers[2] = 0x1234;
+    streams_by("a request of a stream", &device, "0001 0000 0006 11 03 0002 0001 0002 0000", MODBUS_DONE, 0, 12,
+               "0001 0000 0005 11 03 02 1234");
+    streams_by("unit 0", &device, "0001 0000 0006 00 06 0003 0007", MODBUS_DONE, 0, 12, "0001 0000 0006 00 06 0003 0007");
+    streams_by("unit 255", &device, "0001 0000 0006 FF 03 0003 0001", MODBUS_DONE, 0, 12, "0001 0000 0005 FF 03 02 0007");
+    streams_by("a PDU that is too short", &device, "0001 0000 0003 01 03 00", MODBUS_DONE, 0, 9, "0001 0000 0003 01 83 03");
+    streams_by("a function that is not known over TCP", &device, "0001 0000 0002 01 41", MODBUS_DONE, 0, 8, "0001 0000 0003 01 C1 01");
+    streams_by("a PDU of no byte", &device, "0001 0000 0001 01", MODBUS_SILENT, 0, 7, "");
+    streams_by("the function code of an exception", &device, "0001 0000 0003 01 83 02", MODBUS_SILENT, 0, 9, "");
+    streams_by("three bytes of a GET", &device, "474554", MODBUS_WAITING, 0, 0, "");
+    streams_by("four bytes of a GET", &device, "47455420", MODBUS_FOREIGN, 0x5420, 0, "");
+    streams_by("a length of 254", &device, "0001 0000 00FE", MODBUS_WAITING, 0, 0, "");
+    streams_by("a length of 255", &device, "0001 0000 00FF", MODBUS_NO_LENGTH, 0, 0, "");
+    streams_by("a length of 0", &device, "0001 0000 0000", MODBUS_NO_LENGTH, 0, 0, "");
+    streams_by("five bytes of a header", &device, "0001 0000 FF", MODBUS_WAITING, 0, 0, "");
+    done = modbus_stream_serve(NULL, output, 12, output, sizeof output);
+    row("null tables", done.status == MODBUS_NULL);
+    done = modbus_stream_serve(&tables, output, 0, output, 259);
+    row("an output of 259 bytes over TCP", done.status == MODBUS_NO_ROOM);
+}
+
 int main(void) {
+    lines();
+    streams();
     serving();
     bad_lengths();
     coding();
