@@ -77,7 +77,9 @@ fn answer_servers<R: Wait + Sync>(rt: &R, text: &mut Text, call: &str, words: &[
 fn answer_program(text: &mut Text, call: &str, words: &[Word]) -> bool {
     match call {
         "store" | "exchange" | "entries" => store::answer(text, call, words),
-        "only_unit" | "units" | "port" | "files" => units::answer(text, call, words),
+        "only_unit" | "units" | "quiet_units" | "port" | "files" => units::answer(
+            text, call, words,
+        ),
         "point" | "items" | "spans" | "poll" | "poll_asked" | "poll_inputs" => {
             polls::answer(text, call, words)
         }

@@ -72,6 +72,21 @@ fn served_as_device(
     modbus_field::stream::process(alloc, source, sink, &mut device, turns)
 }
 
+/// A line of bursts at slave 1, which is silent to all others.
+fn served_in_bursts(
+    alloc: Global,
+    source: &mut MemorySource,
+    sink: &mut MemorySink,
+    service: &mut SameWords,
+    turns: u64,
+) -> Result<(), ProcessError> {
+    let mut unit = OnlyUnit {
+        unit: 1,
+        service: Forward(&mut *service),
+    };
+    modbus_field::burst::process(alloc, source, sink, &mut unit, turns)
+}
+
 fn served(
     text: &mut Text,
     framing: &str,
@@ -85,7 +100,7 @@ fn served(
         "rtu" => rtu_over_tcp::process(text.alloc, source, sink, service, turns),
         "tcp" => tcp::process(text.alloc, source, sink, service, turns),
         "ascii" => modbus_ascii::ascii::process(text.alloc, source, sink, service, turns),
-        "bursts" => modbus_field::burst::process(text.alloc, source, sink, service, turns),
+        "bursts" => served_in_bursts(text.alloc, source, sink, service, turns),
         "stream" => modbus_field::stream::process(text.alloc, source, sink, service, turns),
         "device" => served_as_device(text.alloc, source, sink, service, turns),
         _ => return false,

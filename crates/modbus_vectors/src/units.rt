@@ -5,6 +5,7 @@ use crate::text::Text;
 use crate::word::Word;
 use modbus_app::{Form, Mode, open};
 use modbus_diagnostics::Port;
+use modbus_field::burst::QuietUnits;
 use modbus_files::{Filed, Files};
 use modbus_frame::ExceptionCode;
 use modbus_service::{OnlyUnit, Units};
@@ -60,17 +61,24 @@ fn several(
     true
 }
 
+/// The answers of several units that are silent to any other address, or why they cannot share their line.
+fn quiet(text: &mut Text, addresses: &str, words: &[Word]) -> bool {
+    let Some(units) = units_of(text.alloc, Mode::Rtu, addresses) else {
+        return false;
+    };
+    match QuietUnits::new(units) {
+        Ok(mut units) => return ask_all(text, &mut units, words),
+        Err(error) => write!(text, "Err({error:?})"),
+    }
+    true
+}
+
 /// The answers of several units behind a port that counts and logs.
-fn behind_port(
-    text: &mut Text,
-    absent: Option<ExceptionCode>,
-    addresses: &str,
-    words: &[Word],
-) -> bool {
+fn behind_port(text: &mut Text, addresses: &str, words: &[Word]) -> bool {
     let Some(units) = units_of(text.alloc, Mode::Tcp, addresses) else {
         return false;
     };
-    match Port::new(text.alloc, units, absent) {
+    match Port::new(text.alloc, units) {
         Ok(mut port) => return ask_all(text, &mut port, words),
         Err(error) => write!(text, "Err({error:?})"),
     }
@@ -94,7 +102,8 @@ fn with_files(text: &mut Text, files: u16, records: u16, words: &[Word]) -> bool
 }
 
 /// `only_unit 5 5 0300010001`: a store at an address, and the requests on its line; `units 11 1,2 1 0300010001`: stores at several, with the
-/// exception for any other address or `-` for silence; `port - 1,2 1 0B`: the same behind a port;
+/// exception for any other address or `-` for silence; `quiet_units 1,2 1 0300010001`: the same, which are silent to any other;
+/// `port 1,2 1 0B`: the same behind a port;
 /// `files 2 10 1 1407..`: so many files of so many records.
 pub fn answer(text: &mut Text, call: &str, words: &[Word]) -> bool {
     match (call, words) {
@@ -103,10 +112,8 @@ pub fn answer(text: &mut Text, call: &str, words: &[Word]) -> bool {
             let absent = absent.byte().map(ExceptionCode::new);
             several(text, absent, addresses.text(), words)
         }
-        ("port", [absent, addresses, words @ ..]) => {
-            let absent = absent.byte().map(ExceptionCode::new);
-            behind_port(text, absent, addresses.text(), words)
-        }
+        ("port", [addresses, words @ ..]) => behind_port(text, addresses.text(), words),
+        ("quiet_units", [addresses, words @ ..]) => quiet(text, addresses.text(), words),
         ("files", [files, records, words @ ..]) => match (files.number(), records.number()) {
             (Some(files), Some(records)) => with_files(text, files, records, words),
             _ => false,
