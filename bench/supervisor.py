@@ -40,7 +40,8 @@ def device(number, port):
 def measure(path, every, count):
     """Prints what so many polls of each device take."""
     before, began = processor_seconds(), time.monotonic()
-    done = subprocess.run([PROGRAM, path, "--every", str(every), "--timeout", "5000", "--count", str(count)], capture_output=True, text=True, check=True)
+    words = ["--every", str(every), "--timeout", "5000", "--connections", str(DEVICES), "--count", str(count)]
+    done = subprocess.run([PROGRAM, path, *words], capture_output=True, text=True, check=True)
     took, used = time.monotonic() - began, processor_seconds() - before
     if "away" in done.stdout or len(done.stdout.splitlines()) != DEVICES:
         sys.exit(f"a device was away: {done.stdout[:200]}")
