@@ -173,6 +173,32 @@ static void calling(void) {
     }
 }
 
+/* A call with a PDU of its own, whose reply is as long as the longest PDU; and what it leaves owed on a line. */
+static void raw_calling(void) {
+    static const uint8_t asked[] = {0x41, 1, 2};
+    modbus_call *call = guarded(sizeof *call);
+    modbus_line *line = guarded(sizeof *line);
+    uint8_t reply[MODBUS_LONGEST_REPLY] = {0, 9, 0, 0, 0, 254, 1, 0x41};
+    modbus_done done = modbus_call_tcp_pdu(call, 9, 1, copy_of(asked, 3), 3, guarded(9), 9);
+    row("no room for a PDU", done.status == MODBUS_NO_ROOM);
+    done = modbus_call_tcp_pdu(call, 9, 1, copy_of(asked, 3), 3, guarded(10), 10);
+    row("begin a call of a PDU", done.status == MODBUS_DONE && done.written == 10);
+    row("feed it", modbus_call_feed(call, copy_of(reply, sizeof reply), sizeof reply) == sizeof reply);
+    row("no room for its reply", modbus_call_answer_pdu(call, guarded(252), 252).status == MODBUS_NO_ROOM);
+    done = modbus_call_answer_pdu(call, guarded(253), 253);
+    row("its reply", done.status == MODBUS_DONE && done.written == 253);
+    done = modbus_call_rtu_pdu(call, 1, copy_of(asked, 3), 3, guarded(6), 6);
+    row("begin one of a line", done.status == MODBUS_DONE && done.written == 6);
+    row("wait for it", modbus_call_answer_pdu(call, guarded(0), 0).status == MODBUS_WAITING);
+    modbus_line_open(line, 100);
+    modbus_line_silent(line, 100);
+    modbus_line_ended(line, call, MODBUS_WAITING);
+    row("it is owed", modbus_call_owes(call, MODBUS_WAITING) && modbus_line_wait(line) == 100);
+    modbus_line_heard(line);
+    modbus_line_told(line, 200);
+    row("a line", modbus_line_wait(line) == 200);
+}
+
 /* An inbox is fed more than it has room for, and answers a frame to each request. */
 static void inboxes(void) {
     struct device it = device();
@@ -228,6 +254,7 @@ int main(void) {
         serving();
         coding();
         calling();
+        raw_calling();
         inboxes();
         units();
     }

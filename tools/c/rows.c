@@ -478,6 +478,9 @@ static void nulls(void) {
                                       modbus_call_feed(&call, NULL, 0) == 0 && modbus_call_feed(&call, NULL, 3) == 0 &&
                                       modbus_call_answer(&call, &response, NULL, 0, NULL, 0).status == MODBUS_WAITING &&
                                       modbus_call_answer(&call, NULL, NULL, 0, NULL, 0).status == MODBUS_NULL);
+    row("null pointers of a call of a PDU", modbus_call_tcp_pdu(&call, 1, 1, NULL, 1, NULL, 0).status == MODBUS_NULL &&
+                                                modbus_call_rtu_pdu(NULL, 1, NULL, 0, NULL, 0).status == MODBUS_NULL &&
+                                                modbus_call_answer_pdu(&call, NULL, 1).status == MODBUS_NULL && modbus_line_wait(NULL) == 0);
 }
 
 /* The tables of a device. */
@@ -610,6 +613,214 @@ static void streams(void) {
     row("an output of 259 bytes over TCP", done.status == MODBUS_NO_ROOM);
 }
 
+/* The PDU of an answer of a call that is fed in pieces, in an array with no byte to spare. */
+static modbus_done pdu_of(modbus_call *call, const char *input, size_t piece, uint8_t *pdu, size_t pdu_len) {
+    size_t len;
+    uint8_t *bytes = bytes_of(input, &len);
+    modbus_done told = {MODBUS_WAITING, 0, 0};
+    for (size_t at = 0; at < len && told.status == MODBUS_WAITING; at += piece) {
+        size_t most = len - at < piece ? len - at : piece;
+        if (modbus_call_feed(call, bytes + at, most) != most) {
+            abort();
+        }
+        told = modbus_call_answer_pdu(call, pdu, pdu_len);
+    }
+    free(bytes);
+    return told;
+}
+
+/* A call with a PDU of its own over both framings: the message that is sent, and the PDU that is handed out of the message that comes. On a
+ * serial line a reply without a length of its own comes as a whole. */
+static void asks_by(const char *name, bool has_length, const char *pdu, const char *sum, const char *reply, const char *reply_sum) {
+    char wanted[600], came[600];
+    size_t len, wanted_len, reply_len;
+    uint8_t *asked = bytes_of(pdu, &len), *back = bytes_of(reply, &reply_len), output[MODBUS_LONGEST_REPLY], *handed = malloc(reply_len);
+    modbus_call call;
+    modbus_done told;
+    for (int tcp = 0; tcp < 2; tcp++) {
+        snprintf(wanted, sizeof wanted, tcp ? "0102 0000 %04X 11 %s" : "%.0u11 %s %s", tcp ? (unsigned)len + 1 : 0, pdu, sum);
+        snprintf(came, sizeof came, tcp ? "0102 0000 %04X 11 %s" : "%.0u11 %s %s", tcp ? (unsigned)reply_len + 1 : 0, reply, reply_sum);
+        uint8_t *sent = bytes_of(wanted, &wanted_len);
+        told = tcp ? modbus_call_tcp_pdu(&call, 258, 17, asked, len, output, wanted_len - 1)
+                   : modbus_call_rtu_pdu(&call, 17, asked, len, output, wanted_len - 1);
+        row(name, told.status == MODBUS_NO_ROOM && told.written == 0);
+        for (size_t piece = 1; piece < 300; piece += 7) {
+            told = tcp ? modbus_call_tcp_pdu(&call, 258, 17, asked, len, output, wanted_len)
+                       : modbus_call_rtu_pdu(&call, 17, asked, len, output, wanted_len);
+            row(name, told.status == MODBUS_DONE && told.written == wanted_len && memcmp(output, sent, wanted_len) == 0);
+            told = pdu_of(&call, came, tcp || has_length ? piece : 300, handed, reply_len - 1);
+            row(name, told.status == MODBUS_NO_ROOM && told.written == 0);
+            memset(handed, 0xA5, reply_len);
+            told = modbus_call_answer_pdu(&call, handed, reply_len);
+            row(name, told.status == MODBUS_DONE && told.written == reply_len && memcmp(handed, back, reply_len) == 0 && call.inbox.len == 0);
+        }
+        free(sent);
+    }
+    free(asked);
+    free(back);
+    free(handed);
+}
+
+/* The messages are those of AP 6.7 to 6.21, and one of a maker's function. */
+static void raw_calling(void) {
+    modbus_call call;
+    uint8_t pdu[MODBUS_LONGEST_PDU], output[MODBUS_LONGEST_REPLY], long_one[254] = {0x41};
+    modbus_done told;
+    asks_by("exception status", true, "07", "4C22", "07 6D", "E218");
+    asks_by("diagnostics", false, "08 0000 A537", "D81D", "08 0000 A537", "D81D");
+    asks_by("event counter", true, "0B", "4C27", "0B FFFF 0108", "A6E9");
+    asks_by("event log", true, "0C", "0DE5", "0C 08 0000 0108 0121 2000", "5901");
+    asks_by("server id", true, "11", "CDEC", "11 03 2A FF 07", "DEE7");
+    asks_by("file records read", false, "14 0E 06 0004 0001 0002 06 0003 0009 0002", "F938", "14 0C 05 06 0DFE 0020 05 06 33CD 0040", "69AD");
+    asks_by("a file record written", false, "15 0D 06 0004 0007 0003 06AF 04BE 100D", "DBC7", "15 0D 06 0004 0007 0003 06AF 04BE 100D", "DBC7");
+    asks_by("device identification", true, "2B 0E 01 00", "B1B4", "2B 0E 01 01 00 00 01 02 05 56322E3131", "4589");
+    asks_by("a maker's function", false, "41 010203", "DC9E", "41 0405", "97CF");
+
+    told = modbus_call_tcp_pdu(&call, 258, 17, pdu, 0, output, sizeof output);
+    row("no PDU", told.status == MODBUS_REFUSED && told.detail == MODBUS_UNEXPECTED_END && told.written == 0);
+    told = modbus_call_rtu_pdu(&call, 17, (const uint8_t *)"\x83\x02", 2, output, sizeof output);
+    row("a PDU of an exception", told.status == MODBUS_REFUSED && told.detail == MODBUS_INVALID_FUNCTION && told.written == 0);
+    told = modbus_call_tcp_pdu(&call, 258, 17, long_one, sizeof long_one, output, sizeof output);
+    row("a PDU of 254 bytes", told.status == MODBUS_TOO_LONG && told.written == 0);
+    told = modbus_call_tcp_pdu(&call, 258, 17, long_one, 253, output, sizeof output);
+    row("a PDU of 253 bytes", told.status == MODBUS_DONE && told.written == 260);
+    told = pdu_of(&call, "0102 0000 0003 11 C1 02", 1, pdu, sizeof pdu);
+    row("an exception as its PDU", told.status == MODBUS_EXCEPTION && told.detail == 2 && told.written == 2 && pdu[0] == 0xC1 && pdu[1] == 2);
+    told = pdu_of(&call, "0102 0000 0003 11 42 02", 99, pdu, sizeof pdu);
+    row("a PDU of another function", told.status == MODBUS_FUNCTION_MISMATCH && told.detail == 0x42 && told.written == 0 && pdu[0] == 0xC1);
+    told = pdu_of(&call, "0102 0000 0003 11 C2 02", 99, pdu, sizeof pdu);
+    row("an exception of another function", told.status == MODBUS_FUNCTION_MISMATCH && told.detail == 0x42);
+    told = pdu_of(&call, "0102 0000 0001 11", 99, pdu, sizeof pdu);
+    row("a reply of no PDU", told.status == MODBUS_REFUSED && told.detail == MODBUS_UNEXPECTED_END);
+    told = pdu_of(&call, "0102 0000 0002 11 C1", 99, pdu, sizeof pdu);
+    row("an exception of no code", told.status == MODBUS_REFUSED && told.detail == MODBUS_UNEXPECTED_END);
+    told = pdu_of(&call, "0102 0000 0004 11 C1 02 02", 99, pdu, sizeof pdu);
+    row("an exception of two codes", told.status == MODBUS_REFUSED && told.detail == MODBUS_UNDECODED_DATA && call.inbox.len == 0);
+    told = pdu_of(&call, "0103 0000 0003 11 41 01 0102 0000 0003 12 41 01 0102 0000 0003 11 41 02", 99, pdu, sizeof pdu);
+    row("behind others", told.status == MODBUS_DONE && told.written == 2 && pdu[1] == 2);
+    modbus_call_rtu_pdu(&call, 17, (const uint8_t *)"\x07", 1, output, sizeof output);
+    told = pdu_of(&call, "12 07 6D 1218", 99, pdu, sizeof pdu);
+    row("a PDU of another slave", told.status == MODBUS_HEADER_MISMATCH && told.detail == 18);
+    told = pdu_of(&call, "11 03 02 0001 B847", 99, pdu, sizeof pdu);
+    row("a frame of another function", told.status == MODBUS_FUNCTION_MISMATCH && told.detail == 3);
+    told = pdu_of(&call, "11 91 01 8D95", 99, pdu, sizeof pdu);
+    row("a frame of another exception", told.status == MODBUS_FUNCTION_MISMATCH && told.detail == 0x11);
+}
+
+/* A line with one slave on it, in milliseconds: it works off what it is asked, one request after another, and one of them slowly. */
+enum { CALLS = 200, SLOW = 20, WORK_MS = 10, SLOW_MS = 150, TIMEOUT_MS = 100, QUIET_MS = 100 };
+
+struct simulation {
+    unsigned now, busy_until, asked, first, count;
+    struct device device;
+    struct {
+        unsigned at;
+        size_t len;
+        uint8_t bytes[16];
+    } replies[CALLS];
+};
+
+static void sends(struct simulation *it, const uint8_t *frame, size_t len) {
+    modbus_unit unit = {17, tables_of(&it->device)};
+    uint8_t output[MODBUS_LONGEST_REPLY];
+    modbus_served served = modbus_line_serve(&unit, 1, frame, len, output, sizeof output);
+    it->busy_until = (it->now > it->busy_until ? it->now : it->busy_until) + (it->asked++ == SLOW ? SLOW_MS : WORK_MS);
+    it->replies[it->count].at = it->busy_until;
+    it->replies[it->count].len = served.written;
+    memcpy(it->replies[it->count++].bytes, output, served.written);
+}
+
+/* Waits for bytes, at most until then. How many came. */
+static size_t receives(struct simulation *it, unsigned until, uint8_t *bytes) {
+    if (it->first == it->count || it->replies[it->first].at > until) {
+        it->now = until;
+        return 0;
+    }
+    it->now = it->replies[it->first].at > it->now ? it->replies[it->first].at : it->now;
+    memcpy(bytes, it->replies[it->first].bytes, it->replies[it->first].len);
+    return it->replies[it->first++].len;
+}
+
+/* Reads a register in each call; how many calls got a wrong one, and in `lost` how many got none. */
+static unsigned wrong_answers(bool is_settled, unsigned *lost) {
+    static struct simulation it;
+    modbus_line line;
+    unsigned wrong = 0;
+    memset(&it, 0, sizeof it);
+    for (uint16_t i = 0; i < ENTRIES; i++) {
+        it.device.holding_registers[i] = (uint16_t)(1000 + i);
+    }
+    *lost = 0;
+    modbus_line_open(&line, QUIET_MS);
+    for (unsigned i = 0; i < CALLS; i++) {
+        const modbus_request request = {.function = 3, .address = (uint16_t)(i % ENTRIES), .quantity = 1};
+        uint8_t frame[MODBUS_LONGEST_REPLY], piece[16];
+        uint32_t status = MODBUS_WAITING, wait;
+        uint16_t word = 0;
+        bool coil;
+        modbus_call call;
+        modbus_response response;
+        while (is_settled && (wait = modbus_line_wait(&line)) > 0) {
+            unsigned before = it.now;
+            if (receives(&it, it.now + wait, piece)) {
+                modbus_line_heard(&line);
+            } else {
+                modbus_line_silent(&line, it.now - before);
+            }
+        }
+        modbus_done made = modbus_call_rtu(&call, 17, &request, &word, 0, &coil, 0, frame, sizeof frame);
+        sends(&it, frame, made.written);
+        for (unsigned end = it.now + TIMEOUT_MS; status == MODBUS_WAITING && it.now < end;) {
+            size_t got = receives(&it, end, piece);
+            modbus_call_feed(&call, piece, got);
+            status = modbus_call_answer(&call, &response, &word, 1, &coil, 1).status;
+        }
+        row("a call owes where it was given up", modbus_call_owes(&call, status) == (status != MODBUS_DONE));
+        modbus_line_ended(&line, &call, status);
+        *lost += status != MODBUS_DONE;
+        wrong += status == MODBUS_DONE && word != 1000 + i % ENTRIES;
+    }
+    return wrong;
+}
+
+static void late_replies(void) {
+    unsigned lost, wrong = wrong_answers(false, &lost);
+    row("one late reply makes each later answer wrong that is not waited for", wrong == CALLS - SLOW - 1);
+    wrong = wrong_answers(true, &lost);
+    row("and none on a line that falls silent before", wrong == 0 && lost == 1);
+
+    modbus_line line;
+    modbus_call call;
+    uint8_t output[MODBUS_LONGEST_REPLY], pdu[8];
+    modbus_line_open(&line, 100);
+    row("a line at first", modbus_line_wait(&line) == 100);
+    modbus_line_silent(&line, 60);
+    row("a silence", modbus_line_wait(&line) == 40);
+    modbus_line_heard(&line);
+    modbus_line_silent(&line, 99);
+    row("bytes without a call", modbus_line_wait(&line) == 1);
+    modbus_line_silent(&line, UINT32_MAX);
+    row("a long silence", modbus_line_wait(&line) == 0);
+    modbus_line_told(&line, 150);
+    row("a turnaround delay", modbus_line_wait(&line) == 150);
+    modbus_line_silent(&line, 150);
+    modbus_call_rtu_pdu(&call, 17, (const uint8_t *)"\x07", 1, output, sizeof output);
+    row("a reply with a byte behind it is owed", pdu_of(&call, "11 07 6D E218 11", 99, pdu, sizeof pdu).status == MODBUS_DONE &&
+                                                     modbus_call_owes(&call, MODBUS_DONE));
+    modbus_line_ended(&line, &call, MODBUS_DONE);
+    row("so the line is to fall silent", modbus_line_wait(&line) == 100);
+    modbus_line_silent(&line, 100);
+    modbus_call_rtu_pdu(&call, 17, (const uint8_t *)"\x07", 1, output, sizeof output);
+    row("an exception is a reply", pdu_of(&call, "11 87 01 83F5", 99, pdu, sizeof pdu).status == MODBUS_EXCEPTION &&
+                                       !modbus_call_owes(&call, MODBUS_EXCEPTION) && modbus_call_owes(&call, MODBUS_FUNCTION_MISMATCH));
+    modbus_line_ended(&line, &call, MODBUS_EXCEPTION);
+    row("and the line is free", modbus_line_wait(&line) == 0);
+    modbus_call_rtu_pdu(&call, 0, (const uint8_t *)"\x07", 1, output, sizeof output);
+    row("slave 0 owes nothing", !modbus_call_owes(&call, MODBUS_WAITING));
+    modbus_call_tcp_pdu(&call, 1, 17, (const uint8_t *)"\x07", 1, output, sizeof output);
+    row("nor does a unit over TCP", !modbus_call_owes(&call, MODBUS_WAITING));
+}
+
 int main(void) {
     lines();
     streams();
@@ -620,6 +831,8 @@ int main(void) {
     inbox();
     calling();
     fitting();
+    raw_calling();
+    late_replies();
     texts();
     nulls();
     printf("%d passed, %d failed\n", passed, failed);

@@ -61,7 +61,8 @@ enum modbus_status {
     MODBUS_FUNCTION_MISMATCH = 12, /* the reply is of another function than was asked */
     MODBUS_FULL = 13, /* no whole message, and no room for more bytes: give the call up, and close the connection */
     MODBUS_NULL = 14, /* a pointer is null where there has to be something: nothing was done */
-    MODBUS_MISMATCH = 15 /* the reply is of the slave and the function that were asked, and does not fit the request */
+    MODBUS_MISMATCH = 15, /* the reply is of the slave and the function that were asked, and does not fit the request */
+    MODBUS_EXCEPTION = 16 /* the reply is an exception of the code `detail` (modbus_call_answer_pdu; AP 7) */
 };
 
 /* Why a PDU is refused: `detail` beside MODBUS_REFUSED. Where several hold, the first that stands in the PDU is told. */
@@ -144,6 +145,8 @@ static inline const char *modbus_status_text(uint32_t status) {
         return "a null pointer";
     case MODBUS_MISMATCH:
         return "a reply that does not fit the request";
+    case MODBUS_EXCEPTION:
+        return "an exception";
     default:
         return "no status of this library";
     }
@@ -277,6 +280,13 @@ typedef struct {
     modbus_request request;
     modbus_inbox inbox;
 } modbus_call;
+
+/* A serial line of a client: for how long it has to be silent before the next request where a reply may still come, and for how long yet. Its
+ * fields are the library's. Times are in one unit of the caller's, as microseconds. */
+typedef struct {
+    uint32_t quiet;
+    uint32_t left;
+} modbus_line;
 
 /* The checksum of bytes, which a frame carries with its low byte first (SL 6.2.2). */
 uint16_t modbus_crc(const uint8_t *bytes, size_t bytes_len);
@@ -413,6 +423,53 @@ size_t modbus_call_feed(modbus_call *call, const uint8_t *piece, size_t piece_le
  * MODBUS_NO_MEMORY: so the call can be asked again, to go on behind a mismatch, or with longer lists. */
 modbus_done modbus_call_answer(modbus_call *call, modbus_response *response, uint16_t *words, size_t words_len, bool *coils,
                                size_t coils_len);
+
+/* Begins a call with a PDU of the caller's, so of any function: 07, 08, 0B, 0C, 11, 14, 15, 2B and those of a maker. Its ADU or frame goes to
+ * the front of the output, to be sent, and `call` keeps what the reply has to be of. Bytes that it held are dropped.
+ * MODBUS_DONE; MODBUS_REFUSED: the PDU is empty, or its function code is above 127; MODBUS_TOO_LONG: it has more than 253 bytes;
+ * MODBUS_NO_ROOM. Where it is not done nothing is written, and `written` is 0. */
+modbus_done modbus_call_tcp_pdu(modbus_call *call, uint16_t transaction_id, uint8_t unit_id, const uint8_t *pdu, size_t pdu_len,
+                                uint8_t *output, size_t output_len);
+modbus_done modbus_call_rtu_pdu(modbus_call *call, uint8_t slave, const uint8_t *pdu, size_t pdu_len, uint8_t *output, size_t output_len);
+
+/* The PDU of the answer of a call, as far as bytes were fed: it goes to the front of `pdu`. It is one of the function that was asked, and that
+ * alone is judged of it. A call that was begun by a struct may be asked so too.
+ * MODBUS_DONE: the PDU has `written` bytes; MODBUS_EXCEPTION: it is an exception of the code `detail`, and is written too; MODBUS_REFUSED:
+ * it is empty, or an exception without a code or with more bytes; MODBUS_NO_ROOM: it is longer than `pdu`; MODBUS_WAITING, MODBUS_FULL,
+ * MODBUS_HEADER_MISMATCH, MODBUS_FUNCTION_MISMATCH, MODBUS_CROWD, MODBUS_NO_LENGTH and MODBUS_FOREIGN as modbus_call_answer tells them.
+ * Where it is neither done nor an exception nothing is written, and `written` is 0. What was looked at is taken off what is held, but for
+ * MODBUS_NO_ROOM.
+ * On a serial line the frame of a function without a length of its own (08, 14, 15, another MEI type of 2B, a maker's) is all that is held,
+ * where its checksum is right: so feed all of it, until the line has fallen silent, and only then ask. */
+modbus_done modbus_call_answer_pdu(modbus_call *call, uint8_t *pdu, size_t pdu_len);
+
+/* On a serial line a late reply can't be told from the next one. So a client keeps a modbus_line beside its port, and sends a request only where
+ * modbus_line_wait tells 0: until then it reads what comes, drops it and tells that by modbus_line_heard, and tells each time without a byte
+ * by modbus_line_silent. It looks once more before it sends, and tells by modbus_line_heard what had come.
+ *
+ * A line that has to be silent for `quiet` where a reply may still come, and so at first. `quiet` and the timeout of a call together are to be
+ * longer than a slave ever takes. */
+void modbus_line_open(modbus_line *line, uint32_t quiet);
+
+/* Bytes came for no call: the line has to be silent for `quiet` from now on. */
+void modbus_line_heard(modbus_line *line);
+
+/* No byte came for so long. */
+void modbus_line_silent(modbus_line *line, uint32_t time);
+
+/* For how long the line has to be silent yet; 0: a request may be sent. */
+uint32_t modbus_line_wait(const modbus_line *line);
+
+/* Whether the reply of a call may still come where the call ends: on a serial line it was not taken, or bytes lie behind it. `status` is what its
+ * answer told last, and MODBUS_WAITING where the call is given up. Nothing is owed where MODBUS_DONE, MODBUS_EXCEPTION or MODBUS_UNTOLD was told
+ * with no byte behind it, nor by slave 0, nor over Modbus TCP, where the transaction tells a late reply. */
+bool modbus_call_owes(const modbus_call *call, uint32_t status);
+
+/* A call ended with this status: where its reply may still come, the line has to be silent for `quiet` from now on. */
+void modbus_line_ended(modbus_line *line, const modbus_call *call, uint32_t status);
+
+/* All slaves were told something: no request before the turnaround delay is over (SL 2.4.1), typically 100 to 200 milliseconds. */
+void modbus_line_told(modbus_line *line, uint32_t turnaround);
 
 /*
  * What the library wants of the program, beside memcpy, memmove and memset: three functions that give memory, take it back, and make it
@@ -708,6 +765,73 @@ static inline modbus_done modbus_checked_call_answer(modbus_call *call, modbus_r
     return modbus_call_answer(call, response, words ? words : &none.word, words_len, coils ? coils : &none.coil, coils_len);
 }
 
+static inline modbus_done modbus_checked_call_tcp_pdu(modbus_call *call, uint16_t transaction_id, uint8_t unit_id, const uint8_t *pdu,
+                                                      size_t pdu_len, uint8_t *output, size_t output_len) {
+    modbus_none none = {0, false, 0};
+    const modbus_done refused = {MODBUS_NULL, 0, 0};
+    if (!call || (!pdu && pdu_len) || (!output && output_len)) {
+        return refused;
+    }
+    return modbus_call_tcp_pdu(call, transaction_id, unit_id, pdu ? pdu : &none.byte, pdu_len, output ? output : &none.byte, output_len);
+}
+
+static inline modbus_done modbus_checked_call_rtu_pdu(modbus_call *call, uint8_t slave, const uint8_t *pdu, size_t pdu_len, uint8_t *output,
+                                                      size_t output_len) {
+    modbus_none none = {0, false, 0};
+    const modbus_done refused = {MODBUS_NULL, 0, 0};
+    if (!call || (!pdu && pdu_len) || (!output && output_len)) {
+        return refused;
+    }
+    return modbus_call_rtu_pdu(call, slave, pdu ? pdu : &none.byte, pdu_len, output ? output : &none.byte, output_len);
+}
+
+static inline modbus_done modbus_checked_call_answer_pdu(modbus_call *call, uint8_t *pdu, size_t pdu_len) {
+    modbus_none none = {0, false, 0};
+    const modbus_done refused = {MODBUS_NULL, 0, 0};
+    if (!call || (!pdu && pdu_len)) {
+        return refused;
+    }
+    return modbus_call_answer_pdu(call, pdu ? pdu : &none.byte, pdu_len);
+}
+
+static inline void modbus_checked_line_open(modbus_line *line, uint32_t quiet) {
+    if (line) {
+        modbus_line_open(line, quiet);
+    }
+}
+
+static inline void modbus_checked_line_heard(modbus_line *line) {
+    if (line) {
+        modbus_line_heard(line);
+    }
+}
+
+static inline void modbus_checked_line_silent(modbus_line *line, uint32_t time) {
+    if (line) {
+        modbus_line_silent(line, time);
+    }
+}
+
+static inline uint32_t modbus_checked_line_wait(const modbus_line *line) {
+    return line ? modbus_line_wait(line) : 0;
+}
+
+static inline bool modbus_checked_call_owes(const modbus_call *call, uint32_t status) {
+    return call && modbus_call_owes(call, status);
+}
+
+static inline void modbus_checked_line_ended(modbus_line *line, const modbus_call *call, uint32_t status) {
+    if (line && call) {
+        modbus_line_ended(line, call, status);
+    }
+}
+
+static inline void modbus_checked_line_told(modbus_line *line, uint32_t turnaround) {
+    if (line) {
+        modbus_line_told(line, turnaround);
+    }
+}
+
 #define modbus_crc modbus_checked_crc
 #define modbus_rtu_find_request modbus_checked_rtu_find_request
 #define modbus_rtu_find_response modbus_checked_rtu_find_response
@@ -730,6 +854,16 @@ static inline modbus_done modbus_checked_call_answer(modbus_call *call, modbus_r
 #define modbus_call_rtu modbus_checked_call_rtu
 #define modbus_call_feed modbus_checked_call_feed
 #define modbus_call_answer modbus_checked_call_answer
+#define modbus_call_tcp_pdu modbus_checked_call_tcp_pdu
+#define modbus_call_rtu_pdu modbus_checked_call_rtu_pdu
+#define modbus_call_answer_pdu modbus_checked_call_answer_pdu
+#define modbus_line_open modbus_checked_line_open
+#define modbus_line_heard modbus_checked_line_heard
+#define modbus_line_silent modbus_checked_line_silent
+#define modbus_line_wait modbus_checked_line_wait
+#define modbus_call_owes modbus_checked_call_owes
+#define modbus_line_ended modbus_checked_line_ended
+#define modbus_line_told modbus_checked_line_told
 
 #endif
 

@@ -13,3 +13,5 @@ pub mod Texts
 pub mod Units
 pub mod Line
 pub mod Pieces
+pub mod Raw
+pub mod Settled

@@ -2,7 +2,7 @@
 use Rattle.std.specs.Prelude.{◌≡◌, ◌⊎◌, ℕ}
 use Rattle.modbus_frame.specs.declared.fault.Reason.{Reason}
 use Rattle.modbus_frame.specs.declared.fault.Reason.TheVariants as reason
-use Rattle.modbus_c.specs.declared.status.TheConstants.{MODBUS_DONE, MODBUS_REFUSED, MODBUS_NO_MEMORY, MODBUS_NO_ROOM, MODBUS_UNTOLD, MODBUS_TOO_LONG, MODBUS_WAITING, MODBUS_NO_LENGTH, MODBUS_FOREIGN, MODBUS_CROWD, MODBUS_HEADER_MISMATCH, MODBUS_FUNCTION_MISMATCH, MODBUS_FULL, MODBUS_MISMATCH}
+use Rattle.modbus_c.specs.declared.status.TheConstants.{MODBUS_DONE, MODBUS_REFUSED, MODBUS_NO_MEMORY, MODBUS_NO_ROOM, MODBUS_UNTOLD, MODBUS_TOO_LONG, MODBUS_WAITING, MODBUS_NO_LENGTH, MODBUS_FOREIGN, MODBUS_CROWD, MODBUS_HEADER_MISMATCH, MODBUS_FUNCTION_MISMATCH, MODBUS_FULL, MODBUS_MISMATCH, MODBUS_EXCEPTION}
 
 abbrev pub reason_number : Reason → ℕ
 reason_number reason.UnexpectedEnd = 1
@@ -36,3 +36,10 @@ IsTelling s = (s ≡ MODBUS_DONE) ⊎ (s ≡ MODBUS_HEADER_MISMATCH) ⊎ (s ≡ 
 abbrev pub IsAnswering : ℕ → Type 0
 IsAnswering s = IsTelling s ⊎ (s ≡ MODBUS_REFUSED) ⊎ (s ≡ MODBUS_NO_MEMORY) ⊎ (s ≡ MODBUS_WAITING) ⊎ (s ≡ MODBUS_FULL)
     ⊎ (s ≡ MODBUS_CROWD) ⊎ (s ≡ MODBUS_NO_LENGTH) ⊎ (s ≡ MODBUS_FOREIGN)
+
+-- the same where the reply is handed out as its PDU
+abbrev pub IsTellingRaw : ℕ → Type 0
+IsTellingRaw s = (s ≡ MODBUS_DONE) ⊎ (s ≡ MODBUS_EXCEPTION) ⊎ (s ≡ MODBUS_HEADER_MISMATCH) ⊎ (s ≡ MODBUS_FUNCTION_MISMATCH) ⊎ (s ≡ MODBUS_REFUSED) ⊎ (s ≡ MODBUS_NO_ROOM)
+
+abbrev pub IsAnsweringRaw : ℕ → Type 0
+IsAnsweringRaw s = IsTellingRaw s ⊎ (s ≡ MODBUS_WAITING) ⊎ (s ≡ MODBUS_FULL) ⊎ (s ≡ MODBUS_CROWD) ⊎ (s ≡ MODBUS_NO_LENGTH) ⊎ (s ≡ MODBUS_FOREIGN)

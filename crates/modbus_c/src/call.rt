@@ -47,7 +47,7 @@ pub struct ModbusCall {
 }
 
 /// What is compared of the header of the request.
-fn asked_by(call: &ModbusCall) -> HeaderSeen
+pub(crate) fn asked_by(call: &ModbusCall) -> HeaderSeen
     ensures { result ≡ header_of call.now }
 {
     HeaderSeen {

@@ -38,7 +38,7 @@ pub struct ModbusRequest {
 }
 
 /// A request of a function, with no field that tells anything.
-fn blank(function: u8) -> ModbusRequest
+pub(crate) fn blank(function: u8) -> ModbusRequest
     ensures { result ≡ blank_of function }
 {
     ModbusRequest {

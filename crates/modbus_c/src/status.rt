@@ -50,6 +50,9 @@ pub const MODBUS_FULL: u32 = 13;
 /// The reply is of the slave and the function that were asked, and does not fit the request.
 pub const MODBUS_MISMATCH: u32 = 15;
 
+/// The reply is an exception, of the code `detail`.
+pub const MODBUS_EXCEPTION: u32 = 16;
+
 /// The number of a reason.
 pub(crate) fn number_of(reason: Reason) -> u32
     ensures { result ≡ reason_number reason }
