@@ -6,7 +6,9 @@ pub mod Going
 pub mod Holding
 pub mod Behind
 pub mod OpenFrames
+pub mod Pairs
 pub mod Scanning
+pub mod Running
 pub mod Buffering
 pub mod Alone
 pub mod Asking

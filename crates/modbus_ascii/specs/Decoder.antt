@@ -61,3 +61,9 @@ ended false reading = []
 abbrev pub given_frames : Option AsciiFrame → List SlavePdu
 given_frames None = []
 given_frames (Some frame) = message frame.slave frame.pdu.items ∷ []
+
+-- two digits follow a text that is open
+pub record FollowOpen (fed : List ℕ) (high low : ℕ) : Type 0 where
+  pub digits : (is_hex_digit high ≡ true) × (is_hex_digit low ≡ true)
+  pub «open» : open_end fed ≢ []
+  pub grows : open_end (fed ++ high ∷ low ∷ []) ≡ open_end fed ++ high ∷ low ∷ []

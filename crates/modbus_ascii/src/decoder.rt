@@ -5,7 +5,7 @@ ghost use Rattle.modbus_ascii.specs.Limits.{colon, carriage_return, line_feed};
 ghost use Rattle.modbus_pdu.specs.Limits.{max_pdu};
 ghost use Rattle.modbus_ascii.specs.Text.{open_end};
 ghost use Rattle.modbus_ascii.specs.Frames.{is_hex_digit, digit_value, slave_and_pdu, frames};
-ghost use Rattle.modbus_ascii.specs.Decoder.{DecodesText, IsRoomy, ended, given_frames, made_frame};
+ghost use Rattle.modbus_ascii.specs.Decoder.{DecodesText, FollowOpen, IsRoomy, ended, given_frames, made_frame};
 
 use crate::digit::value_of_digit;
 use crate::limits::{MAX_BODY, OVERHEAD};
@@ -120,6 +120,34 @@ impl AsciiDecoder {
                     self.half = Some(value);
                 }
             }
+        }
+    }
+
+    /// Takes two digits that make a byte of a text, where all before them make bytes and a frame has room for one more: whether it did.
+    #[inline(always)]
+    pub(crate) fn take_pair(&mut self, high: u8, low: u8) -> bool
+        ensures left { result ≡ false → self.new ≡ self.old }
+        ensures reads { result ≡ true → (fed : List ℕ) → DecodesText fed self.old
+            → DecodesText (fed ++ high ∷ low ∷ []) self.new }
+        ensures follows { result ≡ true → (fed : List ℕ) → DecodesText fed self.old
+            → FollowOpen fed high low }
+    {
+        if self.bytes.is_full() {
+            return false;
+        }
+        match (
+            self.phase,
+            self.half,
+            value_of_digit(high),
+            value_of_digit(low),
+        ) {
+            (Phase::Digits, None, Some(sixteens), Some(ones)) => {
+                let byte = 16 * sixteens + ones;
+                self.bytes.push(byte);
+                self.total = self.total.wrapping_add(byte);
+                true
+            }
+            _ => false,
         }
     }
 

@@ -1,29 +1,19 @@
-use Rattle.std.proofs.Common.{◌++◌, ◌∙◌, take, ap, sym, subst, arith}
-use Rattle.std.specs.Prelude.{List, ℕ}
-use Rattle.modbus_ascii.specs.Stands.{after_last_end}
-use Rattle.modbus_ascii.specs.Scan.{HasSeen}
-use Rattle.modbus_ascii.proofs.Scanning.{held-below, held-all, seen-more}
+use Rattle.std.proofs.Common.{◌++◌, ◌∙◌, [], length, ap, sym, refl, arith, length-append, append-nil}
+use Rattle.modbus_ascii.specs.Scan.{IsPartOf}
 use Rattle.modbus_ascii.proofs.scan.Scan.run.Goals as goal
 
-pub take-requires-clause-room : goal.take-requires-clause-room
-take-requires-clause-room c =
-    let below = held-below c.args.held.now.items c.loop-self.self.fed c.in-Some.byte.now c.in-Some.ensures in
-    omega (arith, below, c.len-len.ensures.len, c.len-len.ensures.within)
+pub returns-clause-scans : goal.returns-clause-scans
+returns-clause-scans c =
+    let items = c.args.held.now.items in
+    let front = c.as_slices.result.0.now in
+    let back = c.as_slices.result.1.now in
+    let first : IsPartOf items front 0 = record { before = []; after = back; is = sym c.as_slices.ensures; start_is = refl } in
+    let second : IsPartOf items back (length front) =
+    record { before = front; after = []; is = sym c.as_slices.ensures ∙ ap (λ b. front ++ b) (sym (append-nil back)); start_is = refl } in
+    c.run_part-2.ensures.scans items second (c.run_part.ensures.scans items first c.requires)
 
-pub loop-self-smaller : goal.loop-self-smaller
-loop-self-smaller c =
-    let below = held-below c.args.held.now.items c.loop-self.self.fed c.in-Some.byte.now c.in-Some.ensures in
-    omega (arith, below, c.take.ensures.fed)
-
-pub loop-self-preserved : goal.loop-self-preserved
-loop-self-preserved c =
-    let below = held-below c.args.held.now.items c.loop-self.self.fed c.in-Some.byte.now c.in-Some.ensures in
-    let more = seen-more (after_last_end c.args.held.now.items) c.args.held.now.items c.loop-self.self.fed c.in-Some.byte.now c.in-Some.ensures in
-    let same = ap (λ n. after_last_end c.args.held.now.items ++ take n c.args.held.now.items) c.take.ensures.fed ∙ more in
-    let P : List ℕ → Type 0 = λ seen. HasSeen seen c.take.new.self in
-    (omega (arith, below, c.take.ensures.fed), subst P (sym same) (c.take.ensures.seen (after_last_end c.args.held.now.items ++ take c.loop-self.self.fed c.args.held.now.items) c.loop-self.invariant.1))
-
-pub returns-in-None-clause-all : goal.returns-in-None-clause-all
-returns-in-None-clause-all c = λ e.
-    let all = held-all c.args.held.now.items c.loop-self.self.fed c.in-None.ensures in
-    omega (arith, all, c.loop-self.invariant.0)
+pub returns-clause-all : goal.returns-clause-all
+returns-clause-all c = λ none.
+    let scans = returns-clause-scans c in
+    let size = ap length c.as_slices.ensures in
+    omega (arith, c.run_part-2.ensures.all none, scans.0, size, length-append c.as_slices.result.0.now c.as_slices.result.1.now)
