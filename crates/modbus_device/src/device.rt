@@ -2,7 +2,7 @@
 ghost use Rattle.std.specs.Prelude.{◌≡◌, IfOk, IfErr};
 ghost use Rattle.modbus_field.specs.LineAnswers.{addresses_of};
 ghost use Rattle.modbus_files.specs.Files.{files_at_start};
-ghost use Rattle.modbus_device.specs.Held.{HasFiles};
+ghost use Rattle.modbus_device.specs.Held.{HasFiles, rules_by};
 
 use crate::files::FileSizes;
 use crate::setting::Setting;
@@ -13,6 +13,7 @@ use modbus_field::standard::StandardAnswers;
 use modbus_field::stream::{DefaultUnit, NON_SIGNIFICANT, ReservedCodes};
 use modbus_files::{Filed, Files, MaybeFiled};
 use modbus_frame::{ExceptionCode, SlaveId};
+use modbus_rules::{Restricted, Rules};
 use modbus_service::{OnlyUnit, Units, UnitsError};
 use modbus_store::{RegisterStore, Sizes, StoreError};
 use std::alloc::{AllocFailed, Global};
@@ -20,8 +21,9 @@ use std::alloc::{AllocFailed, Global};
 /// What a unit holds: four tables, and files where it has any.
 type Held = MaybeFiled<RegisterStore>;
 
-/// A unit: what it holds, and what the device says of itself. It answers as the standard wants where a request can't be read.
-type Unit = StandardAnswers<Identified<Held>>;
+/// A unit: what it holds, behind the rules of what masters may do, and what the device says of itself. It answers as the standard wants where a
+/// request can't be read.
+type Unit = StandardAnswers<Identified<Restricted<'static, Held>>>;
 
 /// The units behind a port of Modbus TCP, one of which is the device itself. What has a function code that no request has is answered too.
 pub type Device = ReservedCodes<DefaultUnit<Units<Unit>>>;
@@ -109,6 +111,8 @@ pub struct Plan<'w> {
     pub settings: &'w [Setting],
     /// The files of records that each unit has, where it has any.
     pub files: Option<FileSizes>,
+    /// Whether masters may write nothing.
+    pub is_read_only: bool,
     /// What the device says of itself.
     pub texts: Texts<'w>,
 }
@@ -215,15 +219,31 @@ fn open_held(alloc: Global, plan: &Plan<'_>, address: SlaveId) -> Result<Held, O
     }
 }
 
+/// What masters may do.
+fn rules_of(is_read_only: bool) -> Rules<'static>
+    ensures { result ≡ rules_by is_read_only }
+{
+    if is_read_only {
+        Rules::read_only()
+    } else {
+        Rules::none()
+    }
+}
+
 /// The unit of the device at this address.
 fn open_unit(alloc: Global, plan: &Plan<'_>, address: SlaveId) -> Result<Unit, OpenError>
-    ensures { IfOk result (λ unit. HasFiles plan.now.files unit.service.service) }
+    ensures files { IfOk result (λ unit. HasFiles plan.now.files unit.service.service.service) }
+    ensures rules { IfOk result (λ unit. unit.service.service.rules
+        ≡ rules_by plan.now.is_read_only) }
 {
     let held = open_held(alloc, plan, address)?;
     Ok(StandardAnswers {
         service: Identified {
             identity: identity_of(alloc, &plan.texts)?,
-            service: held,
+            service: Restricted {
+                rules: rules_of(plan.is_read_only),
+                service: held,
+            },
         },
     })
 }

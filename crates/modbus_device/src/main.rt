@@ -21,6 +21,8 @@ use device::{Device, LineDevice, OpenError, Plan, open, open_line};
 use line::OpenLine;
 use mio::net::TcpListener;
 use modbus_command::{FAILED, fill_closed_streams, say, words_of};
+use modbus_link::WriteSink;
+use modbus_rule_words::PeerWords;
 use modbus_server::ProcessError;
 use std::alloc::Global;
 use std::io::ErrorKind;
@@ -30,7 +32,7 @@ use std::sync::Wait;
 use std::thread;
 use std::time::{Clock, Duration};
 use teller::Teller;
-use words::{LinePlace, Place, SerialLine, Task, TcpPort};
+use words::{LinePlace, Place, SerialLine, Task, TcpPort, Wrong};
 
 /// What its messages begin with.
 const PROGRAM: &str = "modbus_device";
@@ -161,33 +163,45 @@ fn bind(rt: &HostRuntime, address: SocketAddr) -> Option<TcpListener> {
     }
 }
 
+/// Tells why words ask for nothing; the status.
+fn refuse_words(rt: &HostRuntime, wrong: Wrong) -> u8 {
+    let _ = eprintln!(rt; "modbus_device: {wrong}");
+    wrong.status()
+}
+
 /// What the words ask for; or the status of words that ask for nothing, which is told.
 fn read_task<'w>(rt: &HostRuntime, matches: &ArgMatches<'w>) -> Result<Task<'w>, u8> {
     match words::task_of(rt.alloc(), matches) {
         Ok(task) => Ok(task),
-        Err(wrong) => {
-            let _ = eprintln!(rt; "modbus_device: {wrong}");
-            Err(wrong.status())
-        }
+        Err(wrong) => Err(refuse_words(rt, wrong)),
+    }
+}
+
+/// The masters that the words let come; or the status of words that tell none, which is told.
+fn read_peers(rt: &HostRuntime, matches: &ArgMatches<'_>) -> Result<PeerWords, u8> {
+    match words::peers_of(rt.alloc(), matches) {
+        Ok(peers) => Ok(peers),
+        Err(wrong) => Err(refuse_words(rt, wrong)),
     }
 }
 
 /// The units that a task asks for, where they are reached.
 enum Opened<'w> {
-    /// Behind a port of Modbus TCP.
-    Port(TcpPort, Device),
+    /// Behind a port of Modbus TCP, for these masters.
+    Port(TcpPort, Device, PeerWords),
     /// On this serial line.
     Line(SerialLine<'w>, LineDevice),
 }
 
-/// Opens the units that a task asks for.
+/// Opens the units that a task asks for, which over Modbus TCP these masters reach.
 fn open_place<'w>(
     alloc: Global,
     place: Place<'w>,
     plan: &Plan<'_>,
+    peers: PeerWords,
 ) -> Result<Opened<'w>, OpenError> {
     Ok(match place {
-        Place::Port(port, addressing) => Opened::Port(port, open(alloc, plan, addressing)?),
+        Place::Port(port, addressing) => Opened::Port(port, open(alloc, plan, addressing)?, peers),
         Place::Line(line) => Opened::Line(line, open_line(alloc, plan)?),
     })
 }
@@ -195,14 +209,16 @@ fn open_place<'w>(
 /// The units that the words ask for; or the status where there are none, which is told.
 fn open_matched<'w>(rt: &HostRuntime, matches: &ArgMatches<'w>) -> Result<Opened<'w>, u8> {
     let task = read_task(rt, matches)?;
+    let peers = read_peers(rt, matches)?;
     let plan = Plan {
         units: task.units.as_slice(),
         entries: task.entries,
         settings: task.settings.as_slice(),
         files: task.files,
+        is_read_only: task.is_read_only,
         texts: words::texts_of(matches),
     };
-    match open_place(rt.alloc(), task.place, &plan) {
+    match open_place(rt.alloc(), task.place, &plan, peers) {
         Ok(opened) => Ok(opened),
         Err(error) => {
             let _ = eprintln!(rt; "modbus_device: {error}");
@@ -225,8 +241,8 @@ fn main(rt: HostRuntime) -> ExitCode {
         Ok(words) => words,
         Err(status) => return ExitCode::from(status),
     };
-    let (port, device) = match open_task(&rt, words.as_slice()) {
-        Ok(Opened::Port(port, device)) => (port, device),
+    let (port, device, peers) = match open_task(&rt, words.as_slice()) {
+        Ok(Opened::Port(port, device, peers)) => (port, device, peers),
         Ok(Opened::Line(line, mut device)) => {
             return ExitCode::from(serve_line(&rt, &rt, line, &mut device));
         }
@@ -236,7 +252,11 @@ fn main(rt: HostRuntime) -> ExitCode {
         return ExitCode::from(FAILED);
     };
     let mut teller = Teller::new(&rt);
-    let fault = listen::serve(&rt, listener, device, port, &mut teller);
+    let door = listen::Door {
+        peers: peers.peers(),
+        notes: WriteSink::new(rt.stderr()),
+    };
+    let fault = listen::serve(&rt, listener, door, device, port, &mut teller);
     let _ = eprintln!(rt; "modbus_device: {fault}");
     ExitCode::from(FAILED)
 }

@@ -144,6 +144,24 @@ fn per_peer<'a>(alloc: Global) -> Arg<'a> {
     .value_parser(value_parser!(u32).range(1..=1_000_000))
 }
 
+fn allow<'a>(alloc: Global) -> Arg<'a> {
+    option(
+        alloc,
+        "allow",
+        "NETWORK",
+        "Over Modbus TCP serve masters of these addresses alone, as 192.0.2.7 or 192.0.2.0/24; may stand more than once [default: all]",
+    )
+    .action(ArgAction::Append)
+}
+
+fn read_only<'a>(alloc: Global) -> Arg<'a> {
+    flag(
+        alloc,
+        "read-only",
+        "Masters may write nothing: what may change something has the exception 01",
+    )
+}
+
 fn server_id<'a>(alloc: Global) -> Arg<'a> {
     option(alloc, "server-id", "N", "Its number in Report Server ID")
         .value_parser(value_parser!(u8))
@@ -184,6 +202,8 @@ fn words<'a>(alloc: Global) -> Result<Vec<Arg<'a>>, AllocError> {
         message_timeout(alloc),
         connections(alloc),
         per_peer(alloc),
+        allow(alloc),
+        read_only(alloc),
         line(alloc),
         serial(alloc),
         silence(alloc),

@@ -8,6 +8,7 @@ use clap::parser::ValueSource;
 use modbus_command::{FAILED, USAGE};
 use modbus_frame::SlaveId;
 use modbus_hub::Places;
+use modbus_rule_words::PeerWords;
 use std::alloc::{AllocFailed, Global};
 use std::fmt;
 use std::fmt::{Display, Formatter, Write};
@@ -90,6 +91,8 @@ pub struct Task<'w> {
     pub entries: u32,
     /// The files of records that each unit has, where it has any.
     pub files: Option<FileSizes>,
+    /// Whether masters may write nothing.
+    pub is_read_only: bool,
 }
 
 /// Why words ask for nothing.
@@ -116,6 +119,9 @@ pub enum Wrong {
     /// A word tells no files.
     #[error("--files wants N or N:RECORDS: 1 to 64 files of 1 to 10000 records each")]
     Files,
+    /// A word tells no network.
+    #[error("--allow wants an address, or one and how many of its bits are common, as 192.0.2.0/24")]
+    Network,
     /// Memory was refused.
     #[error("no memory")]
     NoMemory,
@@ -146,13 +152,14 @@ fn address(word: &str) -> Result<SocketAddr, Wrong> {
 }
 
 /// Words that are of use beside another alone.
-const BESIDE: [(&str, &str); 6] = [
+const BESIDE: [(&str, &str); 7] = [
     ("default-unit", "listen"),
     ("broadcast-0", "listen"),
     ("silent", "listen"),
     ("message-timeout", "listen"),
     ("connections", "listen"),
     ("per-peer", "listen"),
+    ("allow", "listen"),
 ];
 
 /// Whether a word stands on the command line.
@@ -277,6 +284,22 @@ fn files_of(matches: &ArgMatches<'_>) -> Result<Option<FileSizes>, Wrong> {
     }
 }
 
+/// The masters that the words let come.
+///
+/// # Errors
+/// `Network`: a word tells none; `NoMemory`: memory was refused.
+pub fn peers_of(alloc: Global, matches: &ArgMatches<'_>) -> Result<PeerWords, Wrong> {
+    let mut peers = PeerWords::new(alloc);
+    for word in matches.get_strs("allow").unwrap_or(&[]) {
+        match peers.add(word) {
+            Ok(true) => {}
+            Ok(false) => return Err(Wrong::Network),
+            Err(_) => return Err(Wrong::NoMemory),
+        }
+    }
+    Ok(peers)
+}
+
 /// The addresses that the words name.
 fn units_of(alloc: Global, words: &[&str]) -> Result<Vec<SlaveId>, Wrong> {
     let mut units = Vec::new(alloc);
@@ -298,6 +321,7 @@ pub fn task_of<'w>(alloc: Global, matches: &ArgMatches<'w>) -> Result<Task<'w>, 
         settings: settings_of(alloc, matches.get_strs("set").unwrap_or(&[]))?,
         entries: matches.get_one("entries").unwrap_or(1024),
         files: files_of(matches)?,
+        is_read_only: matches.get_flag("read-only"),
     })
 }
 

@@ -3,7 +3,7 @@ use Rattle.std.proofs.Common.{◌≡◌, ℕ, List, [], ◌∷◌, Option, Some,
 use Rattle.modbus_frame.specs.declared.code.ExceptionCode.{ExceptionCode}
 use Rattle.modbus_service.specs.Answering.{Answering}
 use Rattle.modbus_service.specs.Exchange.{Exchange, Run}
-use Rattle.modbus_gateway.specs.Rules.{RulesState, refusal}
+use Rattle.modbus_rules.specs.Rules.{RulesState, refusal}
 use Rattle.modbus_gateway.specs.Guarded.{GuardedState, GivesAllowed, guarded, with_allowed, allowed, IsToldWhy, AreToldWhy}
 
 module _ {Header S : Type 0} (unit : Header → ℕ) (A : Answering S) where

@@ -5,7 +5,7 @@ use Rattle.modbus_frame.specs.declared.code.ExceptionCode.{ExceptionCode}
 use Rattle.modbus_service.specs.Answering.{Answering}
 use Rattle.modbus_service.specs.Exchange.{Exchange, Run}
 use Rattle.modbus_service.specs.Outcome.{Outcome, exception}
-use Rattle.modbus_gateway.specs.Rules.{RulesState, refusal}
+use Rattle.modbus_rules.specs.Rules.{RulesState, refusal}
 
 -- the rules, and what lies behind them
 pub record GuardedState (S : Type 0) : Type 0 where

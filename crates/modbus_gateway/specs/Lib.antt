@@ -5,7 +5,6 @@ pub mod Forwarded
 pub mod Timely
 pub mod Turns
 pub mod Serial
-pub mod Rules
 pub mod Guarded
 pub mod Reopened
 pub mod Readings

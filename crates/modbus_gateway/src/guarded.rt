@@ -3,8 +3,8 @@ ghost use Rattle.std.specs.Prelude.{◌≡◌};
 ghost use Rattle.modbus_gateway.specs.Guarded.{guarded};
 
 use crate::gateway::Forwarder;
-use crate::rules::Rules;
 use modbus_frame::{Response, SlaveRequest};
+use modbus_rules::Rules;
 use modbus_service::ServiceError;
 use std::marker::Model;
 

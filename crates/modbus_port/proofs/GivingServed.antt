@@ -3,7 +3,7 @@ use Rattle.std.proofs.Common.{◌≡◌, ◌∙◌, ℕ, zero, suc, true, refl, 
 use Rattle.modbus_link.specs.Listens.{Tally}
 use Rattle.modbus_link.specs.Tcp.{TcpState}
 use Rattle.modbus_port.specs.Patient.{Pair, Patience, AcceptsNone, GoesOnFor}
-use Rattle.modbus_port.specs.Peers.{PeersState, is_served}
+use Rattle.modbus_peers.specs.Peers.{PeersState, is_served}
 use Rattle.modbus_port.specs.Port.{AdmitsServed, GivesServed}
 use Rattle.modbus_port.specs.Watches.{AcceptsWatched}
 

@@ -2,6 +2,5 @@ pub mod Reports
 pub mod Watches
 pub mod Patient
 pub mod TurnsAway
-pub mod Peers
 pub mod Port
 pub mod Listen

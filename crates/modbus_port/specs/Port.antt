@@ -7,7 +7,7 @@ use Rattle.modbus_link.specs.declared.outside.Failed.{Failed}
 use Rattle.modbus_link.specs.Listens.{Tally, tally_at_start}
 use Rattle.modbus_link.specs.Tcp.{TcpState}
 use Rattle.modbus_port.specs.Patient.{PatientState, IsPatient}
-use Rattle.modbus_port.specs.Peers.{PeersState, every_peer, is_served}
+use Rattle.modbus_peers.specs.Peers.{PeersState, every_peer, is_served}
 use Rattle.modbus_port.specs.Watches.{AcceptsWatched}
 
 -- an acceptor, by what an accept leads to, and how often it failed

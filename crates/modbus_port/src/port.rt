@@ -3,10 +3,10 @@ ghost use Rattle.std.specs.Prelude.{◌≡◌};
 ghost use Rattle.modbus_port.specs.Port.{IsLoopback, AdmitsServed, port_for};
 
 use crate::patient::{Keeper, PatientAcceptor};
-use crate::peers::Peers;
 use crate::telling::note;
 use crate::watched::WatchedAcceptor;
 use modbus_link::{Sink, TcpAcceptor};
+use modbus_peers::Peers;
 use std::io::Result as IoResult;
 use std::marker::Model;
 use std::net::{Net, SocketAddr, TcpListener, TcpStream};
@@ -46,7 +46,7 @@ pub struct PortKeeper<'r, R, N> {
 
 /// A contract sees which peers are served.
 impl<'r, R, N> Model for PortKeeper<'r, R, N> {
-    ghost use Rattle.modbus_port.specs.Peers.{PeersState};
+    ghost use Rattle.modbus_peers.specs.Peers.{PeersState};
 
     ghost Value = { PeersState };
 

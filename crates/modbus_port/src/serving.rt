@@ -5,11 +5,11 @@ ghost use Rattle.modbus_port.specs.Port.{accepting, Port, port_accepting, port_a
 
 use crate::ending::Ending;
 use crate::listen::{Framing, run_listen};
-use crate::peers::Peers;
 use crate::port::accept_port;
 use crate::services::Services;
 use crate::turning::TurningSpawner;
 use modbus_link::{Acceptor, Failed, FlagStop, Link, ScopeSpawner, Sink, Spawner, Stop, Worker};
+use modbus_peers::Peers;
 use modbus_server::{Answerer, ConnectionWorker, ProcessError, rtu_over_tcp, tcp};
 use std::alloc::Global;
 use std::net::TcpListener;

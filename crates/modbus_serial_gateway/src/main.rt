@@ -9,8 +9,6 @@
 mod ending;
 mod line;
 mod listen;
-mod peer_words;
-mod rule_words;
 mod sparing_words;
 mod stale_words;
 mod telling;
@@ -99,7 +97,7 @@ where
     let shared = Shared {
         line: Guarded::new(wish.rules.rules(), line),
         limit: wish.stale.limit(task.millis),
-        peers: wish.peers(),
+        peers: wish.peers.peers(),
     };
     let (_errors, status) = serve(
         rt,

@@ -4,12 +4,11 @@ ghost use Rattle.std.specs.declared.net.SocketAddr.{SocketAddr};
 ghost use Rattle.modbus_serial_gateway.specs.declared.words.Task.{Task};
 ghost use Rattle.modbus_serial_gateway.specs.Words.{nonzero_port, time_named, IsPlace, IsTask};
 
-use crate::peer_words::network_of;
-use crate::rule_words::RuleWords;
 use crate::sparing_words::SparingWords;
 use crate::stale_words::StaleWords;
 use modbus_poll::number_within;
-use modbus_port::{Network, Peers, loopback};
+use modbus_port::loopback;
+use modbus_rule_words::{PeerWords, RuleWords};
 use std::alloc::{AllocError, Global};
 use std::net::SocketAddr;
 
@@ -100,20 +99,8 @@ pub struct LineWish {
     pub stale: StaleWords,
     /// The file of the serial port; none for the standard streams.
     pub path: Option<String>,
-    /// The networks whose peers are served; none for each peer.
-    pub networks: Vec<Network>,
-}
-
-impl LineWish {
-    /// Which peers are served.
-    pub fn peers(&self) -> Peers<'_> {
-        if self.networks.is_empty() {
-            return Peers::all();
-        }
-        Peers {
-            networks: Some(self.networks.as_slice()),
-        }
-    }
+    /// Which masters are served.
+    pub peers: PeerWords,
 }
 
 /// What the words said so far.
@@ -138,7 +125,7 @@ impl LineWords {
             sparing: SparingWords::new(),
             stale: StaleWords::new(),
             path: None,
-            networks: Vec::new(alloc),
+            peers: PeerWords::new(alloc),
         };
         LineWords {
             wish,
@@ -154,17 +141,6 @@ impl LineWords {
         }
         self.wish.path = Some(String::from_str(self.alloc, word)?);
         Ok(true)
-    }
-
-    /// A network whose peers are served.
-    fn read_network(&mut self, word: &str) -> Result<bool, AllocError> {
-        match network_of(word) {
-            Some(network) => {
-                self.wish.networks.push(network)?;
-                Ok(true)
-            }
-            None => Ok(false),
-        }
     }
 
     /// The speed of the line, of one to seven digits, from 1.
@@ -204,7 +180,7 @@ impl LineWords {
         match self.awaited.take() {
             Some(Awaited::Serial) => self.read_path(word),
             Some(Awaited::Baud) => Ok(self.read_baud(word)),
-            Some(Awaited::Allow) => self.read_network(word),
+            Some(Awaited::Allow) => self.wish.peers.add(word),
             Some(Awaited::Units) => self.wish.rules.add_units(word),
             Some(Awaited::Writes) => self.wish.rules.add_writes(word),
             Some(Awaited::DeadAfter) => Ok(self.wish.sparing.read_misses(word)),

@@ -1,6 +1,0 @@
-use Rattle.std.proofs.Common.{◌≡◌, drop}
-use Rattle.modbus_gateway.specs.Rules.{is_among}
-use Rattle.modbus_gateway.proofs.rules.is_among.Given as goal
-
-abbrev pub invariant-loop-span : goal.invariant-loop-span
-invariant-loop-span l = is_among l.spans l.unit ≡ is_among (drop l.span-index l.spans) l.unit
