@@ -5,7 +5,42 @@ usage: modbus.py SHARED_LIBRARY
 
 import sys
 
-from mudrezzi import DONE, FOREIGN, MISMATCH, SILENT, WAITING, Client, Device, Line, Modbus, frame
+from mudrezzi import DONE, EXCEPTION, FOREIGN, MISMATCH, SILENT, WAITING, Client, ClientLine, Device, Line, Modbus, PduCall, frame
+
+
+def asks(modbus):
+    """Calls of functions that have no struct, on a line whose client waits for what is owed."""
+    line = ClientLine(modbus, 500)
+    assert line.wait() == 500
+    line.silent(500)
+    assert line.wait() == 0
+    echo = bytes.fromhex("08 0000 A537")
+    call = PduCall(modbus, 17, echo)
+    assert call.message == frame(modbus, 17, echo)
+    assert call.answer() is None and call.owes()
+    assert call.feed(call.message) == len(call.message)
+    assert call.answer() == echo and not call.owes()
+    line.ended(call)
+    assert line.wait() == 0
+    # a call that was given up, and its late reply
+    lost = PduCall(modbus, 17, b"\x07")
+    line.ended(lost)
+    assert lost.owes() and line.wait() == 500
+    line.silent(499)
+    line.heard()
+    assert line.wait() == 500
+    line.silent(500)
+    line.told(200)
+    assert line.wait() == 200
+    call = PduCall(modbus, 255, b"\x07", transaction=1)
+    assert call.message == bytes.fromhex("0001 0000 0002 FF 07")
+    call.feed(bytes.fromhex("0001 0000 0003 FF 87 01"))
+    assert call.answer() == bytes.fromhex("87 01") and call.status == EXCEPTION and not call.owes()
+    try:
+        PduCall(modbus, 255, b"", transaction=2)
+        raise AssertionError("a call of no PDU was begun")
+    except ValueError:
+        pass
 
 
 def main(path):
@@ -46,6 +81,7 @@ def main(path):
         raise AssertionError("a reply to another request was taken")
     except ValueError as error:
         assert str(error) == f"status {MISMATCH}"
+    asks(modbus)
     print("each answer was the one wanted")
 
 

@@ -4,7 +4,8 @@ import ctypes
 
 DONE, WAITING, SILENT, REFUSED = range(4)
 NO_LENGTH, FOREIGN = 5, 6
-MISMATCH = 15
+MISMATCH, EXCEPTION = 15, 16
+LONGEST_PDU = 253
 LONGEST_REPLY = 260
 LONGEST_TEXT = 513
 
@@ -94,6 +95,12 @@ class Response(ctypes.Structure):
     ]
 
 
+class Silence(ctypes.Structure):
+    """For how long a line has to be silent where a reply may still come, and for how long yet."""
+
+    _fields_ = [("quiet", ctypes.c_uint32), ("left", ctypes.c_uint32)]
+
+
 class Modbus:
     """The functions of the library."""
 
@@ -120,6 +127,27 @@ class Modbus:
         self.answer = library.modbus_call_answer
         self.answer.argtypes = [call, response, words, Size, coils, Size]
         self.begin.restype = self.answer.restype = Done
+        self.begin_tcp_pdu, self.begin_rtu_pdu, self.answer_pdu = (
+            getattr(library, f"modbus_call_{it}_pdu") for it in ("tcp", "rtu", "answer")
+        )
+        self.begin_tcp_pdu.argtypes = [call, ctypes.c_uint16, ctypes.c_uint8, Bytes, Size, written, Size]
+        self.begin_rtu_pdu.argtypes = [call, ctypes.c_uint8, Bytes, Size, written, Size]
+        self.answer_pdu.argtypes = [call, written, Size]
+        self.begin_tcp_pdu.restype = self.begin_rtu_pdu.restype = self.answer_pdu.restype = Done
+        self.owes = library.modbus_call_owes
+        self.owes.argtypes, self.owes.restype = [call, ctypes.c_uint32], ctypes.c_bool
+        silence, time = ctypes.POINTER(Silence), ctypes.c_uint32
+        for name, more, gives in (
+            ("open", [time], None),
+            ("heard", [], None),
+            ("silent", [time], None),
+            ("wait", [], time),
+            ("ended", [call, ctypes.c_uint32], None),
+            ("told", [time], None),
+        ):
+            function = getattr(library, f"modbus_line_{name}")
+            function.argtypes, function.restype = [silence, *more], gives
+            setattr(self, f"line_{name}", function)
 
 
 class Device:
@@ -194,6 +222,74 @@ class Client:
                 if told.status != WAITING:
                     raise ValueError(f"status {told.status}")
         raise TimeoutError
+
+
+class PduCall:
+    """A call with a PDU of any function, of a unit over Modbus TCP where it has a transaction, else of a slave on a serial line.
+
+    `message` is what is to be sent. A PDU that is none is a ValueError with its status.
+    """
+
+    def __init__(self, modbus, unit, pdu, transaction=None):
+        self.modbus, self.call, self.status = modbus, Call(), WAITING
+        output = (ctypes.c_uint8 * LONGEST_REPLY)()
+        if transaction is None:
+            begun = modbus.begin_rtu_pdu(self.call, unit, pdu, len(pdu), output, len(output))
+        else:
+            begun = modbus.begin_tcp_pdu(self.call, transaction, unit, pdu, len(pdu), output, len(output))
+        if begun.status != DONE:
+            raise ValueError(f"status {begun.status}")
+        self.message = bytes(output[: begun.written])
+
+    def feed(self, piece):
+        """Takes the first of the bytes that came, as many as there is room for, and tells how many."""
+        return self.modbus.feed(self.call, piece, len(piece))
+
+    def answer(self):
+        """The PDU of the answer, which may be an exception, or None where it has not come. What is none of this call is a ValueError."""
+        pdu = (ctypes.c_uint8 * LONGEST_PDU)()
+        told = self.modbus.answer_pdu(self.call, pdu, len(pdu))
+        self.status = told.status
+        if told.status == WAITING:
+            return None
+        if told.status not in (DONE, EXCEPTION):
+            raise ValueError(f"status {told.status}")
+        return bytes(pdu[: told.written])
+
+    def owes(self):
+        """Whether the reply may still come where the call ends now."""
+        return self.modbus.owes(self.call, self.status)
+
+
+class ClientLine:
+    """A serial line of a client: when the next request may be sent, so that no late reply is taken for its own.
+
+    It has to be silent for `quiet` where a reply may still come, and so at first. Times are in one unit of the caller's.
+    """
+
+    def __init__(self, modbus, quiet):
+        self.modbus, self.silence = modbus, Silence()
+        modbus.line_open(self.silence, quiet)
+
+    def wait(self):
+        """For how long it has to be silent yet; 0: a request may be sent."""
+        return self.modbus.line_wait(self.silence)
+
+    def heard(self):
+        """Bytes came for no call."""
+        self.modbus.line_heard(self.silence)
+
+    def silent(self, time):
+        """No byte came for so long."""
+        self.modbus.line_silent(self.silence, time)
+
+    def ended(self, call):
+        """A call ended, by its answer or because it is given up."""
+        self.modbus.line_ended(self.silence, call.call, call.status)
+
+    def told(self, turnaround):
+        """All slaves were told something: no request before the turnaround delay is over."""
+        self.modbus.line_told(self.silence, turnaround)
 
 
 def frame(modbus, slave, pdu):
