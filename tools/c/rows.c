@@ -613,6 +613,113 @@ static void streams(void) {
     row("an output of 259 bytes over TCP", done.status == MODBUS_NO_ROOM);
 }
 
+/* A device whose tables begin at addresses of their own: its coils at 0100, 0104 of them read alone; its discrete inputs at 0200; its
+ * holding registers at 9C40, 9C42 and 9C43 of them read alone; its input registers at 7530. */
+static modbus_device placed(struct device *device) {
+    const modbus_device made = {tables_of(device), {0x0100, 0x0200, 0x9C40, 0x7530}, {0x0104, 1}, {0x9C42, 2}};
+    return made;
+}
+
+/* One request of a device over TCP: its answer, and whether it changed what it has to leave alone. */
+static void places_by(const char *name, modbus_device *by, struct device *device, bool is_write, const char *request, const char *reply) {
+    struct device before = *device;
+    size_t len, reply_len;
+    uint8_t *pdu = bytes_of(request, &len), *answer = bytes_of(reply, &reply_len), *input = malloc(7 + len);
+    uint8_t *output = malloc(MODBUS_LONGEST_REPLY), wanted[MODBUS_LONGEST_REPLY];
+    modbus_served done;
+    modbus_tcp_wrap(1, 255, pdu, len, input, 7 + len);
+    memset(output, 0xA5, MODBUS_LONGEST_REPLY);
+    memset(wanted, 0xA5, sizeof wanted);
+    modbus_tcp_wrap(1, 255, answer, reply_len, wanted, sizeof wanted);
+    done = modbus_device_serve(by, input, 7 + len, output, MODBUS_LONGEST_REPLY);
+    row(name, done.status == MODBUS_DONE && done.used == 7 + len && done.written == 7 + reply_len &&
+                  memcmp(output, wanted, sizeof wanted) == 0 && (memcmp(device, &before, sizeof before) != 0) == is_write);
+    free(pdu);
+    free(answer);
+    free(input);
+    free(output);
+}
+
+static void places(void) {
+    struct device it = {0};
+    modbus_device device = placed(&it), high = placed(&it);
+    uint8_t output[MODBUS_LONGEST_REPLY] = {0};
+    modbus_served done;
+    it.holding_registers[0] = 0x1234;
+    it.holding_registers[2] = 0x0815;
+    it.holding_registers[ENTRIES - 1] = 0x4711;
+    it.input_registers[1] = 0xABCD;
+    it.discrete_inputs[0] = true;
+    it.coils[4] = true;
+    places_by("the first register by its own address", &device, &it, false, "03 9C40 0001", "03 02 1234");
+    places_by("the last", &device, &it, false, "03 9C7F 0001", "03 02 4711");
+    places_by("one behind it", &device, &it, false, "03 9C80 0001", "83 02");
+    places_by("one before the first", &device, &it, false, "03 9C3F 0001", "83 02");
+    places_by("a place in the table in the place of an address", &device, &it, false, "03 0000 0001", "83 02");
+    places_by("no register before the table", &device, &it, false, "03 0000 0000", "83 03");
+    places_by("126 registers before the table", &device, &it, false, "03 0000 007E", "83 03");
+    places_by("an input register by its own address", &device, &it, false, "04 7531 0001", "04 02 ABCD");
+    places_by("a discrete input by its own address", &device, &it, false, "02 0200 0002", "02 01 01");
+    places_by("coils by their own addresses", &device, &it, false, "01 0104 0001", "01 01 01");
+    places_by("a write of a coil tells its own address", &device, &it, true, "05 0100 FF00", "05 0100 FF00");
+    places_by("a write of coils", &device, &it, true, "0F 0102 0002 01 03", "0F 0102 0002");
+    places_by("a write of coils up to one that is read alone", &device, &it, false, "0F 0103 0002 01 00", "8F 02");
+    places_by("a write of a coil that is read alone", &device, &it, false, "05 0104 0000", "85 02");
+    places_by("a read of registers that are read alone", &device, &it, false, "03 9C42 0002", "03 04 0815 0000");
+    places_by("a write of the first of them", &device, &it, false, "06 9C42 0001", "86 02");
+    places_by("a write of the last of them", &device, &it, false, "06 9C43 0001", "86 02");
+    places_by("a write of the register before them", &device, &it, true, "06 9C41 4711", "06 9C41 4711");
+    places_by("a write of the register behind them", &device, &it, true, "10 9C44 0001 02 0007", "10 9C44 0001");
+    places_by("a write of registers up to the first of them", &device, &it, false, "10 9C41 0002 04 0001 0002", "90 02");
+    places_by("a write of registers from the last of them on", &device, &it, false, "10 9C43 0002 04 0001 0002", "90 02");
+    places_by("a masked write of one of them", &device, &it, false, "16 9C43 0000 FFFF", "96 02");
+    places_by("a read and a write of one of them", &device, &it, false, "17 9C40 0001 9C43 0001 02 0001", "97 02");
+    places_by("a read of one of them and a write", &device, &it, true, "17 9C42 0001 9C40 0001 02 0012", "17 02 0815");
+    places_by("a masked write tells its own address", &device, &it, true, "16 9C40 00F2 0025", "16 9C40 00F2 0025");
+    row("what the masked write made", it.holding_registers[0] == 0x0017);
+    places_by("a function that is not known of a device", &device, &it, false, "41", "C1 01");
+    high.starts.holding_registers = 0xFFFE;
+    places_by("the last address of all", &high, &it, false, "03 FFFF 0001", "03 02 4711");
+    places_by("one behind the last address of all", &high, &it, false, "03 FFFF 0002", "83 02");
+    device.kept_registers.count = 0;
+    places_by("a write over a range of no register", &device, &it, true, "10 9C41 0003 06 0001 0002 0003", "10 9C41 0003");
+    done = modbus_device_serve(NULL, output, 12, output, sizeof output);
+    row("a null device", done.status == MODBUS_NULL);
+    device.tables.coils = NULL;
+    done = modbus_device_serve(&device, output, 12, output, sizeof output);
+    row("a null table of a device", done.status == MODBUS_NULL);
+    done = modbus_device_serve(&high, output, 0, output, 259);
+    row("an output of 259 bytes of a device", done.status == MODBUS_NO_ROOM);
+}
+
+/* The same devices on a line. */
+static void slaves(void) {
+    struct device one = {0}, other = {0};
+    modbus_slave units[2] = {{17, placed(&one)}, {18, placed(&other)}};
+    uint8_t burst[64], output[MODBUS_LONGEST_REPLY], wanted[64];
+    modbus_served done;
+    size_t len, wanted_len;
+    len = put(burst, 0, 18, "06 9C40 1234");
+    done = modbus_slaves_serve(units, 2, burst, len, output, sizeof output);
+    wanted_len = put(wanted, 0, 18, "06 9C40 1234");
+    row("a write of a slave by its own address", done.status == MODBUS_DONE && done.used == len && done.written == wanted_len &&
+                                                     memcmp(output, wanted, wanted_len) == 0 && one.holding_registers[0] == 0 &&
+                                                     other.holding_registers[0] == 0x1234);
+    len = put(burst, 0, 19, "06 9C40 4711");
+    done = modbus_slaves_serve(units, 2, burst, len, output, sizeof output);
+    row("a write of a neighbour of slaves", done.status == MODBUS_SILENT && done.written == 0 && other.holding_registers[0] == 0x1234);
+    units[1].device.kept_registers.count = 0;
+    len = put(burst, 0, 0, "06 9C42 4711");
+    done = modbus_slaves_serve(units, 2, burst, len, output, sizeof output);
+    row("a write of all, of a register that one of them keeps", done.status == MODBUS_SILENT && done.written == 0 &&
+                                                                    one.holding_registers[2] == 0 && other.holding_registers[2] == 0x4711);
+    units[0].device.tables.coils = NULL;
+    done = modbus_slaves_serve(units, 2, burst, len, output, sizeof output);
+    row("a null table of a slave", done.status == MODBUS_NULL);
+    done = modbus_slaves_serve(NULL, 0, burst, len, output, sizeof output);
+    row("no slave", done.status == MODBUS_SILENT);
+}
+
 /* The PDU of an answer of a call that is fed in pieces, in an array with no byte to spare. */
 static modbus_done pdu_of(modbus_call *call, const char *input, size_t piece, uint8_t *pdu, size_t pdu_len) {
     size_t len;
@@ -824,6 +931,8 @@ static void late_replies(void) {
 int main(void) {
     lines();
     streams();
+    places();
+    slaves();
     serving();
     bad_lengths();
     coding();

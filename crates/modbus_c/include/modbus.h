@@ -265,6 +265,38 @@ typedef struct {
     modbus_tables tables;
 } modbus_unit;
 
+/* The address of the first entry of each table. */
+typedef struct {
+    uint16_t coils;
+    uint16_t discrete_inputs;
+    uint16_t holding_registers;
+    uint16_t input_registers;
+} modbus_starts;
+
+/* So many addresses from one on. */
+typedef struct {
+    uint16_t address;
+    uint32_t count;
+} modbus_span;
+
+/* A device whose tables begin at addresses of their own: the entry of an address is its distance from the start. Requests read the coils of
+ * `kept_coils` and the holding registers of `kept_registers`, and don't write them; {0, 0} is none. An address before the start of its
+ * table, past its end or above 65535 is answered by exception 02, as is a write of which an address is kept: of such a request nothing is
+ * done. A count that the function does not allow is told first, by 03 (AP 4.4, 6). */
+typedef struct {
+    modbus_tables tables;
+    modbus_starts starts;
+    modbus_span kept_coils;
+    modbus_span kept_registers;
+} modbus_device;
+
+/* Such a device of a serial line: its address, 1 to 247, and the device. Of two of one address the first is asked. Two may share arrays that
+ * are read alone, and no other. */
+typedef struct {
+    uint8_t unit;
+    modbus_device device;
+} modbus_slave;
+
 /* The bytes of a serial line that were fed and not used yet: the first `len`, of at most 268. Its fields are the library's. */
 typedef struct {
     size_t len;
@@ -348,6 +380,10 @@ modbus_done modbus_rtu_wrap(uint8_t slave, const uint8_t *pdu, size_t pdu_len, u
 modbus_served modbus_line_serve(modbus_unit *units, size_t units_len, const uint8_t *burst, size_t burst_len, uint8_t *output,
                                 size_t output_len);
 
+/* As modbus_line_serve, by devices whose tables begin at addresses of their own, and have entries that requests read alone. */
+modbus_served modbus_slaves_serve(modbus_slave *slaves, size_t slaves_len, const uint8_t *burst, size_t burst_len, uint8_t *output,
+                                  size_t output_len);
+
 /* A server of Modbus TCP: answers what stands at the front of the input by the tables of the device, whatever unit identifier it has (TCP
  * 3.1.3, 4.4.1.2). It is one request: call again with the bytes from `used` on. What can't be read is answered as by modbus_line_serve.
  * MODBUS_DONE; MODBUS_WAITING; MODBUS_SILENT: the message has no function code of a request; MODBUS_NO_MEMORY; MODBUS_FOREIGN as soon as four
@@ -355,6 +391,9 @@ modbus_served modbus_line_serve(modbus_unit *units, size_t units_len, const uint
  * MODBUS_NO_ROOM: the output has less than MODBUS_LONGEST_REPLY bytes. Only where it is done or silent a table may change, and only where it
  * is done the output changes. */
 modbus_served modbus_stream_serve(modbus_tables *tables, const uint8_t *input, size_t input_len, uint8_t *output, size_t output_len);
+
+/* As modbus_stream_serve, by a device whose tables begin at addresses of their own, and have entries that requests read alone. */
+modbus_served modbus_device_serve(modbus_device *device, const uint8_t *input, size_t input_len, uint8_t *output, size_t output_len);
 
 /* For one device alone on a line or a connection, whose peer is known to send nothing but whole requests: on a line that others share take
  * modbus_line_serve, towards a network modbus_stream_serve. These two and the inbox answer each address, and so the requests of neighbours.
@@ -630,6 +669,23 @@ static inline modbus_served modbus_checked_line_serve(modbus_unit *units, size_t
                              output_len);
 }
 
+static inline modbus_served modbus_checked_slaves_serve(modbus_slave *slaves, size_t slaves_len, const uint8_t *burst, size_t burst_len,
+                                                        uint8_t *output, size_t output_len) {
+    modbus_none none = {0, false, 0};
+    modbus_slave nobody = {0, {{&none.coil, 0, &none.coil, 0, &none.word, 0, &none.word, 0}, {0, 0, 0, 0}, {0, 0}, {0, 0}}};
+    const modbus_served refused = {MODBUS_NULL, 0, 0, 0};
+    if ((!slaves && slaves_len) || (!burst && burst_len) || (!output && output_len)) {
+        return refused;
+    }
+    for (size_t place = 0; place < slaves_len; place++) {
+        if (!modbus_checked_tables(&slaves[place].device.tables)) {
+            return refused;
+        }
+    }
+    return modbus_slaves_serve(slaves ? slaves : &nobody, slaves_len, burst ? burst : &none.byte, burst_len, output ? output : &none.byte,
+                               output_len);
+}
+
 static inline modbus_served modbus_checked_stream_serve(modbus_tables *tables, const uint8_t *input, size_t input_len, uint8_t *output,
                                                         size_t output_len) {
     modbus_none none = {0, false, 0};
@@ -638,6 +694,16 @@ static inline modbus_served modbus_checked_stream_serve(modbus_tables *tables, c
         return refused;
     }
     return modbus_stream_serve(tables, input ? input : &none.byte, input_len, output ? output : &none.byte, output_len);
+}
+
+static inline modbus_served modbus_checked_device_serve(modbus_device *device, const uint8_t *input, size_t input_len, uint8_t *output,
+                                                        size_t output_len) {
+    modbus_none none = {0, false, 0};
+    const modbus_served refused = {MODBUS_NULL, 0, 0, 0};
+    if (!device || (!input && input_len) || (!output && output_len) || !modbus_checked_tables(&device->tables)) {
+        return refused;
+    }
+    return modbus_device_serve(device, input ? input : &none.byte, input_len, output ? output : &none.byte, output_len);
 }
 
 static inline modbus_served modbus_checked_tcp_serve(const uint8_t *input, size_t input_len, bool *coils, size_t coils_len,
@@ -843,7 +909,9 @@ static inline void modbus_checked_line_told(modbus_line *line, uint32_t turnarou
 #define modbus_tcp_wrap modbus_checked_tcp_wrap
 #define modbus_rtu_wrap modbus_checked_rtu_wrap
 #define modbus_line_serve modbus_checked_line_serve
+#define modbus_slaves_serve modbus_checked_slaves_serve
 #define modbus_stream_serve modbus_checked_stream_serve
+#define modbus_device_serve modbus_checked_device_serve
 #define modbus_tcp_serve modbus_checked_tcp_serve
 #define modbus_rtu_serve modbus_checked_rtu_serve
 #define modbus_ascii_serve modbus_checked_ascii_serve

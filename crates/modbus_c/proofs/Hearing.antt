@@ -16,30 +16,28 @@ use Rattle.modbus_store.specs.Tables.{Tables}
 use Rattle.modbus_field.specs.declared.standard.answers.Unread.{Unread}
 use Rattle.modbus_field.specs.declared.standard.answers.Unread.TheVariants.{Refused, Silent}
 use Rattle.modbus_field.specs.Bursts.{Heard, said}
-use Rattle.modbus_field.specs.Unread.{unread_of}
 use Rattle.modbus_field.proofs.Said.{said_nothing}
-use Rattle.modbus_c.specs.declared.tables.ModbusUnit.{ModbusUnit}
 use Rattle.modbus_c.specs.Line.{told_frame, Hears, HearsEach}
-use Rattle.modbus_c.specs.Units.{TellsUnless, UnitsTell}
+use Rattle.modbus_c.specs.Units.{Units, TellsUnless, UnitsTell}
 
-pub silently : (slave : ℕ) (asked request : Asked) (old new : List ModbusUnit) → asked ≡ request → UnitsTell slave request silence old new
-    → (outcome : Outcome) × UnitsTell slave asked outcome old new × ([] ≡ told_frame slave (code_of asked) outcome)
-silently slave asked request old new same told = (silence, subst (λ r. UnitsTell slave r silence old new) (sym same) told, refl)
+pub silently : {U : Type 0} (V : Units U) (slave : ℕ) (asked request : Asked) (old new : List U) → asked ≡ request → UnitsTell V slave request silence old new
+    → (outcome : Outcome) × UnitsTell V slave asked outcome old new × ([] ≡ told_frame slave (code_of asked) outcome)
+silently V slave asked request old new same told = (silence, subst (λ r. UnitsTell V slave r silence old new) (sym same) told, refl)
 
-pub responded : (slave : ℕ) (asked request : Asked) (response : Response) (old new : List ModbusUnit) → asked ≡ request → UnitsTell slave request (reply response) old new
-    → (outcome : Outcome) × UnitsTell slave asked outcome old new × (frame slave (response_pdu response) ≡ told_frame slave (code_of asked) outcome)
+pub responded : {U : Type 0} (V : Units U) (slave : ℕ) (asked request : Asked) (response : Response) (old new : List U) → asked ≡ request → UnitsTell V slave request (reply response) old new
+    → (outcome : Outcome) × UnitsTell V slave asked outcome old new × (frame slave (response_pdu response) ≡ told_frame slave (code_of asked) outcome)
 unfolding reply_pdu
-responded slave asked request response old new same told =
-    (reply response, subst (λ r. UnitsTell slave r (reply response) old new) (sym same) told, refl)
+responded V slave asked request response old new same told =
+    (reply response, subst (λ r. UnitsTell V slave r (reply response) old new) (sym same) told, refl)
 
-pub refused : (slave : ℕ) (asked request : Asked) (code : ExceptionCode) (function : FunctionCode) (old new : List ModbusUnit) → asked ≡ request
-    → function ≡ function_asked request → UnitsTell slave request (exception code) old new
-    → (outcome : Outcome) × UnitsTell slave asked outcome old new
+pub refused : {U : Type 0} (V : Units U) (slave : ℕ) (asked request : Asked) (code : ExceptionCode) (function : FunctionCode) (old new : List U) → asked ≡ request
+    → function ≡ function_asked request → UnitsTell V slave request (exception code) old new
+    → (outcome : Outcome) × UnitsTell V slave asked outcome old new
     × (frame slave (exception_pdu (record { function = function; exception = code })) ≡ told_frame slave (code_of asked) outcome)
 unfolding reply_pdu
-refused slave asked request code function old new same named told = (
+refused V slave asked request code function old new same named told = (
   exception code,
-  subst (λ r. UnitsTell slave r (exception code) old new) (sym same) told,
+  subst (λ r. UnitsTell V slave r (exception code) old new) (sym same) told,
   ap (λ f. frame slave ((function_number f + 0x80) ∷ exception_number code ∷ [])) (named ∙ ap function_asked (sym same)),
 )
 
@@ -60,24 +58,13 @@ module _ (fits : (code : ℕ) (tables : Tables) (slave : ℕ) (request : Asked) 
   unless_fits None old slave request outcome new code (inl step) = subst (λ x. length (reply_pdu code x.0) ≤ max_pdu) step (fits code old slave request)
   unless_fits None old slave request outcome new code (inr (e, k, n)) = subst (λ x. length (reply_pdu code x) ≤ max_pdu) (sym e) (exception_fits code _)
 
-  pub told_fits : (slave : ℕ) (request : Asked) (outcome : Outcome) (old new : List ModbusUnit) (code : ℕ) → UnitsTell slave request outcome old new
-      → length (reply_pdu code outcome) ≤ max_pdu
-  told_fits slave request outcome old new code (inl (all, quiet, heard)) = subst (λ x. length (reply_pdu code x) ≤ max_pdu) (sym quiet) (silence_fits code)
-  told_fits slave request outcome old new code (inr (inl (one, first))) = unless_fits (unread_of request) _ slave request outcome _ code first.told.2
-  told_fits slave request outcome old new code (inr (inr (one, none, quiet, kept))) = subst (λ x. length (reply_pdu code x) ≤ max_pdu) (sym quiet) (silence_fits code)
-
-  pub response_fits : (slave : ℕ) (request : Asked) (response : Response) (old new : List ModbusUnit) → UnitsTell slave request (reply response) old new
-      → length (response_pdu response) ≤ max_pdu
-  unfolding reply_pdu
-  response_fits slave request response old new told = told_fits slave request (reply response) old new 0 told
-
 -- one message more was heard
-pub heard_more : (old : List ModbusUnit) (was : List ℕ) (ms : List Heard) (it : Heard) (mid new : List ModbusUnit) (so_far behind : List ℕ)
-    → HearsEach old was ms mid so_far → Hears mid so_far it new behind → HearsEach old was (ms ++ it ∷ []) new behind
-heard_more old was [] it mid new so_far behind (same, kept) hears =
-    (new, behind, subst (λ r. Hears old r it new behind) kept (subst (λ u. Hears u so_far it new behind) same hears), (refl, refl))
-heard_more old was (m ∷ ms) it mid new so_far behind (next, after, first, rest) hears =
-    (next, after, first, heard_more next after ms it mid new so_far behind rest hears)
+pub heard_more : {U : Type 0} (V : Units U) (old : List U) (was : List ℕ) (ms : List Heard) (it : Heard) (mid new : List U) (so_far behind : List ℕ)
+    → HearsEach V old was ms mid so_far → Hears V mid so_far it new behind → HearsEach V old was (ms ++ it ∷ []) new behind
+heard_more V old was [] it mid new so_far behind (same, kept) hears =
+    (new, behind, subst (λ r. Hears V old r it new behind) kept (subst (λ u. Hears V u so_far it new behind) same hears), (refl, refl))
+heard_more V old was (m ∷ ms) it mid new so_far behind (next, after, first, rest) hears =
+    (next, after, first, heard_more V next after ms it mid new so_far behind rest hears)
 
 pub said_more : (burst rest : List ℕ) (start end next : ℕ) (ms : List Heard) (it : Heard) → rest ≡ drop start burst → next ≡ start + end
     → said burst ≡ ms ++ said (drop start burst) → said rest ≡ it ∷ said (drop end rest) → said burst ≡ (ms ++ it ∷ []) ++ said (drop next burst)

@@ -8,3 +8,4 @@ pub mod Judging
 pub mod Telling
 pub mod Hearing
 pub mod Answering
+pub mod Placing

@@ -5,8 +5,7 @@ use Rattle.std.specs.List.{AllZip}
 use Rattle.modbus_frame.specs.Meaning.{Asked}
 use Rattle.modbus_service.specs.Outcome.{Outcome}
 use Rattle.modbus_service.proofs.Places.{split_at, told_more}
-use Rattle.modbus_c.specs.declared.tables.ModbusUnit.{ModbusUnit}
-use Rattle.modbus_c.specs.Units.{NoneHas, UnitTells, UnitsTell}
+use Rattle.modbus_c.specs.Units.{Units, NoneHas, UnitsTell}
 
 -- what stands at a place inside does not depend on what stands for one outside
 pub read_at : {X : Type 0} (xs : List X) (i : ℕ) (d e : X) → i < length xs → get_or xs i d ≡ get_or xs i e
@@ -22,10 +21,10 @@ told_one_more R olds news i d y inside long rest told here =
     told_more R olds news i (get_or news i d) y within long (read_at news i d (get_or news i d) within) rest told here
 
 -- the first unit of an address was asked, and written back
-pub first_told : (slave : ℕ) (request : Asked) (outcome : Outcome) (units : List ModbusUnit) (place : ℕ) (d next : ModbusUnit) → slave ≢ 0
-    → (place < length units) × NoneHas slave (take place units) × ((it : ModbusUnit) → (get_or units place it).unit ≡ slave)
-    → UnitTells slave request outcome (get_or units place d) next → UnitsTell slave request outcome units (set units place next)
-first_told slave request outcome units place d next one (within, none, here) told = inr (inl (
+pub first_told : {U : Type 0} (V : Units U) (slave : ℕ) (request : Asked) (outcome : Outcome) (units : List U) (place : ℕ) (d next : U) → slave ≢ 0
+    → (place < length units) × NoneHas V slave (take place units) × ((it : U) → V.address (get_or units place it) ≡ slave)
+    → V.tells slave request outcome (get_or units place d) next → UnitsTell V slave request outcome units (set units place next)
+first_told V slave request outcome units place d next one (within, none, here) told = inr (inl (
   one,
   record {
     before = take place units;

@@ -15,3 +15,4 @@ pub mod Line
 pub mod Pieces
 pub mod Raw
 pub mod Settled
+pub mod Places

@@ -11,9 +11,8 @@ use Rattle.modbus_field.specs.declared.burst.frame.Part.{Part}
 use Rattle.modbus_field.specs.declared.burst.frame.Part.TheVariants.{Unasked}
 use Rattle.modbus_field.specs.Bursts.{Heard, is_answered, said}
 use Rattle.modbus_field.specs.Unread.{any_request_of}
-use Rattle.modbus_c.specs.declared.tables.ModbusUnit.{ModbusUnit}
 use Rattle.modbus_c.specs.Serves.{WritesReply}
-use Rattle.modbus_c.specs.Units.{UnitsTell}
+use Rattle.modbus_c.specs.Units.{Units, UnitsTell}
 
 -- the frame of what is told to a request of this function code; silence has none
 abbrev pub told_frame : ℕ → ℕ → Outcome → List ℕ
@@ -26,27 +25,27 @@ answered_frame slave None = []
 answered_frame slave (Some answer) = frame slave (response_result_pdu answer)
 
 -- A request or a frame behind which another stands asks the slave of its address. Noise and a reply ask nobody, and nothing changes.
-abbrev pub PartTells : Part → ℕ → Asked → Outcome → List ModbusUnit → List ModbusUnit → Type 0
-PartTells Unasked slave request outcome old new = (outcome ≡ silence) × (new ≡ old)
-PartTells part slave request outcome old new = UnitsTell slave request outcome old new
+abbrev pub PartTells : {U : Type 0} → Units U → Part → ℕ → Asked → Outcome → List U → List U → Type 0
+PartTells V Unasked slave request outcome old new = (outcome ≡ silence) × (new ≡ old)
+PartTells V part slave request outcome old new = UnitsTell V slave request outcome old new
 
 -- the reply behind one more message: that of the last frame of a burst alone is written
 abbrev pub reply_behind : FrameHeader → ℕ → Outcome → List ℕ → List ℕ
 reply_behind header code outcome was = if is_answered header then told_frame header.slave code outcome else was
 
 -- units heard a message, behind which this is the reply
-abbrev pub Hears : List ModbusUnit → List ℕ → Heard → List ModbusUnit → List ℕ → Type 0
-Hears old was it new reply = (outcome : Outcome) × PartTells it.header.part it.header.slave (any_request_of it.pdu) outcome old new
+abbrev pub Hears : {U : Type 0} → Units U → List U → List ℕ → Heard → List U → List ℕ → Type 0
+Hears V old was it new reply = (outcome : Outcome) × PartTells V it.header.part it.header.slave (any_request_of it.pdu) outcome old new
     × (reply ≡ reply_behind it.header (code_of (any_request_of it.pdu)) outcome was)
 
 -- they heard these messages, one after another
-abbrev pub HearsEach : List ModbusUnit → List ℕ → List Heard → List ModbusUnit → List ℕ → Type 0
-HearsEach old was [] new reply = (new ≡ old) × (reply ≡ was)
-HearsEach old was (it ∷ others) new reply = (next : List ModbusUnit) × (behind : List ℕ) × Hears old was it next behind × HearsEach next behind others new reply
+abbrev pub HearsEach : {U : Type 0} → Units U → List U → List ℕ → List Heard → List U → List ℕ → Type 0
+HearsEach V old was [] new reply = (new ≡ old) × (reply ≡ was)
+HearsEach {U} V old was (it ∷ others) new reply = (next : List U) × (behind : List ℕ) × Hears V old was it next behind × HearsEach V next behind others new reply
 
 -- They heard all that a burst says, and so many bytes of a reply were written, none where there is no answer. Where memory was refused they
 -- heard what it says up to a message, and nothing was written.
-abbrev pub HearsBurst : List ModbusUnit → List ℕ → List ℕ → Result ℕ ℕ → List ℕ → List ModbusUnit → Type 0
-HearsBurst old burst room (Ok written) output new = (reply : List ℕ) × HearsEach old [] (said burst) new reply × WritesReply reply room written output
-HearsBurst old burst room (Err used) output new = (heard : List Heard) × (reply : List ℕ)
-    × (said burst ≡ heard ++ said (drop used burst)) × HearsEach old [] heard new reply × (used ≤ length burst) × (output ≡ room)
+abbrev pub HearsBurst : {U : Type 0} → Units U → List U → List ℕ → List ℕ → Result ℕ ℕ → List ℕ → List U → Type 0
+HearsBurst V old burst room (Ok written) output new = (reply : List ℕ) × HearsEach V old [] (said burst) new reply × WritesReply reply room written output
+HearsBurst V old burst room (Err used) output new = (heard : List Heard) × (reply : List ℕ)
+    × (said burst ≡ heard ++ said (drop used burst)) × HearsEach V old [] heard new reply × (used ≤ length burst) × (output ≡ room)

@@ -41,35 +41,46 @@ outcome_of (Ok None) = silence
 outcome_of (Ok (Some response)) = reply response
 outcome_of (Err code) = exception code
 
--- a unit was asked: its address and its arrays are the same
+-- tables of the caller's were asked: they are in the same arrays
+abbrev pub TablesTell : ℕ → Asked → Outcome → ModbusTables → ModbusTables → Type 0
+TablesTell slave request outcome old new = SameArrays old new × Tells (tables_in old) slave request outcome (tables_in new)
+
+-- a unit was asked: its address is the same
 abbrev pub UnitTells : ℕ → Asked → Outcome → ModbusUnit → ModbusUnit → Type 0
-UnitTells slave request outcome old new =
-    (new.unit ≡ old.unit) × SameArrays old.tables new.tables × Tells (tables_in old.tables) slave request outcome (tables_in new.tables)
+UnitTells slave request outcome old new = (new.unit ≡ old.unit) × TablesTell slave request outcome old.tables new.tables
+
+-- units of a kind: the address of one, and of a slave address, a request, an outcome and the next state, whether it may tell this outcome
+pub record Units (U : Type 0) : Type 1 where
+  pub address : U → ℕ
+  pub tells : ℕ → Asked → Outcome → U → U → Type 0
+
+abbrev pub plain_units : Units ModbusUnit
+plain_units = record { address = λ it. it.unit; tells = UnitTells }
 
 -- a unit did what all are asked, whatever it told
-abbrev pub HearsAll : Asked → ModbusUnit → ModbusUnit → Type 0
-HearsAll request old new = (told : Outcome) × UnitTells 0 request told old new
+abbrev pub HearsAll : {U : Type 0} → Units U → Asked → U → U → Type 0
+HearsAll V request old new = (told : Outcome) × V.tells 0 request told old new
 
 -- none of these units has the address
-abbrev pub NoneHas : ℕ → List ModbusUnit → Type 0
-NoneHas slave units = All (λ it. it.unit ≢ slave) units
+abbrev pub NoneHas : {U : Type 0} → Units U → ℕ → List U → Type 0
+NoneHas V slave units = All (λ it. V.address it ≢ slave) units
 
 -- the first unit of an address was asked, and no other changed
-pub record FirstTells (slave : ℕ) (request : Asked) (outcome : Outcome) (old new : List ModbusUnit) : Type 0 where
-  pub before : List ModbusUnit
-  pub at : ModbusUnit
-  pub next : ModbusUnit
-  pub after : List ModbusUnit
-  pub none_before : NoneHas slave before
-  pub here : at.unit ≡ slave
-  pub told : UnitTells slave request outcome at next
+pub record FirstTells {U : Type 0} (V : Units U) (slave : ℕ) (request : Asked) (outcome : Outcome) (old new : List U) : Type 0 where
+  pub before : List U
+  pub at : U
+  pub next : U
+  pub after : List U
+  pub none_before : NoneHas V slave before
+  pub here : V.address at ≡ slave
+  pub told : V.tells slave request outcome at next
   pub was : old ≡ before ++ at ∷ after
   pub now_is : new ≡ before ++ next ∷ after
 
 -- What the units of a line tell of a request: each does that of slave 0, and nothing is answered; that of a unit's address is answered by it;
 -- that of another address by nobody, and nothing changes.
-abbrev pub UnitsTell : ℕ → Asked → Outcome → List ModbusUnit → List ModbusUnit → Type 0
-UnitsTell slave request outcome old new =
-    ((slave ≡ 0) × (outcome ≡ silence) × AllZip (HearsAll request) old new)
-    ⊎ ((slave ≢ 0) × FirstTells slave request outcome old new)
-    ⊎ ((slave ≢ 0) × NoneHas slave old × (outcome ≡ silence) × (new ≡ old))
+abbrev pub UnitsTell : {U : Type 0} → Units U → ℕ → Asked → Outcome → List U → List U → Type 0
+UnitsTell V slave request outcome old new =
+    ((slave ≡ 0) × (outcome ≡ silence) × AllZip (HearsAll V request) old new)
+    ⊎ ((slave ≢ 0) × FirstTells V slave request outcome old new)
+    ⊎ ((slave ≢ 0) × NoneHas V slave old × (outcome ≡ silence) × (new ≡ old))

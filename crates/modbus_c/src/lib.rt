@@ -14,6 +14,7 @@ mod find;
 mod fits;
 mod inbox;
 mod line;
+mod place;
 mod put;
 mod raw;
 mod reply;

@@ -13,19 +13,19 @@ ghost use Rattle.modbus_tcp.specs.Limits.{longest_response};
 ghost use Rattle.modbus_field.specs.Unread.{any_request_of};
 ghost use Rattle.modbus_c.specs.Served.{flat_burst, no_room};
 ghost use Rattle.modbus_c.specs.Line.{told_frame, answered_frame, Hears, HearsBurst};
-ghost use Rattle.modbus_c.specs.Units.{UnitsTell};
+ghost use Rattle.modbus_c.specs.Places.{placed_units};
+ghost use Rattle.modbus_c.specs.Units.{plain_units, UnitsTell};
 
 use crate::export::{ModbusServed, told};
 use crate::put::put_front;
 use crate::status::{MODBUS_DONE, MODBUS_NO_MEMORY, MODBUS_NO_ROOM, MODBUS_SILENT};
-use crate::tables::ModbusUnit;
-use crate::unit::ask_units;
+use crate::tables::{ModbusSlave, ModbusUnit};
+use crate::unit::{LineUnit, ask_units};
 use bytes::BytesMut;
 use modbus_field::burst::{FrameHeader, Part, message_in};
 use modbus_field::standard::decode_any;
 use modbus_frame::{ExceptionResponse, Response, SlaveId};
 use modbus_rtu::{MAX_FRAME, encode_response_frame};
-use modbus_store::laws::answers_fit;
 use modbus_tcp::LONGEST_RESPONSE;
 use std::alloc::{AllocError, Global};
 
@@ -33,13 +33,13 @@ use std::alloc::{AllocError, Global};
 ///
 /// # Errors
 /// Memory was refused for the request. Nothing has changed then.
-fn answer(
+fn answer<U: LineUnit>(
     alloc: Global,
-    units: &mut [ModbusUnit<'_>],
+    units: &mut [U],
     slave: SlaveId,
     pdu: &[u8],
 ) -> Result<Option<Result<Response, ExceptionResponse>>, AllocError>
-    ensures tells { IfOk result (λ found. (outcome : Outcome) × UnitsTell slave
+    ensures tells { IfOk result (λ found. (outcome : Outcome) × UnitsTell U.units slave
         (any_request_of pdu.now) outcome units.old units.new × (answered_frame slave found
         ≡ told_frame slave (code_of (any_request_of pdu.now)) outcome)) }
     ensures kept { IfErr result (λ _. units.new ≡ units.old) }
@@ -47,7 +47,6 @@ fn answer(
     ensures function { IfOk result (λ found. IfSome found (λ it.
         ForErr it (λ refusal. function_number refusal.function < exception_bit))) }
 {
-    answers_fit();
     let Ok(request) = decode_any(alloc, pdu) else {
         return Err(AllocError);
     };
@@ -110,17 +109,17 @@ fn put_reply(
 ///
 /// # Errors
 /// Memory was refused for the request. Nothing has changed then.
-fn hear(
+fn hear<U: LineUnit>(
     alloc: Global,
-    units: &mut [ModbusUnit<'_>],
+    units: &mut [U],
     header: FrameHeader,
     pdu: &[u8],
     reply: &mut BytesMut,
 ) -> Result<(), AllocError>
     requires room { max_frame ≤ length reply.old.items + reply.old.spare }
     requires most { length reply.old.items ≤ max_frame }
-    ensures hears { IfOk result (λ _. Hears units.old reply.old.items (message header pdu.now)
-        units.new reply.new.items) }
+    ensures hears { IfOk result (λ _. Hears U.units units.old reply.old.items
+        (message header pdu.now) units.new reply.new.items) }
     ensures kept { IfErr result (λ _. (units.new ≡ units.old)
         × (reply.new.items ≡ reply.old.items)) }
     ensures room { max_frame ≤ length reply.new.items + reply.new.spare }
@@ -140,9 +139,9 @@ fn hear(
 ///
 /// # Errors
 /// Memory was refused for a request: those before this place of the burst were heard, and nothing was written.
-pub(crate) fn hear_burst(
+pub(crate) fn hear_burst<U: LineUnit>(
     alloc: Global,
-    units: &mut [ModbusUnit<'_>],
+    units: &mut [U],
     burst: &[u8],
     mut reply: BytesMut,
     output: &mut [u8],
@@ -150,7 +149,7 @@ pub(crate) fn hear_burst(
     requires no_bytes { reply.items ≡ [] }
     requires space { max_frame ≤ reply.spare }
     requires room { longest_response ≤ length output.old }
-    ensures hears { HearsBurst units.old burst.now output.old result output.new units.new }
+    ensures hears { HearsBurst U.units units.old burst.now output.old result output.new units.new }
 {
     let mut start = 0;
     'messages: while start < burst.len() {
@@ -179,19 +178,38 @@ fn flat(size: usize, heard: Result<usize, usize>) -> ModbusServed
 ///
 /// # Errors
 /// Those of `hear_burst`, and where there is no memory for a reply: then nothing was heard.
-fn hear_all(
+fn hear_all<U: LineUnit>(
     alloc: Global,
-    units: &mut [ModbusUnit<'_>],
+    units: &mut [U],
     burst: &[u8],
     output: &mut [u8],
 ) -> Result<usize, usize>
     requires room { longest_response ≤ length output.old }
-    ensures hears { HearsBurst units.old burst.now output.old result output.new units.new }
+    ensures hears { HearsBurst U.units units.old burst.now output.old result output.new units.new }
 {
     let Ok(reply) = BytesMut::with_capacity(alloc, MAX_FRAME) else {
         return Err(0);
     };
     hear_burst(alloc, units, burst, reply, output)
+}
+
+/// Has units hear a burst, and writes the reply to the front of the output, where that has room for each.
+fn serve_units<U: LineUnit>(
+    alloc: Global,
+    units: &mut [U],
+    burst: &[u8],
+    output: &mut [u8],
+) -> ModbusServed
+    ensures hears { longest_response ≤ length output.old → (heard : Result ℕ ℕ)
+        × (result ≡ flat_burst (length burst.now) heard) × HearsBurst U.units units.old burst.now
+        output.old heard output.new units.new }
+    ensures room { length output.old < longest_response → (result ≡ no_room)
+        × (units.new ≡ units.old) × (output.new ≡ output.old) }
+{
+    if output.len() < LONGEST_RESPONSE {
+        return told(MODBUS_NO_ROOM, 0, 0, 0);
+    }
+    flat(burst.len(), hear_all(alloc, units, burst, output))
 }
 
 /// Has the units of a line hear all that lies between two silences, and writes the answer of the last frame to the front of the output.
@@ -206,13 +224,28 @@ pub extern "C" fn modbus_line_serve(
     output: &mut [u8],
 ) -> ModbusServed
     ensures hears { longest_response ≤ length output.old → (heard : Result ℕ ℕ)
-        × (result ≡ flat_burst (length burst.now) heard) × HearsBurst units.old burst.now
-        output.old heard output.new units.new }
+        × (result ≡ flat_burst (length burst.now) heard) × HearsBurst plain_units units.old
+        burst.now output.old heard output.new units.new }
     ensures room { length output.old < longest_response → (result ≡ no_room)
         × (units.new ≡ units.old) × (output.new ≡ output.old) }
 {
-    if output.len() < LONGEST_RESPONSE {
-        return told(MODBUS_NO_ROOM, 0, 0, 0);
-    }
-    flat(burst.len(), hear_all(alloc, units, burst, output))
+    serve_units(alloc, units, burst, output)
+}
+
+/// Does what `modbus_line_serve` does, by devices whose tables begin at addresses of their own, and which have coils and holding registers
+/// that requests read alone.
+#[unsafe(no_mangle)]
+pub extern "C" fn modbus_slaves_serve(
+    alloc: Global,
+    slaves: &mut [ModbusSlave<'_>],
+    burst: &[u8],
+    output: &mut [u8],
+) -> ModbusServed
+    ensures hears { longest_response ≤ length output.old → (heard : Result ℕ ℕ)
+        × (result ≡ flat_burst (length burst.now) heard) × HearsBurst placed_units slaves.old
+        burst.now output.old heard output.new slaves.new }
+    ensures room { length output.old < longest_response → (result ≡ no_room)
+        × (slaves.new ≡ slaves.old) × (output.new ≡ output.old) }
+{
+    serve_units(alloc, slaves, burst, output)
 }

@@ -12,20 +12,21 @@ ghost use Rattle.modbus_tcp.specs.Limits.{longest_response};
 ghost use Rattle.modbus_field.specs.Pieces.{IsPiece, FindsPiece, message_in_piece};
 ghost use Rattle.modbus_field.specs.Unread.{any_request_of};
 ghost use Rattle.modbus_c.specs.declared.serve.Served.{Served as Done};
+ghost use Rattle.modbus_c.specs.Places.{PlacedTells};
 ghost use Rattle.modbus_c.specs.Pieces.{told_by, DeviceTells, ServesPiece};
 ghost use Rattle.modbus_c.specs.Served.{flat_adu, no_room};
+ghost use Rattle.modbus_c.specs.Units.{TablesTell};
 
 use crate::export::{ModbusServed, flat_of_adu, told};
 use crate::serve::{Served, adu_into};
 use crate::status::MODBUS_NO_ROOM;
-use crate::tables::ModbusTables;
-use crate::unit::ask;
+use crate::tables::{ModbusDevice, ModbusTables};
+use crate::unit::Device;
 use bytes::BytesMut;
 use modbus_field::standard::decode_any;
 use modbus_field::stream::NON_SIGNIFICANT;
 use modbus_frame::tcp::Header;
 use modbus_frame::{ExceptionResponse, Response};
-use modbus_store::laws::answers_fit;
 use modbus_tcp::{HEADER, HeaderFault, LONGEST_RESPONSE, MODBUS, UNCOUNTED};
 use std::alloc::{AllocError, Global};
 
@@ -77,26 +78,25 @@ fn message_in(piece: &[u8]) -> (Header, &[u8])
 ///
 /// # Errors
 /// Memory was refused for the request. Nothing has changed then.
-fn tell(
+fn tell<D: Device>(
     alloc: Global,
-    tables: &mut ModbusTables<'_>,
+    device: &mut D,
     pdu: &[u8],
 ) -> Result<Option<Result<Response, ExceptionResponse>>, AllocError>
-    ensures tells { IfOk result (λ found. DeviceTells pdu.now (told_by found) tables.old
-        tables.new) }
-    ensures kept { IfErr result (λ _. tables.new ≡ tables.old) }
+    ensures tells { IfOk result (λ found. DeviceTells D.tells pdu.now (told_by found) device.old
+        device.new) }
+    ensures kept { IfErr result (λ _. device.new ≡ device.old) }
     ensures named { IfOk result (λ found. IfSome found (λ it.
         ForErr it (λ refusal. refusal.function ≡ function_asked (any_request_of pdu.now)))) }
     ensures function { IfOk result (λ found. IfSome found (λ it.
         ForErr it (λ refusal. function_number refusal.function < exception_bit))) }
     ensures fits { IfOk result (λ found. IfSome found (λ it. Fits (response_result_pdu it))) }
 {
-    answers_fit();
     let Ok(request) = decode_any(alloc, pdu) else {
         return Err(AllocError);
     };
     let function = request.function_code();
-    match ask(alloc, tables, NON_SIGNIFICANT, request) {
+    match device.ask(alloc, NON_SIGNIFICANT, request) {
         Ok(None) => Ok(None),
         Ok(Some(response)) => Ok(Some(Ok(response))),
         Err(exception) => Ok(Some(Err(ExceptionResponse {
@@ -110,14 +110,15 @@ fn tell(
 ///
 /// # Errors
 /// Where the front is no header of Modbus, or tells a length of no request.
-fn serve_piece(
+fn serve_piece<D: Device>(
     alloc: Global,
-    tables: &mut ModbusTables<'_>,
+    device: &mut D,
     input: &[u8],
     output: &mut [u8],
 ) -> Result<Served, HeaderFault>
     requires { longest_response ≤ length output.old }
-    ensures serves { ServesPiece tables.old input.now output.old result output.new tables.new }
+    ensures serves { ServesPiece D.tells device.old input.now output.old result output.new
+        device.new }
 {
     match piece_end(input) {
         Err(fault) => Err(fault),
@@ -127,7 +128,7 @@ fn serve_piece(
                 return Ok(Served::NoMemory);
             };
             let (header, pdu) = message_in(&input[..end]);
-            match tell(alloc, tables, pdu) {
+            match tell(alloc, device, pdu) {
                 Err(_) => Ok(Served::NoMemory),
                 Ok(None) => Ok(Served::Silent { used: end }),
                 Ok(Some(answer)) => {
@@ -137,6 +138,25 @@ fn serve_piece(
             }
         }
     }
+}
+
+/// Answers the piece at the front of the input into the output, where that has room for each reply.
+fn serve_front<D: Device>(
+    alloc: Global,
+    device: &mut D,
+    input: &[u8],
+    output: &mut [u8],
+) -> ModbusServed
+    ensures serves { longest_response ≤ length output.old → (done : Result Done BadHeader)
+        × (result ≡ flat_adu done) × ServesPiece D.tells device.old input.now output.old done
+        output.new device.new }
+    ensures room { length output.old < longest_response → (result ≡ no_room)
+        × (device.new ≡ device.old) × (output.new ≡ output.old) }
+{
+    if output.len() < LONGEST_RESPONSE {
+        return told(MODBUS_NO_ROOM, 0, 0, 0);
+    }
+    flat_of_adu(serve_piece(alloc, device, input, output))
 }
 
 /// Answers what stands at the front of a TCP connection by the tables of the device, whatever its unit identifier.
@@ -153,13 +173,28 @@ pub extern "C" fn modbus_stream_serve(
     output: &mut [u8],
 ) -> ModbusServed
     ensures serves { longest_response ≤ length output.old → (done : Result Done BadHeader)
-        × (result ≡ flat_adu done) × ServesPiece tables.old input.now output.old done
+        × (result ≡ flat_adu done) × ServesPiece TablesTell tables.old input.now output.old done
         output.new tables.new }
     ensures room { length output.old < longest_response → (result ≡ no_room)
         × (tables.new ≡ tables.old) × (output.new ≡ output.old) }
 {
-    if output.len() < LONGEST_RESPONSE {
-        return told(MODBUS_NO_ROOM, 0, 0, 0);
-    }
-    flat_of_adu(serve_piece(alloc, tables, input, output))
+    serve_front(alloc, tables, input, output)
+}
+
+/// Does what `modbus_stream_serve` does, by a device whose tables begin at addresses of their own, and which has coils and holding registers
+/// that requests read alone.
+#[unsafe(no_mangle)]
+pub extern "C" fn modbus_device_serve(
+    alloc: Global,
+    device: &mut ModbusDevice<'_>,
+    input: &[u8],
+    output: &mut [u8],
+) -> ModbusServed
+    ensures serves { longest_response ≤ length output.old → (done : Result Done BadHeader)
+        × (result ≡ flat_adu done) × ServesPiece PlacedTells device.old input.now output.old done
+        output.new device.new }
+    ensures room { length output.old < longest_response → (result ≡ no_room)
+        × (device.new ≡ device.old) × (output.new ≡ output.old) }
+{
+    serve_front(alloc, device, input, output)
 }

@@ -5,12 +5,12 @@ use Rattle.modbus_c.specs.Line.{HearsEach}
 use Rattle.modbus_c.proofs.line.hear_burst.Given as goal
 
 abbrev pub invariant-messages : goal.invariant-messages
-invariant-messages l = record {
+invariant-messages g l = record {
   within : l.start ≤ length l.burst;
-  heard : (heard : List Heard) × (said l.burst ≡ heard ++ said (drop l.start l.burst)) × HearsEach l.initial.units [] heard l.units l.reply.items;
+  heard : (heard : List Heard) × (said l.burst ≡ heard ++ said (drop l.start l.burst)) × HearsEach g.U.LineUnit.units l.initial.units [] heard l.units l.reply.items;
   room : max_frame ≤ length l.reply.items + l.reply.spare;
   most : length l.reply.items ≤ max_frame;
 }
 
 abbrev pub decreases-messages : goal.decreases-messages
-decreases-messages l = length l.burst - l.start
+decreases-messages g l = length l.burst - l.start

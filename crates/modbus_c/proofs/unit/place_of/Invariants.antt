@@ -3,4 +3,4 @@ use Rattle.modbus_c.specs.Units.{NoneHas}
 use Rattle.modbus_c.proofs.unit.place_of.Given as goal
 
 abbrev pub invariant-loop-place : goal.invariant-loop-place
-invariant-loop-place l = NoneHas l.slave (take l.place l.units)
+invariant-loop-place g l = NoneHas g.U.LineUnit.units l.slave (take l.place l.units)
