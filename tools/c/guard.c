@@ -248,6 +248,37 @@ static void units(void) {
     }
 }
 
+/* The same of a device whose tables begin at address 0, and at 1, so that each entry is asked for by another address. */
+static void slaves(void) {
+    for (size_t i = 0; i < REQUESTS; i++) {
+        uint8_t message[64];
+        struct device it = device();
+        modbus_slave *slave = guarded(sizeof *slave);
+        uint8_t *output = guarded(MODBUS_LONGEST_REPLY);
+        modbus_done made;
+        modbus_served served;
+        *slave = (modbus_slave){
+            17,
+            {{it.coils, ENTRIES, it.discrete_inputs, ENTRIES, it.holding_registers, ENTRIES, it.input_registers, ENTRIES},
+             {0, 0, 0, 0},
+             {0, 0},
+             {0, 0}},
+        };
+        for (uint16_t start = 0; start < 2; start++) {
+            slave->device.starts = (modbus_starts){start, start, start, start};
+            made = modbus_rtu_wrap(17, requests[i].pdu, requests[i].len, message, sizeof message);
+            served = modbus_slaves_serve(slave, 1, copy_of(message, made.written), made.written, output, MODBUS_LONGEST_REPLY);
+            row(requests[i].name, served.status == MODBUS_DONE && served.used == made.written && served.written > 0);
+            made = modbus_tcp_wrap(1, 17, requests[i].pdu, requests[i].len, message, sizeof message);
+            served = modbus_device_serve(&slave->device, copy_of(message, made.written), made.written, output, MODBUS_LONGEST_REPLY);
+            row(requests[i].name, served.status == MODBUS_DONE && served.used == made.written && served.written > 0);
+        }
+        made = modbus_rtu_wrap(17, requests[i].pdu, requests[i].len, message, sizeof message);
+        served = modbus_slaves_serve(guarded(0), 0, copy_of(message, made.written), made.written, output, MODBUS_LONGEST_REPLY);
+        row(requests[i].name, served.status == MODBUS_SILENT);
+    }
+}
+
 int main(void) {
     for (int side = 0; side < 2; side++) {
         at_end = side;
@@ -257,6 +288,7 @@ int main(void) {
         raw_calling();
         inboxes();
         units();
+        slaves();
     }
     printf("%d passed, %d failed\n", passed, failed);
     return failed ? 1 : 0;

@@ -17,6 +17,7 @@ static uint16_t registers[ENTRIES], words[MODBUS_MOST_WORDS];
 static uint8_t message[MODBUS_LONGEST_TEXT], output[MODBUS_LONGEST_TEXT];
 static size_t len;
 static modbus_unit unit = {17, {coils, ENTRIES, inputs, ENTRIES, registers, ENTRIES, registers, ENTRIES}};
+static modbus_slave slave = {17, {{coils, ENTRIES, inputs, ENTRIES, registers, ENTRIES, registers, ENTRIES}, {0, 0, 0, 0}, {0, 0}, {0, 0}}};
 static modbus_inbox inbox;
 static modbus_call call;
 static modbus_request request;
@@ -24,6 +25,8 @@ static modbus_response response;
 
 static void nothing(void) {}
 static void line_serve(void) { modbus_line_serve(&unit, 1, message, len, output, sizeof output); }
+static void slaves_serve(void) { modbus_slaves_serve(&slave, 1, message, len, output, sizeof output); }
+static void device_serve(void) { modbus_device_serve(&slave.device, message, len, output, sizeof output); }
 static void stream_serve(void) { modbus_stream_serve(&unit.tables, message, len, output, sizeof output); }
 static void tcp_serve(void) {
     modbus_tcp_serve(message, len, coils, ENTRIES, inputs, ENTRIES, registers, ENTRIES, registers, ENTRIES, false, output, sizeof output);
@@ -81,6 +84,7 @@ int main(void) {
     base = taken(nothing);
     framed();
     tell("modbus_line_serve", line_serve);
+    tell("modbus_slaves_serve", slaves_serve);
     tell("modbus_rtu_serve", rtu_serve);
     modbus_inbox_open(&inbox);
     modbus_inbox_feed(&inbox, message, len);
@@ -89,6 +93,7 @@ int main(void) {
     tell("modbus_rtu_wrap", rtu_wrap);
     len = modbus_tcp_wrap(1, 17, read_write, sizeof read_write, message, sizeof message).written;
     tell("modbus_stream_serve", stream_serve);
+    tell("modbus_device_serve", device_serve);
     tell("modbus_tcp_serve", tcp_serve);
     memcpy(message, ":110300020001E9\r\n", len = 17);
     tell("modbus_ascii_serve", ascii_serve);
