@@ -162,6 +162,27 @@ impl<'a, P: Protocol, L: PolledLink + Drop, S: Readiness<L>> Fleet<'a, P, L, S> 
         }
     }
 
+    /// Begins a call of the device under a key to this slave or unit, as several share its link; the calls behind it go there too. `None` where
+    /// there is no device, or its link is not idle.
+    ///
+    /// # Errors
+    /// Those of a call that is opened: the link stays idle.
+    pub fn ask_of(
+        &mut self,
+        key: usize,
+        slave: Slave,
+        request: Request<'a>,
+        now: u64,
+    ) -> Option<Result<(), Error>>
+        ensures begins { BeginsAt P.protocol P.heading (meaning request.entry) now
+            (of_slave slave.0 (get self.old.devices key)) result (get self.new.devices key) }
+        ensures others { OthersStay key self.old.devices self.new.devices }
+        ensures rest { self.new ≡ record self.old { devices = self.new.devices } }
+    {
+        self.set_slave(key, slave);
+        self.ask(key, request, now)
+    }
+
     /// Polls the device under a key, as `Device::poll` does; its answer, where it has one.
     pub fn poll(&mut self, key: usize) -> Option<modbus_frame::Result<Response>>
         ensures polls { PollsAt
