@@ -1,3 +1,5 @@
+pub mod Alive
+pub mod Asking
 pub mod Lines
 pub mod Queues
 pub mod Reads

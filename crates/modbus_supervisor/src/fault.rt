@@ -72,6 +72,8 @@ pub enum Fault {
     Clock,
     /// The system can't wait for connections.
     Wait,
+    /// A device never answered.
+    Unanswered,
 }
 
 impl fmt::Display for Fault {
@@ -81,6 +83,7 @@ impl fmt::Display for Fault {
             Fault::Output => "the output takes no more",
             Fault::Clock => "there is no clock",
             Fault::Wait => "the system can't wait for connections",
+            Fault::Unanswered => "a device never answered",
         })
     }
 }

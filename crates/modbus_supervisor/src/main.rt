@@ -2,6 +2,8 @@
 //! value that changed, for each device that is away and for each that is back.
 #![tactic(auto)]
 
+mod alive;
+mod ask;
 mod fault;
 mod halves;
 mod lines;
@@ -12,6 +14,7 @@ mod queue;
 mod reads;
 mod refusal;
 mod supervise;
+mod supervised;
 mod target;
 mod time;
 mod turn;

@@ -1,9 +1,12 @@
 //! The devices of a plant, each of which is polled at its own times on one thread.
-ghost use Rattle.std.specs.Prelude.{◌<◌, ◌^◌, IfOk};
+ghost use Rattle.std.specs.Prelude.{◌≡◌, ◌<◌, ◌^◌, IfOk, OnOk};
 
+use crate::alive::{Census, alive_line};
+use crate::ask::hand_on;
 use crate::fault::{Fault, Why, why_unanswered, why_unconnected};
 use crate::lines::Output;
 use crate::places::Places;
+use crate::supervised::Supervised;
 use crate::target::Target;
 use crate::time::Time;
 use crate::turn::{Turn, rest_of};
@@ -11,8 +14,8 @@ use crate::watched::Watched;
 use crate::words::Task;
 use mio::net::TcpStream;
 use modbus_client::tcp::OwnAdus;
-use modbus_fleet::{Device, Fleet};
-use modbus_frame::{ExceptionCode, Request, Response, Result as Answer, Slave};
+use modbus_fleet::{Device, Dues, Fleet};
+use modbus_frame::{ExceptionCode, Response, Result as Answer};
 use modbus_ready::{MioReadiness, PolledTcpLink};
 use std::io::{self, Write};
 use std::time::{Duration, Instant};
@@ -22,23 +25,6 @@ const TURNS: u64 = 64;
 
 /// When the call of a connection is over for the fleet: from the first on, since the turn of each device says when its call is given up.
 const NO_TIME: u64 = 0;
-
-/// A device of the plant.
-#[derive(Drop)]
-struct Supervised {
-    // the place of the connection over which it is polled
-    place: usize,
-    unit: Slave,
-    watched: Watched,
-    turn: Turn,
-    // how many milliseconds a read may take
-    timeout: u64,
-    // how often a read is made again that has no answer, and how often the one that is asked still is
-    retries: u8,
-    tries: u8,
-    // how many polls in a row it was away
-    misses: u32,
-}
 
 /// The devices under their keys, and the connections over which they are polled, each under its place, in the fleet too.
 #[derive(Drop)]
@@ -52,20 +38,13 @@ struct Supervisor {
     output: Output,
     // whether each poll tells all values
     tells_all: bool,
-    // when something is to be done next, if no answer comes; `None` where nothing is any more
-    wake: Option<u64>,
+    // when something is to be done for each device, if no answer comes
+    dues: Dues,
     // what is printed next
     lines: Vec<u8>,
     is_short_of_files: bool,
-}
-
-/// The earlier of two times.
-fn earlier(first: Option<u64>, second: Option<u64>) -> Option<u64> {
-    match (first, second) {
-        (Some(first), Some(second)) => Some(first.min(second)),
-        (Some(time), None) | (None, Some(time)) => Some(time),
-        (None, None) => None,
-    }
+    // when lines of life are printed, where they are
+    life: Option<Turn>,
 }
 
 /// Whether a call was opened, which fails for want of memory alone.
@@ -76,6 +55,27 @@ fn is_opened<E: Drop>(asked: Option<Result<(), E>>) -> Result<bool, Fault> {
         Some(Err(_)) => Err(Fault::NoMemory),
         None => Ok(false),
     }
+}
+
+/// The turn of lines of life, one each so many seconds, the first at once.
+fn life_each(seconds: u32) -> Turn {
+    Turn::new(u64::MAX, seconds.saturating_mul(1000), 0, 1)
+}
+
+/// The earlier of a time and another, if there is one.
+fn earlier(time: u64, other: Option<u64>) -> u64 {
+    match other {
+        Some(other) => time.min(other),
+        None => time,
+    }
+}
+
+/// Prints lines, each by one call, so that no part of one is left where the program is ended between two.
+fn print_lines(rt: &HostRuntime, lines: &[u8]) -> io::Result<()> {
+    for line in lines.split_inclusive(|byte| *byte == b'\n') {
+        io::writer(rt).write_all(line)?;
+    }
+    Ok(())
 }
 
 impl Supervisor {
@@ -93,10 +93,11 @@ impl Supervisor {
     }
 
     /// Keeps when something is to be done for the device under a key.
-    fn note_wake(&mut self, key: usize) {
+    fn note_wake(&mut self, key: usize) -> Result<(), Fault> {
         if let Some(device) = self.devices.get(key) {
-            self.wake = earlier(self.wake, device.turn.wake());
+            self.dues.set(key, device.turn.wake())?;
         }
+        Ok(())
     }
 
     /// The place of the connection over which the device under a key is polled; one at which there is none where there is no device.
@@ -148,7 +149,7 @@ impl Supervisor {
         if let Some(device) = self.devices.get_mut(key) {
             device.turn.end(now, intervals);
         }
-        self.note_wake(key);
+        self.note_wake(key)?;
         self.hand_over(key)
     }
 
@@ -240,44 +241,38 @@ impl Supervisor {
         Ok(false)
     }
 
-    /// The read of the device under a key that comes next; `None` where its poll is over.
-    fn next_request(&self, key: usize) -> Option<Request<'static>> {
+    /// Whether the poll of the device under a key is over: no read of it comes next.
+    fn is_over(&self, key: usize) -> bool {
         match self.devices.get(key) {
-            Some(device) => device.watched.request(),
-            None => None,
+            Some(device) => device.watched.is_over(),
+            None => true,
         }
     }
 
-    /// Hands a read to the connection of the device under a key, for the unit of that device. Whether that took it, as one that is connected does.
-    fn hand_on(
-        &mut self,
-        rt: &HostRuntime,
-        key: usize,
-        request: Request<'static>,
-    ) -> Result<bool, Fault> {
+    /// Hands the read of the device under a key that comes next to its connection. Whether that took it, as one that is connected does.
+    fn hand_on(&mut self, rt: &HostRuntime, key: usize) -> Result<bool, Fault> {
         let now = self.now(rt)?;
         let Some(device) = self.devices.get_mut(key) else {
             return Ok(false);
         };
-        self.fleet.set_slave(device.place, device.unit);
-        if !is_opened(self.fleet.ask(device.place, request, now))? {
+        if !is_opened(hand_on(&mut self.fleet, device, now))? {
             return Ok(false);
         }
         device.turn.ask(now.saturating_add(device.timeout));
-        self.note_wake(key);
+        self.note_wake(key)?;
         Ok(true)
     }
 
     /// Asks the read of the device under a key that comes next, or ends its poll where none is left. Whether a read was asked.
     fn ask(&mut self, rt: &HostRuntime, key: usize) -> Result<bool, Fault> {
-        let Some(request) = self.next_request(key) else {
+        if self.is_over(key) {
             self.finish(rt, key)?;
             return Ok(false);
-        };
+        }
         if !self.is_connected(rt, key)? {
             return Ok(false);
         }
-        let is_asked = self.hand_on(rt, key, request)?;
+        let is_asked = self.hand_on(rt, key)?;
         if !is_asked {
             self.leave(rt, key, Why::NoConnection)?;
         }
@@ -336,6 +331,7 @@ impl Supervisor {
             return Ok(Some(Why::Other));
         }
         device.tries = device.retries;
+        device.has_answered = true;
         let place = device.place;
         self.note_answer(place);
         Ok(None)
@@ -475,15 +471,16 @@ impl Supervisor {
         } else if turn.is_due(now) {
             self.begin(rt, key)?;
         }
-        self.note_wake(key);
-        Ok(())
+        self.note_wake(key)
     }
 
-    /// Does what is to be done at this time for all devices.
+    /// Does what is to be done at this time, for each device for which something is.
     fn serve_all(&mut self, rt: &HostRuntime, now: u64) -> Result<(), Fault> {
-        self.wake = None;
-        for key in 0..self.devices.len() {
-            self.serve(rt, key, now)?;
+        for _ in 0..u64::MAX {
+            match self.dues.take_due(now) {
+                Some(key) => self.serve(rt, key, now)?,
+                None => return Ok(()),
+            }
         }
         Ok(())
     }
@@ -493,7 +490,7 @@ impl Supervisor {
         if self.lines.is_empty() {
             return Ok(());
         }
-        let printed = io::writer(rt).write_all(self.lines.as_slice());
+        let printed = print_lines(rt, self.lines.as_slice());
         self.lines.clear();
         match printed {
             Ok(()) => Ok(()),
@@ -513,42 +510,106 @@ impl Supervisor {
         Ok(place)
     }
 
-    /// Adds a device, which is not connected yet.
-    fn add(&mut self, rt: &HostRuntime, count: u64, target: Target) -> Result<(), Fault> {
+    /// Adds a device with its turn, which is not connected yet.
+    fn add(&mut self, rt: &HostRuntime, turn: Turn, target: Target) -> Result<(), Fault> {
         let times = target.times;
         let place = self.take_in(rt, &target)?;
+        let key = self.devices.len();
         self.devices.push(Supervised {
             place,
             unit: target.unit,
             watched: Watched::new(rt.alloc(), target.name, target.points, self.tells_all)?,
-            turn: Turn::new(count, times.every),
+            turn,
             timeout: u64::from(times.timeout),
             retries: times.retries,
             tries: times.retries,
             misses: 0,
+            has_answered: false,
         })?;
-        Ok(())
+        self.dues.add()?;
+        self.note_wake(key)
     }
 
-    /// Adds devices.
+    /// Adds devices, the first polls of which are spread over their intervals.
     fn add_all(&mut self, rt: &HostRuntime, count: u64, targets: Vec<Target>) -> Result<(), Fault> {
+        let devices = u32::try_from(targets.len()).unwrap_or(u32::MAX);
+        let mut place: u32 = 0;
         for target in targets {
-            self.add(rt, count, target)?;
+            let turn = Turn::new(count, target.times.every, place, devices);
+            self.add(rt, turn, target)?;
+            place = place.saturating_add(1);
         }
         Ok(())
     }
 
+    /// How many devices are polled, and how many of them are away.
+    fn census(&self) -> Census {
+        Census {
+            devices: self.devices.len(),
+            away: self
+                .devices
+                .iter()
+                .filter(|device| device.watched.is_away())
+                .count(),
+        }
+    }
+
+    /// When the next line of life is due, where there are such lines.
+    fn next_life(&self) -> Option<u64> {
+        match &self.life {
+            Some(life) => life.wake(),
+            None => None,
+        }
+    }
+
+    /// Whether a line of life is due. The next one is an interval later.
+    fn takes_life(&mut self, rt: &HostRuntime) -> Result<bool, Fault> {
+        let now = self.now(rt)?;
+        match &mut self.life {
+            Some(life) if life.is_due(now) => {
+                life.end(now, 1);
+                Ok(true)
+            }
+            _ => Ok(false),
+        }
+    }
+
+    /// Prints a line of life, where one is due.
+    fn tell_life(&mut self, rt: &HostRuntime) -> Result<(), Fault> {
+        if !self.takes_life(rt)? {
+            return Ok(());
+        }
+        let time = Time::now(rt)?;
+        let line = alive_line(rt.alloc(), self.output, &time, self.census())?;
+        self.lines.extend_from_slice(line.as_slice())?;
+        self.print(rt)
+    }
+
+    /// Whether each device answered some read.
+    ///
+    /// # Errors
+    /// `Unanswered` where one never did.
+    fn judge(&self) -> Result<(), Fault> {
+        if self.devices.iter().all(|device| device.has_answered) {
+            Ok(())
+        } else {
+            Err(Fault::Unanswered)
+        }
+    }
+
     /// Polls the devices until each has had its polls.
+    ///
+    /// # Errors
+    /// Why it ended before, or `Unanswered` where a device never answered.
     fn run(&mut self, rt: &HostRuntime) -> Result<(), Fault> {
         for _ in 0..u64::MAX {
-            let Some(wake) = self.wake else {
-                return Ok(());
+            let Some(wake) = self.dues.next() else {
+                return self.judge();
             };
-            self.wait_until(rt, wake)?;
+            self.tell_life(rt)?;
+            self.wait_until(rt, earlier(wake, self.next_life()))?;
             let now = self.now(rt)?;
-            if wake <= now {
-                self.serve_all(rt, now)?;
-            }
+            self.serve_all(rt, now)?;
             self.serve_called(rt)?;
             self.print(rt)?;
         }
@@ -589,9 +650,10 @@ fn idle(rt: &HostRuntime, task: &Task<'_>) -> Result<Supervisor, Fault> {
         began,
         output: task.output,
         tells_all: task.tells_all,
-        wake: Some(0),
+        dues: Dues::new(alloc),
         lines: Vec::new(alloc),
         is_short_of_files: false,
+        life: task.alive.map(life_each),
     })
 }
 

@@ -1,6 +1,9 @@
 //! When a device is polled. Times are milliseconds since the program began.
-ghost use Rattle.std.specs.Prelude.{◌≡◌, ◌≢◌, ◌↔◌, ◌<◌, ◌≤◌, ◌+◌, ◌*◌, ◌-◌, ◌^◌, None, true, false, IsTrue, max};
-ghost use Rattle.modbus_supervisor.specs.Turns.{IsNextAfter};
+ghost use Rattle.std.specs.Prelude.{◌≡◌, ◌≢◌, ◌↔◌, ◌<◌, ◌≤◌, ◌+◌, ◌*◌, ◌-◌, ◌^◌, Some, None, true, false, IsTrue, max};
+ghost use Rattle.modbus_supervisor.specs.Turns.{IsNextAfter, IsOver, first_due, wake_of};
+
+/// Over how many milliseconds at most the first polls of all devices are spread.
+const LONGEST_SPREAD: u32 = 10_000;
 
 /// For how many milliseconds at most a device is left that holds up others by its silence, unless its interval is longer.
 const LONGEST_REST: u32 = 30_000;
@@ -15,6 +18,15 @@ pub fn rest_of(misses: u32, every: u32) -> u8 {
         _ => 8,
     };
     wanted.min(most).max(1)
+}
+
+/// When the device at a place among so many has its first poll: the place-th part of its interval after the beginning, where that is no longer
+/// than `LONGEST_SPREAD`.
+fn first_due(every: u32, place: u32, devices: u32) -> u64
+    ensures { result ≡ first_due every place devices }
+{
+    let spread = u64::from(every.min(LONGEST_SPREAD));
+    spread * u64::from(place) / u64::from(devices.max(1))
 }
 
 /// When the polls of a device begin, and when its call is given up.
@@ -43,16 +55,17 @@ fn next_due(began: u64, every: u64, now: u64) -> u64
 }
 
 impl Turn {
-    /// A turn of so many polls, so often, of which the first begins at once.
-    pub fn new(count: u64, every: u32) -> Turn
+    /// A turn of so many polls, so often, of the device at a place among so many. The first polls of all are spread over their intervals.
+    pub fn new(count: u64, every: u32, place: u32, devices: u32) -> Turn
         ensures count { result.left ≡ count }
         ensures every { result.every ≡ max every 1 }
-        ensures due { (result.due ≡ 0) × (result.deadline ≡ None) × (result.is_waiting ≡ false) }
+        ensures due { result.due ≡ first_due every place devices }
+        ensures rest { (result.deadline ≡ None) × (result.is_waiting ≡ false) }
     {
         Turn {
             left: count,
             every: every.max(1),
-            due: 0,
+            due: first_due(every, place, devices),
             deadline: None,
             is_waiting: false,
         }
@@ -88,7 +101,9 @@ impl Turn {
     }
 
     /// Whether the call is to be given up that is under way.
-    pub fn is_late(&self, now: u64) -> bool {
+    pub fn is_late(&self, now: u64) -> bool
+        ensures { IsTrue result ↔ IsOver now self.now.deadline }
+    {
         match self.deadline {
             Some(deadline) => deadline <= now,
             None => false,
@@ -96,7 +111,9 @@ impl Turn {
     }
 
     /// When something is to be done next; `None` where nothing is any more, or it waits to be called up.
-    pub fn wake(&self) -> Option<u64> {
+    pub fn wake(&self) -> Option<u64>
+        ensures { result ≡ wake_of self.now }
+    {
         match self.deadline {
             Some(deadline) => Some(deadline),
             None if self.left > 0 && !self.is_waiting => Some(self.due),
@@ -105,7 +122,9 @@ impl Turn {
     }
 
     /// A call is under way, which is given up at this time.
-    pub fn ask(&mut self, deadline: u64) {
+    pub fn ask(&mut self, deadline: u64)
+        ensures { self.new ≡ record self.old { deadline = Some deadline } }
+    {
         self.deadline = Some(deadline);
     }
 

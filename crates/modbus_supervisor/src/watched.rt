@@ -1,8 +1,12 @@
 //! What is watched of a device: its points and what was seen last of each, and how far its poll is.
 ghost use Rattle.std.specs.Prelude.{◌≡◌, ◌++◌, ℕ, List, OnOk, IfOk};
+ghost use Rattle.std.specs.Option.{option_map};
+ghost use Rattle.modbus_frame.specs.Meaning.{meaning};
 ghost use Rattle.modbus_map.specs.Gathering.{seen_by};
 ghost use Rattle.modbus_lines.specs.Readings.{found_in};
 ghost use Rattle.modbus_lines.specs.Rows.{name_of};
+ghost use Rattle.modbus_supervisor.specs.Asking.{next_read};
+ghost use Rattle.modbus_supervisor.specs.Reads.{asked_by};
 ghost use Rattle.modbus_supervisor.specs.Lines.{exception_line};
 ghost use Rattle.modbus_supervisor.specs.Watched.{IsValueLine, IsFoundLine, TellsPoint, TellsGiven, TellsAll};
 
@@ -282,11 +286,23 @@ impl Watched {
     }
 
     /// The request that comes next; `None` where the poll is over.
-    pub fn request(&self) -> Option<Request<'static>> {
+    pub fn request(&self) -> Option<Request<'static>>
+        ensures { option_map meaning result ≡ option_map asked_by (next_read self.now) }
+    {
         match self.asks.get(self.place) {
             Some(asked) => Some(asked.request()),
             None => None,
         }
+    }
+
+    /// Whether the poll is over: no request comes next.
+    pub fn is_over(&self) -> bool {
+        self.place >= self.asks.len()
+    }
+
+    /// Whether the device is away.
+    pub fn is_away(&self) -> bool {
+        self.is_away
     }
 
     /// Takes an answer to the read that was asked, and goes on to the next; whether it answers this read. Where the device may lack a part of

@@ -21,6 +21,8 @@ pub struct Task<'a> {
     pub connections: usize,
     /// Whether each poll tells all values, and not changes alone.
     pub tells_all: bool,
+    /// How many seconds pass from a line of life to the next, where there are such lines.
+    pub alive: Option<u32>,
     /// How lines are written.
     pub output: Output,
     /// Whether the reads are printed, and nothing is sent.
@@ -29,6 +31,9 @@ pub struct Task<'a> {
 
 /// How many milliseconds an option has at most: a day.
 const MOST_MILLIS: i64 = 86_400_000;
+
+/// The same in seconds.
+const MOST_SECONDS: i64 = 86_400;
 
 /// How lines are written.
 const FORMATS: [&str; 2] = ["json", "influx"];
@@ -101,6 +106,16 @@ fn all<'a>(alloc: Global) -> Arg<'a> {
     )
 }
 
+fn alive<'a>(alloc: Global) -> Arg<'a> {
+    option(
+        alloc,
+        "alive",
+        "SECONDS",
+        "Print a line each so many seconds that tells how many devices are polled, and how many of them are away",
+    )
+    .value_parser(value_parser!(u32).range(1..=MOST_SECONDS))
+}
+
 fn format<'a>(alloc: Global) -> Arg<'a> {
     option(
         alloc,
@@ -138,6 +153,7 @@ fn whole<'a>(alloc: Global) -> Result<Command<'a>, AllocError> {
         count(alloc),
         connections(alloc),
         all(alloc),
+        alive(alloc),
         format(alloc),
         big_as_text(alloc),
         plan(alloc),
@@ -177,6 +193,7 @@ pub fn task_of<'a>(matches: &ArgMatches<'a>) -> Task<'a> {
         count: matches.get_one("count").unwrap_or(u64::MAX),
         connections: matches.get_one("connections").unwrap_or(1),
         tells_all: matches.get_flag("all"),
+        alive: matches.get_one("alive"),
         output: output_of(matches),
         is_plan: matches.get_flag("plan"),
     }
