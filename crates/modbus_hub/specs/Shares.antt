@@ -1,5 +1,5 @@
 -- How many connections are of one address.
-use Rattle.std.specs.Prelude.{◌≡◌, ◌⊎◌, ℕ, zero, suc, ◌+◌, ◌==◌, ◌<◌, ◌≤◌, Option, Some, None, Bool, false, if◌then◌else◌, IsTrue}
+use Rattle.std.specs.Prelude.{◌≡◌, ◌≢◌, ◌⊎◌, ℕ, zero, suc, ◌+◌, ◌==◌, ◌<◌, ◌≤◌, Option, Some, None, Bool, false, if◌then◌else◌, IsTrue}
 use Rattle.slab.specs.Slab.{Slab, Updates, get}
 use Rattle.modbus_ready.specs.declared.peered.PeerAddress.{PeerAddress}
 use Rattle.modbus_hub.specs.Events.{Place}
@@ -40,3 +40,7 @@ module _ {L : Type 0} where
   OneJoins peer old new = NoNewPeers old new ⊎ (
       (key : ℕ) × (place : Place L) × (place.peer ≡ peer) × (get old key ≡ None) × Updates old new key (Some place)
       )
+
+  -- no connection came or went under another key than this
+  abbrev pub ComesUnder : Option ℕ → Slab (Place L) → Slab (Place L) → Type 0
+  ComesUnder own old new = (key : ℕ) → own ≢ Some key → get new key ≡ get old key

@@ -7,7 +7,7 @@ ghost use Rattle.modbus_hub.specs.Counted.{counted};
 ghost use Rattle.modbus_hub.specs.declared.turn.Turn.TheVariants.{Spent};
 ghost use Rattle.slab.specs.Slab.{Updates, get, slab_len};
 ghost use Rattle.modbus_hub.specs.Idlest.{IsIdlest, IsIdlestBelow, LeavesIdlest};
-ghost use Rattle.modbus_hub.specs.Shares.{HasShare, IsShare, LacksShare, NoNewPeers, OneJoins, is_of};
+ghost use Rattle.modbus_hub.specs.Shares.{ComesUnder, HasShare, IsShare, LacksShare, NoNewPeers, OneJoins, is_of};
 ghost use Rattle.modbus_hub.specs.Seats.{SeatsGoOn, SeatsStay, polled_by, IsFound, IsTold, IsTurnOf, Admits, TurnsIfLeft, ServesSpent, IsDrop, IsOneLeft, KeepsMarks, MarksLeft, SameLeft, MarksAt, TakesFewAt, NoMore, OneMore, is_spent_at, kept, last_at, on_time};
 
 use crate::counted::Counted;
@@ -165,6 +165,8 @@ impl<I: Framing, L: PolledLink + Drop> Seats<I, L> {
         ensures one { OneMore self.old self.new }
         ensures joins { OneJoins peer self.old.seats self.new.seats }
         ensures key { IfOk result (λ key. key ≡ self.old.seats.vacant_key) }
+        ensures under { ComesUnder (Some self.old.seats.vacant_key) self.old.seats
+            self.new.seats }
         ensures count { self.new.count ≡ next_count self.old.count }
         ensures last { IfOk result (λ key. last_at (get self.new.seats key) ≡ self.new.count) }
         ensures stays { SeatsStay I.framing (meaning_of L.input L.output L.line)

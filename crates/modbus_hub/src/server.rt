@@ -10,7 +10,7 @@ ghost use Rattle.slab.specs.Slab.{get, slab_len};
 ghost use Rattle.modbus_hub.specs.Counted.{counted};
 ghost use Rattle.modbus_hub.specs.Seats.{SeatsGoOn, SeatsStay, polled_by, IsDrop, IsFound, IsOneLeft, NoMore, OneMore, KeepsFew, KeepsLimit, KeepsMarks, MarksLeft, SameLeft, kept, on_time};
 ghost use Rattle.modbus_hub.specs.Losses.{SameRefused, TellsRoundOf, TellsUntil, more_late, no_losses};
-ghost use Rattle.modbus_hub.specs.Shares.{NoNewPeers, OneJoins};
+ghost use Rattle.modbus_hub.specs.Shares.{ComesUnder, NoNewPeers, OneJoins};
 ghost use Rattle.modbus_hub.specs.Sweeps.{stays_if};
 ghost use Rattle.modbus_hub.specs.Turns.{GivesWay, LateGo, LeavesOne, Swept, AcceptsNext, AcceptsAsked, AcceptsUpTo, Brings, BringsPeer, IsPeerFound, ServesFound, ServesLeft, ServesNext, TakesRound, TellsRound, TellsRounds, Went, can_accept, is_full, patience_of, wants_room};
 
@@ -141,6 +141,8 @@ where
         ensures left { SameLeft self.old.seats self.new.seats }
         ensures asked { self.new.is_asked ≡ self.old.is_asked }
         ensures share { self.new.losses.share ≡ self.old.losses.share }
+        ensures watched { ComesUnder (S.watched self.new.readiness) self.old.seats.seats
+            self.new.seats.seats }
         ensures stays { SeatsStay I.framing (meaning_of A.Link.input A.Link.output A.Link.line)
             (Brings S.faults link self.old self.new) self.old.seats.seats self.new.seats.seats }
     {
@@ -165,6 +167,8 @@ where
         ensures few { KeepsFew self.old.seats self.new.seats }
         ensures left { SameLeft self.old.seats self.new.seats }
         ensures asked { self.new.is_asked ≡ self.old.is_asked }
+        ensures watched { ComesUnder (S.watched self.new.readiness) self.old.seats.seats
+            self.new.seats.seats }
         ensures stays { SeatsStay I.framing (meaning_of A.Link.input A.Link.output A.Link.line)
             (BringsPeer S.faults (A.Link.peer link) link self.old self.new) self.old.seats.seats
             self.new.seats.seats }
@@ -184,6 +188,8 @@ where
         ensures limit { KeepsLimit self.old.seats self.new.seats }
         ensures few { KeepsFew self.old.seats self.new.seats }
         ensures left { SameLeft self.old.seats self.new.seats }
+        ensures watched { ComesUnder (S.watched self.new.readiness) self.old.seats.seats
+            self.new.seats.seats }
         ensures stays { SeatsStay I.framing (meaning_of A.Link.input A.Link.output A.Link.line)
             (AcceptsNext A.accepts S.faults result self.old self.new) self.old.seats.seats
             self.new.seats.seats }

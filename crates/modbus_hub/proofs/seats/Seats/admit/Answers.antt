@@ -1,4 +1,5 @@
 use Rattle.std.proofs.Common.{◌≡◌, inl, inr, ◌∙◌, refl, sym, ap, ℕ}
+use Rattle.std.specs.Prelude.{Some}
 use Rattle.std.specs.declared.alloc.AllocError.{AllocError}
 use Rattle.modbus_link.specs.Line.{meaning_of}
 use Rattle.slab.specs.Slab.{Slab, get}
@@ -63,3 +64,16 @@ returns-in-Ok-clause-joins g c =
       sym (same c.insert_reserved.result) ∙ c.insert_reserved.ensures.was_vacant,
       record { changed = u.changed; others = λ other differs. u.others other differs ∙ same other },
     ))
+
+pub returns-then-is_err-clause-under : goal.returns-then-is_err-clause-under
+returns-then-is_err-clause-under g c = rw (← c.self.view_is) (λ key own. ap (λ (s : Slab (Place g.row.L.Denot)). get s key) c.reserve.ensures.rest_kept)
+
+pub returns-in-Err-clause-under : goal.returns-in-Err-clause-under
+returns-in-Err-clause-under g c = rw (← c.self.view_is) (λ key own. ap (λ (s : Slab (Place g.row.L.Denot)). get s key) c.reserve.ensures.rest_kept)
+
+pub returns-in-Ok-clause-under : goal.returns-in-Ok-clause-under
+returns-in-Ok-clause-under g c =
+    let same : (key : ℕ) → get c.reserve.new.self key ≡ get c.self.inside.seats key = λ key. ap (λ (s : Slab (Place g.row.L.Denot)). get s key) c.reserve.ensures.rest_kept in
+    let vacant : c.insert_reserved.result ≡ c.self.inside.seats.vacant_key =
+    c.insert_reserved.ensures.key ∙ ap (λ (s : Slab (Place g.row.L.Denot)). s.vacant_key) c.reserve.ensures.rest_kept in
+    rw (← c.self.view_is) (λ key own. c.insert_reserved.ensures.updates.others key (λ is. own (ap Some (sym (is ∙ vacant)))) ∙ same key)

@@ -73,3 +73,6 @@ returns-in-Ok-Ready-clause-left g c = rw (← c.self.view_is) c.admit.ensures.le
 
 pub returns-in-Ok-Ready-clause-few : goal.returns-in-Ok-Ready-clause-few
 returns-in-Ok-Ready-clause-few g c = rw (← c.self.view_is) c.admit.ensures.few
+
+pub returns-in-Ok-Ready-clause-watched : goal.returns-in-Ok-Ready-clause-watched
+returns-in-Ok-Ready-clause-watched g c = rw (← c.self.view_is) c.admit.ensures.watched

@@ -47,3 +47,6 @@ returns-else-has_share-clause-few g c =
     λ few.
     subst (λ (p : Places). HaveFew p.per_peer last.seats) (sym c.seat.ensures.one.1)
     (few_joined first.places.per_peer c.peer_address-peer.result first.seats last.seats c.seat.ensures.joins (search rules) few)
+
+pub returns-then-has_share-clause-watched : goal.returns-then-has_share-clause-watched
+returns-then-has_share-clause-watched g c = rw (← c.self.view_is) (λ key own. refl)

@@ -1,6 +1,6 @@
-use Rattle.std.proofs.Common.{refl, inl, ap, ◌∙◌, [], ◌∷◌}
+use Rattle.std.proofs.Common.{rules, refl, inl, ap, ◌∙◌, [], ◌∷◌}
 use Rattle.std.specs.declared.alloc.AllocError.{AllocError}
-use Rattle.std.specs.Prelude.{Ok, Err}
+use Rattle.std.specs.Prelude.{◌≡◌, Some, Ok, Err}
 use Rattle.modbus_link.specs.Line.{meaning_of}
 use Rattle.modbus_hub.specs.Events.{came, refused, no_watch, no_memory}
 use Rattle.modbus_hub.specs.Seats.{Admits}
@@ -63,3 +63,16 @@ returns-in-Err-admit-clause-joins g c = rw (← c.self.view_is) c.admit.ensures.
 
 pub returns-in-Err-clause-joins : goal.returns-in-Err-clause-joins
 returns-in-Err-clause-joins g c = rw (← c.self.view_is) (inl (λ key peer is. is))
+
+pub returns-in-Err-clause-watched : goal.returns-in-Err-clause-watched
+returns-in-Err-clause-watched g c = rw (← c.self.view_is) (λ key own. refl)
+
+pub returns-in-Ok-admit-clause-watched : goal.returns-in-Ok-admit-clause-watched
+returns-in-Ok-admit-clause-watched g c =
+    let watched : g.S.Readiness.watched c.watch.new.self ≡ Some c.self.inside.seats.seats.vacant_key = search rules in
+    rw (← c.self.view_is) (λ key own. c.admit.ensures.under key (λ is. own (watched ∙ is)))
+
+pub returns-in-Err-admit-clause-watched : goal.returns-in-Err-admit-clause-watched
+returns-in-Err-admit-clause-watched g c =
+    let watched : g.S.Readiness.watched c.watch.new.self ≡ Some c.self.inside.seats.seats.vacant_key = search rules in
+    rw (← c.self.view_is) (λ key own. c.admit.ensures.under key (λ is. own (watched ∙ is)))
